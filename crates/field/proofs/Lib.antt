@@ -1,0 +1,5 @@
+pub mod Bytes
+pub mod Fields
+pub mod Format
+pub mod Number
+pub mod Records

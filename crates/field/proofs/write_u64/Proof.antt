@@ -1,0 +1,19 @@
+use Rattle.field.proofs.Number.{put-join}
+use borrow.Author.Needs.{needs}
+use Rattle.field.proofs.write_u64.Statement.{statement}
+use Rattle.field.proofs.write_u64.Tie as tie
+
+returns : tie.Need-returns
+returns c = rw (← put-join 4 4) (cc)
+
+pub write-u64-spec : {M : Type 1} → statement M
+write-u64-spec =
+    tie.close
+    (tie.spec
+    (λ c. search needs)
+    (λ c κs. search needs)
+    (λ c. search needs)
+    (λ c. search needs)
+    (λ c κs. search needs)
+    (λ c. search needs)
+    returns)
