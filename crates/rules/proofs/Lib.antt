@@ -1,0 +1,4 @@
+pub mod Tests
+pub mod Walk
+pub mod Same
+pub mod Examples

@@ -1,0 +1,25 @@
+-- Document 01, "First record".
+use Prim.Native.Nat.{ℕ, _+_, _*_, _/_, _%_, _^_}
+use mathlib.Core.Bool.{Bool, _||_, cond}
+use mathlib.Core.List.{List}
+use lib.Dec.{eqb, ltb}
+use lib.ListN.{length, getD}
+use Rattle.rules.specs.declared.First.{First}
+use Rattle.rules.specs.declared.First.the-variants.{Number, Nothing}
+
+-- f and k of the header byte h
+abbrev pub frames : ℕ → ℕ
+frames h = h / 2 ^ 2 % 8
+
+abbrev pub packets : ℕ → ℕ
+packets h = h / 2 ^ 5
+
+-- the frame number in the three bytes from r on
+unfoldable pub timeAt : List ℕ → ℕ → ℕ
+timeAt s r = (getD s r 0 * 60 + getD s (r + 1) 0) * 75 + getD s (r + 2) 0
+
+-- none where the header byte is missing, f is 0 or one of the three bytes is missing
+unfoldable pub firstRecord : List ℕ → First
+firstRecord s =
+    cond (eqb (length s) 0 || eqb (frames (getD s 0 0)) 0 || ltb (length s) (1 + 2 * packets (getD s 0 0) + 3)) Nothing
+    (Number (timeAt s (1 + 2 * packets (getD s 0 0))))

@@ -1,0 +1,16 @@
+pub mod FirstRecord
+pub mod Tests
+pub mod Values
+pub mod Sections
+pub mod Questions
+pub mod PartRule
+pub mod Plan
+pub mod Create
+pub mod Record
+pub mod Hints
+pub mod Merge
+pub mod File
+pub mod Load
+pub mod Sizes
+pub mod Run
+pub mod Examples

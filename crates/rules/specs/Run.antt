@@ -1,0 +1,156 @@
+-- Document 01, "One reading" and "Run".
+use Prim.Native.Nat.{ℕ, suc, _<_, _≤_}
+use lib.IntN.{ℤ}
+use mathlib.Core.Path.{_≡_}
+use mathlib.Core.Logic.{_⊎_}
+use mathlib.Core.Bool.{true, false, cond}
+use mathlib.Core.List.{List, [], _∷_, _++_, List·Memᴰ}
+use mathlib.Core.Option.{Option, none, some}
+use lib.Dec.{eqb}
+use lib.ListN.{length, getD, take}
+use Rattle.rules.specs.declared.Area.{Area}
+use Rattle.rules.specs.declared.Checkpoint.{Checkpoint}
+use Rattle.rules.specs.declared.EndState.{EndState}
+use Rattle.rules.specs.declared.FrameKind.{FrameKind}
+use Rattle.rules.specs.declared.Held.{Held}
+use Rattle.rules.specs.Tests.{Answer, Refused, Accepted}
+use Rattle.rules.specs.Values.{Frame, Scan, Index, Lengths, maxMalformed, noHeld, partBytes, boundaries, lsnOf, count, complete, frontier}
+use Rattle.rules.specs.Questions.{question1, question2, question4}
+use Rattle.rules.specs.Sizes.{sized}
+use Rattle.rules.specs.Record.{below}
+use Rattle.rules.specs.Merge.{merge, mergeNumber}
+use Rattle.rules.specs.File.{save}
+use Rattle.rules.specs.Load.{load}
+
+-- ---- one reading
+-- a checkpoint of the reading without its malformed count
+pub record Mark : Type 0 where
+  pub threshold : ℕ
+  pub back : ℕ
+  pub digest : ℕ
+
+-- what a part says: its bytes, number, kind and remaining
+pub record Content : Type 0 where
+  pub bytes : List ℕ
+  pub number : ℕ
+  pub kind : FrameKind
+  pub remaining : ℤ
+
+-- part gives the part for each checkpoint number; threshold is the end state's
+pub record Reading : Type 0 where
+  pub area : Area
+  pub interval : ℕ
+  pub marks : List Mark
+  pub part : ℕ → Content
+  pub malformed : List ℕ
+  pub threshold : ℕ
+
+-- each malformed count is the number of malformed LSNs below the checkpoint's own
+unfoldable pub countedFrom : Area → ℕ → List ℕ → ℕ → List Mark → List Checkpoint
+countedFrom a k ls j [] = []
+countedFrom a k ls j (m ∷ ms) =
+    record { threshold = m .threshold; back = m .back; malformed = length (below (lsnOf a k j) ls); digest = m .digest } ∷ countedFrom a k ls (suc j) ms
+
+abbrev pub checkpointsOf : Reading → List Checkpoint
+checkpointsOf R = countedFrom (R .area) (R .interval) (R .malformed) 0 (R .marks)
+
+-- and the end state's is the number of all
+abbrev pub endStateOf : Reading → EndState
+endStateOf R = record { threshold = R .threshold; malformed = length (R .malformed) }
+
+-- what a held part says
+abbrev pub contentOf : List Frame → Held → Content
+contentOf fs p = record { bytes = partBytes fs p; number = p .number; kind = p .kind; remaining = p .remaining }
+
+-- ---- x, whose numbers fit their types, is a list cut from the reading R
+pub record Cut (R : Reading) (x : Index) : Type 0 where
+  pub one : question1 x ≡ true
+  pub two : question2 x ≡ true
+  pub four : question4 x ≡ true
+  pub fits : sized x ≡ true
+  pub area : x .scan .area ≡ R .area
+  pub interval : x .scan .interval ≡ R .interval
+  pub checkpoints : x .scan .checkpoints ≡ take (count (x .scan)) (checkpointsOf R)
+  pub ending : (x .scan .ending ≡ none) ⊎ ((x .scan .ending ≡ some (endStateOf R)) × (count (x .scan) ≡ boundaries (R .area) (R .interval)))
+  pub malformed : x .scan .malformed ≡ take maxMalformed (below (frontier (x .scan)) (R .malformed))
+  pub parts :
+      (i : ℕ) → i < length (x .scan .parts) → contentOf (x .scan .frames) (getD (x .scan .parts) i noHeld) ≡ R .part (getD (x .scan .parts) i noHeld .at)
+
+-- ---- a run
+-- a list in its tables
+pub record Place : Type 0 where
+  pub list : Index
+  pub room : Lengths
+
+-- merge into a place from another; save a place into an output of a length; load what the call before it saved, with a limit
+pub data Call : Type 0 where
+  mergeCall : ℕ → ℕ → Call
+  saveCall : ℕ → ℕ → Call
+  loadCall : ℕ → Call
+
+-- bytes that an accepted save has just written, and of which place
+pub record Saved : Type 0 where
+  pub place : ℕ
+  pub bytes : List ℕ
+
+-- the places, whose first lists went into each, and what the call before saved
+pub record State : Type 0 where
+  pub now : ℕ → Place
+  pub went : ℕ → List ℕ
+  pub just : Option Saved
+
+-- at first
+abbrev pub begin : (ℕ → Place) → State
+begin p = record { now = p; went = λ i. i ∷ []; just = none }
+
+-- s with p at i
+abbrev pub replace {ℓ} : {A : Type ℓ} → (ℕ → A) → ℕ → A → ℕ → A
+replace s i p k = cond (eqb k i) p (s k)
+
+-- a refused call changes nothing
+unfoldable pub answered : Place → Answer Index → Place
+answered p (Refused n) = p
+answered p (Accepted x) = record { list = x; room = p .room }
+
+abbrev pub mergeInto : Place → Place → Answer Index
+mergeInto own other = merge (own .room) (own .list) (other .room) (other .list)
+
+abbrev pub mergeRefusal : Place → Place → ℕ
+mergeRefusal own other = mergeNumber (own .room) (own .list) (other .room) (other .list)
+
+unfoldable pub justSaved : ℕ → Answer (List ℕ) → Option Saved
+justSaved i (Refused n) = none
+justSaved i (Accepted b) = some (record { place = i; bytes = b })
+
+-- exactly the bytes just saved, loaded where they come from under the area a; nothing where nothing was just saved
+unfoldable pub loadInto : Area → ℕ → State → Option Saved → State
+loadInto a limit s none = s
+loadInto a limit s (some b) =
+    record {
+      now = replace (s .now) (b .place) (answered (s .now (b .place)) (load (s .now (b .place) .room) a (b .bytes) limit));
+      went = s .went;
+      just = none;
+    }
+
+-- a merge that no question refuses adds what went into the other
+unfoldable pub step : Area → Call → State → State
+step a (mergeCall i j) s =
+    record {
+      now = replace (s .now) i (answered (s .now i) (mergeInto (s .now i) (s .now j)));
+      went = replace (s .went) i (cond (eqb (mergeRefusal (s .now i) (s .now j)) 0) (s .went i ++ s .went j) (s .went i));
+      just = none;
+    }
+step a (saveCall i out) s = record { now = s .now; went = s .went; just = justSaved i (save (s .now i .room) (s .now i .list) out) }
+step a (loadCall limit) s = loadInto a limit s (s .just)
+
+-- each call works on what those before it left
+unfoldable pub run : Area → List Call → State → State
+run a [] s = s
+run a (c ∷ cs) s = run a cs (step a c s)
+
+-- ---- the furthest among the first lists p of the places ws: that of w, a complete one, else one with the most checkpoints
+abbrev pub Furthest : (ℕ → Place) → List ℕ → ℕ → Type 0
+Furthest p ws w =
+    (complete (p w .list .scan) ≡ true)
+    ⊎ (((v : ℕ) → List·Memᴰ v ws → complete (p v .list .scan) ≡ false)
+    × ((v : ℕ) → List·Memᴰ v ws → count (p v .list .scan) ≤ count (p w .list .scan)))
