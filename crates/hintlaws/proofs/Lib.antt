@@ -1,0 +1,11 @@
+pub mod Lists
+pub mod Rising
+pub mod Ranks
+pub mod Thinning
+pub mod Hints
+pub mod Confirmations
+pub mod Closure
+pub mod Adding
+pub mod Calls
+pub mod Cutoff
+pub mod Examples
