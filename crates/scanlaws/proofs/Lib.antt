@@ -1,0 +1,11 @@
+pub mod Parts
+pub mod PartRule
+pub mod Scans
+pub mod Limit
+pub mod Merge
+pub mod Record
+pub mod Sizes
+pub mod Absorb
+pub mod Sections
+pub mod Theorems
+pub mod Flat

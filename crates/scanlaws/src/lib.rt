@@ -1,0 +1,1 @@
+// Laws of the part rule and of scans, on values; no function.
