@@ -1,0 +1,14 @@
+pub mod Reading
+pub mod Numbers
+pub mod Layouts
+pub mod Readers
+pub mod Length
+pub mod Ranges
+pub mod Facts
+pub mod Header
+pub mod Saved
+pub mod Limit
+pub mod Parsed
+pub mod Loaded
+pub mod Question4
+pub mod Examples

@@ -1,0 +1,1 @@
+// Theorems on saving and loading; this crate has no function.
