@@ -1,0 +1,1 @@
+// Demand 3 is about values: it needs no code.
