@@ -1,0 +1,50 @@
+-- Sections as they lie in a file: what an inspection answers.
+use mathlib.Core.Path.{_≡_}
+use mathlib.Core.List.{List, [], _∷_}
+use Prim.Native.Nat.{ℕ, zero, suc, _+_, _≤_}
+use lib.ListN.{length, take, drop}
+use Rattle.field.specs.Number.{numberAt}
+use Rattle.rules.specs.Tests.{Answer, Refused, Accepted, numberOf}
+use Rattle.rules.specs.Values.{Frame}
+use Rattle.rules.specs.Sections.{Filled, filled}
+use Rattle.rules.specs.Load.{Read}
+
+-- the bytes behind what was read
+abbrev pub restOf : {A : Type 0} → Answer (Read A) → List ℕ
+restOf (Refused k) = []
+restOf (Accepted t) = t .rest
+
+-- number is that of the answer x; where it is 0, at is the place in b behind what was read
+pub record Inspected {A : Type 0} (x : Answer (Read A)) (b : List ℕ) (number at : ℕ) : Type 0 where
+  pub is-number : number ≡ numberOf x
+  pub behind : number ≡ 0 → restOf x ≡ drop at b
+  pub inside : at ≤ length b
+
+-- what a frame that was read adds
+abbrev pub frameNext : Filled → Frame → Filled
+frameNext s f = filled s (f .start) (length (f .bytes))
+
+-- where frame number i begins in b, if the first begins at at
+unfoldable pub placeAt : List ℕ → ℕ → ℕ → ℕ
+placeAt b at zero = at
+placeAt b at (suc i) = placeAt b at i + 8 + numberAt 4 b (placeAt b at i + 4)
+
+-- n things in bytes: v reads each, and follows is what it leaves
+unfoldable pub listed : {A : Type 0} → (List ℕ → A) → (List ℕ → List ℕ) → ℕ → List ℕ → List A
+listed v follows zero b = []
+listed v follows (suc n) b = v b ∷ listed v follows n (follows b)
+
+-- the bytes behind them
+unfoldable pub behindEach : (List ℕ → List ℕ) → ℕ → List ℕ → List ℕ
+behindEach follows zero b = b
+behindEach follows (suc n) b = behindEach follows n (follows b)
+
+-- a frame in bytes: start, length and as many bytes
+abbrev pub frameHere : List ℕ → Frame
+frameHere b = record { start = numberAt 4 b 0; bytes = take (numberAt 4 b 4) (drop 8 b) }
+
+abbrev pub frameFollows : List ℕ → List ℕ
+frameFollows b = drop (numberAt 4 b 4) (drop 8 b)
+
+abbrev pub framesRead : ℕ → List ℕ → List Frame
+framesRead f b = listed frameHere frameFollows f b
