@@ -1,0 +1,373 @@
+// The header of a file: its table of fields, read and written through it, and questions 23 to 30.
+use field::and;
+use field::not;
+use field::or;
+use field::read_u32;
+use field::read_u64;
+use field::write_u32;
+use field::write_u64;
+use rules::Area;
+use rules::AreaKey;
+use rules::Header;
+ghost use mathlib.Core.Path.{_≡_};
+ghost use mathlib.Core.Bool.{true, cond};
+ghost use mathlib.Core.List.{_++_};
+ghost use Prim.Native.Nat.{_+_, _-_, _*_, _≤_, _<_};
+ghost use lib.ListN.{length, take, drop};
+ghost use Rattle.field.specs.Number.{put};
+ghost use Rattle.rules.specs.File.{headerFields, fieldAt, readHeader, headerValues, headerBytes};
+ghost use Rattle.rules.specs.Load.{headerNumber, isComplete, hasFingerprint, keyOf, fixedSize};
+ghost use Rattle.rules.specs.Questions.{areaOk};
+ghost use Rattle.rules.specs.Sections.{countsOk};
+ghost use Rattle.rules.specs.Values.{sameKey, boundaries};
+ghost use Rattle.header.specs.Place.{Placed, Holds, entry, total, asked, stretch};
+
+// Where a field lies, and how many bytes it has.
+pub struct Field {
+    pub offset: usize,
+    pub width: usize,
+}
+
+// The nineteen fields, in the order of the file.
+const FIELDS: [Field; 19] = [
+    Field {
+        offset: 0,
+        width: 8, // magic
+    },
+    Field {
+        offset: 8,
+        width: 4, // version
+    },
+    Field {
+        offset: 12,
+        width: 1, // slot
+    },
+    Field {
+        offset: 13,
+        width: 1, // channels
+    },
+    Field {
+        offset: 14,
+        width: 1, // flags
+    },
+    Field {
+        offset: 15,
+        width: 1, // zero15
+    },
+    Field {
+        offset: 16,
+        width: 4, // start
+    },
+    Field {
+        offset: 20,
+        width: 4, // end
+    },
+    Field {
+        offset: 24,
+        width: 8, // sectors
+    },
+    Field {
+        offset: 32,
+        width: 4, // interval
+    },
+    Field {
+        offset: 36,
+        width: 4, // checkpoints
+    },
+    Field {
+        offset: 40,
+        width: 4, // frames
+    },
+    Field {
+        offset: 44,
+        width: 4, // parts
+    },
+    Field {
+        offset: 48,
+        width: 4, // malformed
+    },
+    Field {
+        offset: 52,
+        width: 4, // zero52
+    },
+    Field {
+        offset: 56,
+        width: 8, // budget
+    },
+    Field {
+        offset: 64,
+        width: 4, // threshold
+    },
+    Field {
+        offset: 68,
+        width: 4, // zero68
+    },
+    Field {
+        offset: 72,
+        width: 8, // counted
+    },
+];
+
+// Field number i.
+pub fn field_of(i: usize) -> Field
+    requires { ⌜ i < 19 ⌝ }
+    ensures { λ r. ⌜ Placed headerFields 0 i (r .offset) (r .width) ⌝ }
+{
+    FIELDS[i]
+}
+
+// The number in field number i, of one byte.
+fn u8_field(body: &[u8], i: usize) -> u8
+    requires { ⌜ Holds (now body) i 1 ⌝ }
+    ensures { λ r. ⌜ r ≡ fieldAt (now (body .entry)) i ⌝ }
+{
+    let at = field_of(i).offset;
+    body[at]
+}
+
+// The number in field number i, of four bytes.
+fn u32_field(body: &[u8], i: usize) -> u32
+    requires { ⌜ Holds (now body) i 4 ⌝ }
+    ensures { λ r. ⌜ r ≡ fieldAt (now (body .entry)) i ⌝ }
+{
+    let f = field_of(i);
+    read_u32(body, f.offset)
+}
+
+// The number in field number i, of eight bytes.
+fn u64_field(body: &[u8], i: usize) -> u64
+    requires { ⌜ Holds (now body) i 8 ⌝ }
+    ensures { λ r. ⌜ r ≡ fieldAt (now (body .entry)) i ⌝ }
+{
+    let f = field_of(i);
+    read_u64(body, f.offset)
+}
+
+// The header at the start of body.
+pub fn read_header(body: &[u8]) -> Header
+    requires { ⌜ 80 ≤ length (now body) ⌝ }
+    ensures { λ r. ⌜ r ≡ readHeader (now (body .entry)) ⌝ }
+{
+    Header {
+        magic: u64_field(body, 0),
+        version: u32_field(body, 1),
+        slot: u8_field(body, 2),
+        channels: u8_field(body, 3),
+        flags: u8_field(body, 4),
+        zero15: u8_field(body, 5),
+        start: u32_field(body, 6),
+        end: u32_field(body, 7),
+        sectors: u64_field(body, 8),
+        interval: u32_field(body, 9),
+        checkpoints: u32_field(body, 10),
+        frames: u32_field(body, 11),
+        parts: u32_field(body, 12),
+        malformed: u32_field(body, 13),
+        zero52: u32_field(body, 14),
+        budget: u64_field(body, 15),
+        threshold: u32_field(body, 16),
+        zero68: u32_field(body, 17),
+        counted: u64_field(body, 18),
+    }
+}
+
+// v into field number i.
+fn put_field(out: &mut [u8], i: usize, v: u64)
+    requires { ⌜ (80 ≤ length (now out)) × (i < 19) ⌝ }
+    ensures { λ _. ⌜ now (out .exit) ≡ put (entry headerFields i .width) (now (out .entry)) (total (take i headerFields)) v ⌝ }
+{
+    let f = field_of(i);
+    let at = f.offset;
+    if f.width == 8 {
+        write_u64(out, at, v);
+    } else if f.width == 4 {
+        write_u32(out, at, (v % 4294967296) as u32);
+    } else {
+        out[at] = (v % 256) as u8;
+    }
+}
+
+// The values of a header, in the order of the table.
+fn values_of(h: Header) -> [u64; 19]
+    ensures { λ r. ⌜ r ≡ headerValues h ⌝ }
+{
+    [
+        h.magic,
+        h.version as u64,
+        h.slot as u64,
+        h.channels as u64,
+        h.flags as u64,
+        h.zero15 as u64,
+        h.start as u64,
+        h.end as u64,
+        h.sectors,
+        h.interval as u64,
+        h.checkpoints as u64,
+        h.frames as u64,
+        h.parts as u64,
+        h.malformed as u64,
+        h.zero52 as u64,
+        h.budget,
+        h.threshold as u64,
+        h.zero68 as u64,
+        h.counted,
+    ]
+}
+
+// A header at the start of out.
+pub fn write_header(out: &mut [u8], h: Header)
+    requires { ⌜ 80 ≤ length (now out) ⌝ }
+    ensures { λ _. ⌜ now (out .exit) ≡ headerBytes h ++ drop 80 (now (out .entry)) ⌝ }
+{
+    let values = values_of(h);
+    let mut i = 0;
+    while i < 19 {
+        put_field(out, i, values[i]);
+        i += 1;
+    }
+}
+
+// The refusal number after one more question, whose refusal is number.
+pub fn ask(before: u32, ok: bool, number: u32) -> u32
+    ensures { λ r. ⌜ r ≡ asked before ok number ⌝ }
+{
+    if before != 0 {
+        before
+    } else if ok {
+        0
+    } else {
+        number
+    }
+}
+
+// Is the list complete?
+pub fn complete(h: Header) -> bool
+    ensures { λ r. ⌜ r ≡ isComplete h ⌝ }
+{
+    h.flags % 2 == 1
+}
+
+// Does the file have a fingerprint?
+pub fn has_fingerprint(h: Header) -> bool
+    ensures { λ r. ⌜ r ≡ hasFingerprint h ⌝ }
+{
+    h.flags / 2 % 2 == 1
+}
+
+// Are two keys the same?
+pub fn same_key(a: AreaKey, b: AreaKey) -> bool
+    ensures { λ r. ⌜ r ≡ sameKey a b ⌝ }
+{
+    and(
+        a.slot == b.slot,
+        and(
+            a.start == b.start,
+            and(
+                a.end == b.end,
+                and(a.channels == b.channels, a.sectors == b.sectors),
+            ),
+        ),
+    )
+}
+
+// How many boundaries an area from start to end has.
+pub fn boundaries(start: u64, end: u64, interval: u32) -> u64
+    requires { ⌜ (start ≤ end) × (end ≤ 4294967295) × (1 ≤ interval) ⌝ }
+    ensures { λ r. ⌜ (r ≡ boundaries (stretch start end) interval) × (r ≤ end - start) ⌝ }
+{
+    let k = interval as u64;
+    (end - start + k - 1) / k
+}
+
+// How many boundaries an area has; none where the interval is 0.
+pub fn area_boundaries(area: Area, interval: u32) -> u64
+    requires { ⌜ areaOk area ≡ true ⌝ }
+    ensures { λ r. ⌜ r ≡ boundaries area interval ⌝ }
+{
+    if interval == 0 {
+        return 0;
+    }
+    boundaries(area.start, area.end, interval)
+}
+
+// Counts of boundaries, checkpoints, frames, parts and malformed LSNs; whole is a complete list.
+pub fn counts_ok(b: u64, n: u32, whole: bool, f: u32, h: u32, m: u32) -> bool
+    ensures { λ r. ⌜ r ≡ countsOk b n whole f h m ⌝ }
+{
+    let count = n as u64;
+    and(
+        count <= b,
+        and(
+            or(not(whole), count == b),
+            and(h <= n, and(f <= h, m <= 4096)),
+        ),
+    )
+}
+
+// The first where ok, else the second.
+fn pick(ok: bool, a: u64, b: u64) -> u64
+    ensures { λ r. ⌜ (r ≡ cond ok a b) × (r ≤ a + b) ⌝ }
+{
+    if ok { a } else { b }
+}
+
+// The bytes of n records of w bytes.
+fn bytes_of(n: u32, w: u64) -> u64
+    requires { ⌜ w ≤ 24 ⌝ }
+    ensures { λ r. ⌜ (r ≡ w * n) × (r ≤ 103079215080) ⌝ }
+{
+    w * n as u64
+}
+
+// The bytes of the sections' fixed parts.
+fn fixed_size(h: Header) -> u64
+    ensures { λ r. ⌜ r ≡ fixedSize h ⌝ }
+{
+    let lists = bytes_of(h.checkpoints, 24)
+        + bytes_of(h.frames, 8)
+        + bytes_of(h.parts, 24)
+        + bytes_of(h.malformed, 4);
+    lists + pick(2 <= h.version, 24, 0) + pick(3 <= h.version, 8, 0)
+}
+
+// The key of the area that a header is of.
+fn key_of(h: Header) -> AreaKey
+    ensures { λ r. ⌜ r ≡ keyOf h ⌝ }
+{
+    AreaKey {
+        slot: h.slot,
+        start: h.start,
+        end: h.end,
+        channels: h.channels,
+        sectors: h.sectors,
+    }
+}
+
+// Questions 23 to 30, with the bytes left behind the header.
+pub fn header_number(area: Area, h: Header, left: usize) -> u32
+    requires { ⌜ areaOk area ≡ true ⌝ }
+    ensures { λ r. ⌜ r ≡ headerNumber area h left ⌝ }
+{
+    let n = ask(0, and(1 <= h.version, h.version <= 3), 23);
+    let n = ask(n, h.slot <= 1, 24);
+    let n = ask(
+        n,
+        and(h.flags as u64 <= pick(2 <= h.version, 3, 1), h.zero15 == 0),
+        25,
+    );
+    let n = ask(n, same_key(key_of(h), area.key), 26);
+    let n = ask(n, and(1 <= h.interval, h.interval <= 65536), 27);
+    let n = ask(n, h.zero52 == 0, 28);
+    let n = ask(n, h.budget <= 4294967295, 29);
+    let n = ask(n, h.zero68 == 0, 28);
+    let b = area_boundaries(area, h.interval);
+    let counts = counts_ok(
+        b,
+        h.checkpoints,
+        complete(h),
+        h.frames,
+        h.parts,
+        h.malformed,
+    );
+    ask(n, and(counts, fixed_size(h) <= left as u64), 30)
+}
