@@ -1,0 +1,29 @@
+use Rattle.field.proofs.Records.{records-length}
+use Rattle.header.proofs.Questions.{ordered}
+use Rattle.inspect.specs.Tails.{fromEnd, answered}
+use Rattle.inspect.proofs.Words.{after-no, after-yes}
+use borrow.Author.Needs.{needs}
+use Rattle.inspect.proofs.inspect_end.Statement.{statement}
+use Rattle.inspect.proofs.inspect_end.Tie as tie
+
+returns : tie.Need-returns
+unfolding fromEnd answered
+returns c = rw (← (c .before .end-number .ensures), after-no (c .before .end-number .result) _ (c .if1 .taken))
+
+frontier-of-requires : tie.Need-frontier-of-requires
+frontier-of-requires c κs = let o = ordered ((c .before .before .before .before .before .before .args .area)) (c .before .before .before .before .before .before .pre .0) in search needs
+
+returns-2 : tie.Need-returns-2
+unfolding fromEnd
+returns-2 c = rw (← (c .before .before .before .before .end-number .ensures), after-yes _ (c .before .before .before .if1 .left), records-length, ← (c .before .before .ending-of .ensures .1), ← (c .before .frontier-of .ensures)) (c .inspect-malformed .ensures)
+
+pub inspect-end-spec : {M : Type 1} → statement M
+inspect-end-spec =
+    tie.close
+    (tie.spec
+    (λ c κs. search needs)
+    returns
+    (λ c κs. search needs)
+    frontier-of-requires
+    (λ c κs. search needs)
+    returns-2)

@@ -1,0 +1,3 @@
+pub mod Inspect
+pub mod Tails
+pub mod Cursors
