@@ -1,0 +1,62 @@
+use Prim.Native.Nat.{_-_, _*_}
+use mathlib.Core.List.{_++_}
+use native.Mathlib.Omega.{arith}
+use mathlib.Core.Path.{_≡_, refl}
+use lib.ListN.{length, drop}
+use Rattle.field.specs.Records.{bytesOf}
+use Rattle.rules.specs.Values.{used}
+use Rattle.rules.specs.File.{encodeFrameHeader}
+use Rattle.table.specs.Files.{framesRead}
+use Rattle.index.specs.Index.{storeOf}
+use Rattle.load.proofs.Frames.{Moving, move-start, move-room, move-on, move-end, moved-all}
+use borrow.Author.Needs.{needs}
+use Rattle.load.proofs.commit_frames.Statement.{statement}
+use Rattle.load.proofs.commit_frames.Tie as tie
+
+abbrev Inv-loop : tie.InvT-loop
+Inv-loop frames₀ store₀ b at f here₀ used₀ i₀ frames store here u i =
+    Moving b f (used (framesRead f (drop at b))) (bytesOf encodeFrameHeader (framesRead f (drop at b)) ++ drop (f * 8) frames₀)
+    (storeOf (framesRead f (drop at b)) ++ drop (used (framesRead f (drop at b))) store₀) i here u frames store
+    × (length frames ≡ length frames₀) × (length store ≡ length store₀)
+
+abbrev μ-loop : tie.MeasureT-loop
+μ-loop frames₀ store₀ b at f here₀ used₀ i₀ frames store here used i = f - i
+
+loop-holds : tie.Need-loop-holds Inv-loop μ-loop
+loop-holds c = (move-start _ _ _ _ _ (c .before .before .before .pre .0) (c .before .before .before .pre .1) (c .before .before .before .pre .2), refl, refl)
+
+move-frame-requires : tie.Need-move-frame-requires Inv-loop μ-loop
+move-frame-requires c κs = move-room (c .before .before .before .loop .inv .0) (c .before .before .loop-test .taken)
+
+add-here : tie.Need-add-here Inv-loop μ-loop
+add-here c = let r = move-room (c .before .before .before .before .before .before .before .before .loop .inv .0) (c .before .before .before .before .before .before .before .loop-test .taken) in omega arith
+
+add-here-2 : tie.Need-add-here-2 Inv-loop μ-loop
+add-here-2 c = let r = move-room (c .before .before .before .before .before .before .before .before .loop .inv .0) (c .before .before .before .before .before .before .before .loop-test .taken) in omega (arith, (c .before .before .before .before .move-frame .ensures .count))
+
+add-used : tie.Need-add-used Inv-loop μ-loop
+add-used c = let r = move-room (c .before .before .before .before .before .before .before .before .loop .inv .0) (c .before .before .before .before .before .before .before .loop-test .taken) in omega (arith, (c .before .before .before .before .move-frame .ensures .count))
+
+loop-again : tie.Need-loop-again Inv-loop μ-loop
+loop-again c = (move-on (c .before .before .before .before .before .before .before .before .loop .inv .0) (c .before .before .before .before .before .before .before .loop-test .taken) (λ i. (c .before .before .before .before .before .before .before .before .before .shared-slice-known .given) i .fits) (c .before .before .before .before .move-frame .ensures), search needs, search needs)
+
+returns : tie.Need-returns Inv-loop μ-loop
+returns c = moved-all _ _ _ _ (move-end (c .before .loop .inv .0) (c .loop-test .left))
+
+pub commit-frames-spec : {M : Type 1} → statement M
+commit-frames-spec =
+    tie.close
+    (tie.spec
+    Inv-loop
+    μ-loop
+    loop-holds
+    move-frame-requires
+    add-here
+    add-here-2
+    add-used
+    (λ c. search needs)
+    (λ c. search needs)
+    loop-again
+    (λ c. search needs)
+    (λ c. search needs)
+    returns)
