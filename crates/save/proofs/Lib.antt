@@ -1,0 +1,4 @@
+pub mod Sections
+pub mod Frames
+pub mod Numbers
+pub mod Saving

@@ -1,0 +1,10 @@
+use Rattle.save.proofs.Numbers.{frames-counted}
+use borrow.Author.Needs.{needs}
+use Rattle.save.proofs.frame_bytes.Statement.{statement}
+use Rattle.save.proofs.frame_bytes.Tie as tie
+
+returns : tie.Need-returns
+returns c = frames-counted _ _ (c .before .before .before .before .pre) (c .check-frames .ensures)
+
+pub frame-bytes-spec : {M : Type 1} → statement M
+frame-bytes-spec = tie.close (tie.spec (λ c. search needs) (λ c κs. search needs) returns)

@@ -1,0 +1,24 @@
+use Rattle.save.proofs.Sections.{records-size, lent}
+use Rattle.filelaws.proofs.Layouts.{confirmation-layout}
+use Rattle.rules.specs.File.{encodeConfirmation, decodeConfirmation}
+use native.Mathlib.Omega.{arith}
+use mathlib.Core.Path.{refl}
+use borrow.Author.Needs.{needs}
+use Rattle.save.proofs.put_confirmations.Statement.{statement}
+use Rattle.save.proofs.put_confirmations.Tie as tie
+
+returns : tie.Need-returns
+returns c = lent _ _ _ _ _ (records-size 16 decodeConfirmation encodeConfirmation (confirmation-layout .size) _ _) refl (omega arith) (c .before .before .write-confirmations .ensures)
+
+pub put-confirmations-spec : {M : Type 1} → statement M
+put-confirmations-spec =
+    tie.close
+    (tie.spec
+    (λ c. search needs)
+    (λ c. search needs)
+    (λ c. search needs)
+    (λ c. search needs)
+    (λ c. search needs)
+    (λ c κs. search needs)
+    (λ c. search needs)
+    returns)

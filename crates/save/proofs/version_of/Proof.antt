@@ -1,0 +1,28 @@
+use Rattle.save.proofs.Numbers.{version-three, version-two, version-one}
+use borrow.Author.Needs.{needs}
+use Rattle.save.proofs.version_of.Statement.{statement}
+use Rattle.save.proofs.version_of.Tie as tie
+
+returns : tie.Need-returns
+returns c = λ t. version-three _ t (c .before .not3 .ensures) (c .if1 .taken)
+
+returns-2 : tie.Need-returns-2
+returns-2 c = λ t. version-two _ t (c .before .before .before .before .not3 .ensures) (c .before .before .before .if1 .left) (cc) (c .if2 .taken)
+
+returns-3 : tie.Need-returns-3
+returns-3 c = λ t. version-one _ t (c .before .before .before .before .not3 .ensures) (c .before .before .before .if1 .left) (cc) (c .if2 .left)
+
+pub version-of-spec : {M : Type 1} → statement M
+version-of-spec =
+    tie.close
+    (tie.spec
+    (λ c κs. search needs)
+    (λ c κs. search needs)
+    (λ c κs. search needs)
+    (λ c κs. search needs)
+    (λ c κs. search needs)
+    returns
+    (λ c κs. search needs)
+    (λ c κs. search needs)
+    returns-2
+    returns-3)

@@ -1,0 +1,20 @@
+use mathlib.Core.Path.{_∙_}
+use native.Mathlib.Nat.{sub-zero}
+use borrow.Author.Needs.{needs}
+use Rattle.save.proofs.write_sum.Statement.{statement}
+use Rattle.save.proofs.write_sum.Tie as tie
+
+returns : tie.Need-returns
+returns c = c .before .before .write-u64 .ensures ∙ rw (c .before .before .before .before .fnv .ensures, sub-zero)
+
+pub write-sum-spec : {M : Type 1} → statement M
+write-sum-spec =
+    tie.close
+    (tie.spec
+    (λ c. search needs)
+    (λ c. search needs)
+    (λ c. search needs)
+    (λ c κs. search needs)
+    (λ c κs. search needs)
+    (λ c. search needs)
+    returns)
