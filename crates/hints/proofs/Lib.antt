@@ -1,0 +1,2 @@
+-- What the proof of first_record uses.
+mod Record
