@@ -1,0 +1,2 @@
+-- What the proofs of several groups of lines use.
+mod Group

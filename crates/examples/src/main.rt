@@ -1,0 +1,15 @@
+// Runs the examples and the vectors, and prints each with what it should be; then the header's table.
+mod fields;
+mod files;
+mod hashes;
+mod lines;
+mod records;
+
+fn main() {
+    let t = lines::start();
+    let t = hashes::vectors(t);
+    let t = records::examples(t);
+    let t = files::examples(t);
+    lines::total(t);
+    fields::table();
+}
