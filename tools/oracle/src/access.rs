@@ -1,0 +1,380 @@
+//! A child module of the original `seek.rs`: sees its private fields. It shows a list and a
+//! recorder, and asks the questions of document 01 that the original does not ask.
+
+use super::*;
+use crate::text::{Sum, put, put_sum};
+
+include!(concat!(env!("OUT_DIR"), "/persist_cuts.rs"));
+
+/// One more than the largest frame number: 01's LIM.
+pub const LIM: u32 = MAX_NEXT_ACCEPTABLE;
+
+fn put_checkpoints(out: &mut Vec<u8>, list: &[Checkpoint]) {
+    let mut sum = Sum::new();
+    for c in list {
+        sum.u32(c.next_acceptable).u32(c.back).u64(c.malformed_before).u64(c.digest);
+    }
+    put_sum(out, list.len(), &sum);
+}
+
+/// Frames, frame bytes and parts: a count and a sum each.
+fn put_stored(out: &mut Vec<u8>, st: &Stored) {
+    let (mut heads, mut bytes, mut parts) = (Sum::new(), Sum::new(), Sum::new());
+    let mut used = 0;
+    for f in &st.frames {
+        heads.u32(f.start as u32).u32(f.bytes.len() as u32);
+        bytes.bytes(&f.bytes);
+        used += f.bytes.len();
+    }
+    for h in &st.held {
+        parts.u32(h.at).u32(h.frame).u32(h.len).u32(h.number).u32(h.remaining as u32);
+        parts.u32(u32::from(h.kind == FrameKind::Dsd));
+    }
+    assert_eq!(used, st.used, "the original's count of stored bytes is off");
+    put_sum(out, st.frames.len(), &heads);
+    put_sum(out, used, &bytes);
+    put_sum(out, st.held.len(), &parts);
+}
+
+fn put_option(out: &mut Vec<u8>, mark: u64, value: u64) {
+    put(out, mark);
+    put(out, value);
+}
+
+/// The numbers and tables of a list, as tools/README.md fixes them.
+pub fn put_list(out: &mut Vec<u8>, ix: &AreaIndex) {
+    put(out, u64::from(ix.interval));
+    put(out, ix.inline_budget as u64);
+    put(out, u64::from(ix.hint_spacing));
+    put(out, ix.max_hints as u64);
+    let end = ix.end_state.unwrap_or(EndState { next_acceptable: 0, malformed: 0 });
+    put(out, u64::from(ix.end_state.is_some()));
+    put_option(out, u64::from(end.next_acceptable), end.malformed);
+    let mark = if ix.fingerprint.is_none() { 0 } else { 1 + u64::from(ix.fingerprint_checked) };
+    put_option(out, mark, ix.fingerprint.unwrap_or(0));
+    put_option(out, u64::from(ix.image_id.is_some()), ix.image_id.unwrap_or(0));
+    put_checkpoints(out, &ix.checkpoints);
+    put_stored(out, &ix.stored);
+    let (mut mal, mut hints, mut conf) = (Sum::new(), Sum::new(), Sum::new());
+    for &m in &ix.malformed {
+        mal.u32(m);
+    }
+    for &(lsn, t) in &ix.samples {
+        hints.u32(lsn).u32(t);
+    }
+    for &(lsn, u, d) in &ix.confirmed {
+        conf.u32(lsn).u32(u).u64(d);
+    }
+    put_sum(out, ix.malformed.len(), &mal);
+    put_sum(out, ix.samples.len(), &hints);
+    put_sum(out, ix.confirmed.len(), &conf);
+}
+
+/// A list in full, for a reader of a difference.
+pub fn show_list(ix: &AreaIndex) -> String {
+    format!(
+        "interval {} budget {} spacing {} M {} end {:?} fingerprint {:?} checked {} image {:?}\n\
+         checkpoints {:?}\nframes {:?}\nparts {:?}\nmalformed {:?}\nhints {:?}\nconfirmations {:?}\n",
+        ix.interval,
+        ix.inline_budget,
+        ix.hint_spacing,
+        ix.max_hints,
+        ix.end_state,
+        ix.fingerprint,
+        ix.fingerprint_checked,
+        ix.image_id,
+        ix.checkpoints,
+        ix.stored.frames,
+        ix.stored.held,
+        ix.malformed,
+        ix.samples,
+        ix.confirmed
+    )
+}
+
+/// What a limit took away when `bytes` (an accepted file) were loaded: lowered budget, dropped
+/// frames, lowered M, thinned hints, dropped confirmations.
+pub fn limited(ix: &AreaIndex, budget: u64, f: u32, m: Option<u32>, s: Option<u32>, c: Option<u32>) -> [bool; 5] {
+    [
+        (ix.inline_budget as u64) < budget,
+        ix.stored.frames.len() < f as usize,
+        ix.max_hints < m.map_or(DEFAULT_MAX_HINTS, |m| m as usize),
+        s.is_some_and(|s| ix.samples.len() < s as usize),
+        c.is_some_and(|c| ix.confirmed.len() < c as usize),
+    ]
+}
+
+/// Boundaries, budget and M: the numbers that question 3 measures tables by.
+pub fn sizes(ix: &AreaIndex) -> (usize, usize, usize) {
+    (ix.boundaries(), ix.inline_budget, ix.max_hints)
+}
+
+pub fn kinds(ix: &AreaIndex) -> String {
+    let shared = ix.stored.held.windows(2).any(|w| w[0].frame == w[1].frame);
+    let surplus = ix.stored.frames.iter().enumerate().any(|(i, f)| {
+        let longest = ix.stored.held.iter().filter(|h| h.frame as usize == i).map(|h| h.len).max();
+        longest.is_some_and(|l| (l as usize) < f.bytes.len())
+    });
+    let list: [(&str, bool); 14] = [
+        ("empty area", ix.start == ix.end),
+        ("no checkpoint", ix.checkpoints.is_empty()),
+        ("complete", ix.end_state.is_some()),
+        ("not complete", ix.end_state.is_none()),
+        ("all boundaries but not complete", ix.end_state.is_none() && ix.boundaries() == ix.checkpoints.len()),
+        ("parts share a frame", shared),
+        ("frame longer than its parts", surplus),
+        ("zero-length part", ix.stored.held.iter().any(|h| h.len == 0)),
+        (
+            "held part with back 32 or less",
+            ix.stored.held.iter().any(|h| u64::from(ix.checkpoints[h.at as usize].back) <= REPLAY_SECTORS),
+        ),
+        (
+            "malformed list capped",
+            ix.end_state.map_or(ix.checkpoints.last().map_or(0, |c| c.malformed_before), |e| e.malformed)
+                > MAX_MALFORMED_WARNINGS as u64,
+        ),
+        ("hints", !ix.samples.is_empty()),
+        ("fingerprint", ix.fingerprint.is_some()),
+        ("confirmations", !ix.confirmed.is_empty()),
+        ("M is 0", ix.max_hints == 0),
+    ];
+    list.iter().filter(|k| k.1).map(|k| k.0).collect::<Vec<_>>().join(",")
+}
+
+/// Whether loading would accept what the list holds: Ok, or the original's text.
+pub fn loadable(ix: &AreaIndex) -> Result<(), &'static str> {
+    let area = Area::new(ix.key.slot, ix.key.start, ix.key.end, ix.key.channels);
+    match AreaIndex::from_bytes(&area, ix.key.image_sectors, &ix.to_bytes(), usize::MAX) {
+        Ok(_) => Ok(()),
+        Err(Error::InvalidArgument(text)) => Err(text),
+    }
+}
+
+/// Whether two of the hints held and given, in the area, have one LSN and two numbers: 01 leaves
+/// these out of the comparison (the original sorts them unstably).
+pub fn hints_clash(ix: &AreaIndex, list: &[(u32, u32)]) -> bool {
+    if ix.max_hints == 0 || list.is_empty() {
+        return false;
+    }
+    let inside = |&(l, _): &(u32, u32)| (ix.start..ix.end).contains(&u64::from(l));
+    let mut all: Vec<(u32, u32)> = ix.samples.clone();
+    all.extend(list.iter().copied().filter(inside));
+    all.sort();
+    all.windows(2).any(|w| w[0].0 == w[1].0 && w[0].1 != w[1].1)
+}
+
+pub fn samples(ix: &AreaIndex) -> &[(u32, u32)] {
+    &ix.samples
+}
+
+/// Question 13.
+pub fn refuses_hints(list: &[(u32, u32)]) -> bool {
+    list.len() > 65_536 || list.iter().any(|s| s.1 >= LIM)
+}
+
+/// Question 14, then the original's call: None where refused, else whether it kept anything.
+pub fn confirm(ix: &mut AreaIndex, lsn: u64, u: u32, digest: u64) -> Option<bool> {
+    if !(ix.start..ix.end).contains(&lsn) || u >= LIM {
+        return None;
+    }
+    let keeps = ix.fingerprint_checked && ix.max_hints > 0;
+    ix.keep_confirmation(lsn, u, digest);
+    Some(keeps)
+}
+
+/// The numbers and tables of a running or finished recorder.
+pub fn put_recorder(out: &mut Vec<u8>, r: &Recorder) {
+    put(out, u64::from(r.end_state.is_some()));
+    put(out, u64::from(r.interval));
+    put(out, r.budget as u64);
+    put(out, u64::from(r.first));
+    put(out, r.from);
+    let end = r.end_state.unwrap_or(EndState { next_acceptable: 0, malformed: 0 });
+    put_option(out, u64::from(end.next_acceptable), end.malformed);
+    put_checkpoints(out, &r.checkpoints);
+    put_stored(out, &r.stored);
+}
+
+fn last_of(r: &Recorder) -> (u32, u64) {
+    r.checkpoints.last().map_or((0, 0), |c| (c.next_acceptable, c.malformed_before))
+}
+
+fn boundaries_of(r: &Recorder) -> u64 {
+    let (start, end) = r.key.audio_sector_range();
+    (end - start).div_ceil(u64::from(r.interval))
+}
+
+/// Questions 5, 6 and 7 of `record`: 0 where none refuses.
+pub fn refuses_record(r: &Recorder, lsn: u64, thr: u32, mal: u64, frame: Option<(u64, u32)>, len: usize) -> u32 {
+    let (start, end) = r.key.audio_sector_range();
+    if r.end_state.is_some() || !r.due(lsn) || lsn >= end || len != SECTOR_SIZE {
+        return 5;
+    }
+    let last = last_of(r);
+    let j = u64::from(r.first) + r.checkpoints.len() as u64;
+    if thr < last.0 || thr > LIM || mal < last.1 || mal > j * u64::from(r.interval) {
+        return 6;
+    }
+    match frame {
+        Some((at, number)) if at < start || at >= lsn || number >= LIM => 7,
+        _ => 0,
+    }
+}
+
+/// Whether 01's added test alone passes a part over: the original then stores what its own loader
+/// refuses, and 01 leaves the call out of the comparison.
+pub fn added_test_alone(st: &Stored) -> bool {
+    let frames = st.frames.windows(2).any(|w| w[0].start >= w[1].start);
+    let parts = st.held.windows(2).any(|w| {
+        w[0].frame == w[1].frame && (w[0].number != w[1].number || w[0].kind != w[1].kind || w[0].len > w[1].len)
+    });
+    frames || parts
+}
+
+pub fn stored_of(r: &Recorder) -> &Stored {
+    &r.stored
+}
+
+/// Questions 5 and 6 of `finish`: 0 where neither refuses.
+pub fn refuses_finish(r: &Recorder, thr: u32, mal: u64) -> u32 {
+    let (start, end) = r.key.audio_sector_range();
+    let passed = u64::from(r.first) + r.checkpoints.len() as u64;
+    if r.end_state.is_some() || passed != boundaries_of(r) {
+        return 5;
+    }
+    let last = last_of(r);
+    if thr < last.0 || thr > LIM || mal < last.1 || mal > end - start {
+        return 6;
+    }
+    0
+}
+
+/// What question 12 finds wrong with `new`, which an absorb of a reading with the malformed LSNs
+/// `list` made from `old`.
+pub enum Twelve {
+    Passes,
+    Refuses,
+    /// The original stored a part that 01's added test passes over.
+    Outside,
+}
+
+pub fn question_12(old: &AreaIndex, new: &AreaIndex, list: &[u32]) -> Twelve {
+    if new.frontier() <= old.frontier() {
+        return Twelve::Passes;
+    }
+    if added_test_alone(&new.stored) {
+        return Twelve::Outside;
+    }
+    let counted = match new.end_state {
+        Some(e) => e.malformed,
+        None => new.checkpoints.last().map_or(0, |c| c.malformed_before),
+    };
+    let cap = MAX_MALFORMED_WARNINGS;
+    let below = list.iter().filter(|&&m| u64::from(m) < new.frontier()).count().min(cap);
+    let rising = list.windows(2).all(|w| w[0] < w[1]);
+    let opens = list.len() >= old.malformed.len() && list[..old.malformed.len()] == old.malformed[..];
+    if !rising || !opens || below as u64 != counted.min(cap as u64) || loadable(new).is_err() {
+        return Twelve::Refuses;
+    }
+    Twelve::Passes
+}
+
+/// The hint recorder: spacing, last, tail, list.
+pub fn put_hint_recorder(out: &mut Vec<u8>, hr: &HintRecorder) {
+    put(out, u64::from(hr.spacing));
+    put_option(out, u64::from(hr.last.is_some()), u64::from(hr.last.unwrap_or(0)));
+    let tail = hr.tail.unwrap_or((0, 0));
+    put(out, u64::from(hr.tail.is_some()));
+    put_option(out, u64::from(tail.0), u64::from(tail.1));
+    put_pairs(out, &hr.list);
+}
+
+pub fn put_pairs(out: &mut Vec<u8>, list: &[(u32, u32)]) {
+    let mut sum = Sum::new();
+    for &(lsn, t) in list {
+        sum.u32(lsn).u32(t);
+    }
+    put_sum(out, list.len(), &sum);
+}
+
+/// Where a jump to a frame starts: an LSN.
+pub fn jump(ix: &AreaIndex, (start, end): (u64, u64), frame: u32) -> u64 {
+    match ix.plan(frame) {
+        Plan::Start => start,
+        Plan::At { lsn, .. } => lsn,
+        Plan::End(_) => end,
+    }
+}
+
+/// The values of `plan`'s answer.
+pub fn put_plan(out: &mut Vec<u8>, ix: &AreaIndex, frame: u32) {
+    match ix.plan(frame) {
+        Plan::Start => put(out, 0),
+        Plan::End(e) => {
+            put(out, 2);
+            put_option(out, u64::from(e.next_acceptable), e.malformed);
+        }
+        Plan::At { lsn, checkpoint: c, held } => {
+            put(out, 1);
+            for v in [lsn, u64::from(c.next_acceptable), u64::from(c.back), c.malformed_before, c.digest] {
+                put(out, v);
+            }
+            put(out, u64::from(held.is_some()));
+            if let Some((h, bytes)) = held {
+                put(out, u64::from(h.kind == FrameKind::Dsd));
+                put(out, u64::from(h.number));
+                put(out, u64::from(h.remaining as u32));
+                let mut sum = Sum::new();
+                sum.bytes(bytes);
+                put_sum(out, bytes.len(), &sum);
+            }
+        }
+    }
+}
+
+/// What a program with fault `wrong` makes of a loaded list: true where it refuses it with 32.
+pub fn wrong_load(wrong: u32, ix: &mut AreaIndex, file: &crate::script::Sections, bytes: &[u8]) -> bool {
+    match wrong {
+        4 => {
+            let near = |h: &Held| u64::from(ix.checkpoints[h.at as usize].back) <= REPLAY_SECTORS;
+            return ix.stored.held.iter().any(near);
+        }
+        5 if file.s.is_some_and(|s| s as usize > ix.max_hints) => ix.thin_hints(ix.max_hints - ix.max_hints / 4),
+        6 if ix.stored.frames.len() < file.f as usize => {
+            while ix.stored.frames.last().is_some_and(|f| f.bytes.is_empty()) {
+                ix.stored.frames.pop();
+                let gone = ix.stored.frames.len() as u32;
+                ix.stored.held.retain(|h| h.frame != gone);
+            }
+        }
+        7 => {
+            for (i, c) in ix.confirmed.iter_mut().enumerate() {
+                let b = &bytes[file.confirmations + 8 + 16 * i..];
+                let at = |i: usize| u32::from_le_bytes([b[i], b[i + 1], b[i + 2], b[i + 3]]);
+                *c = (at(0), at(4), u64::from(at(8)) | u64::from(at(12)) << 32);
+            }
+        }
+        // A limit of fewer than 16 bytes for each confirmation.
+        9 if ix.confirmed.len() > 1 && file.c.is_some_and(|c| c as usize > ix.confirmed.len()) => {
+            ix.confirmed.remove(0);
+        }
+        _ => {}
+    }
+    false
+}
+
+/// Fault 11: a merge takes the other's checked mark. Fault 12: it leaves the malformed list.
+pub fn wrong_merge(wrong: u32, new: &mut AreaIndex, own: &AreaIndex, other: &AreaIndex) {
+    match wrong {
+        11 => new.fingerprint_checked |= other.fingerprint_checked,
+        12 => new.malformed.clone_from(&own.malformed),
+        _ => {}
+    }
+}
+
+/// Fault 13: `flush` moves the last number listed.
+pub fn wrong_flush(wrong: u32, hr: &mut HintRecorder) {
+    if let (13, Some(tail)) = (wrong, hr.tail) {
+        hr.last = Some(tail.1);
+    }
+}

@@ -1,0 +1,493 @@
+//! Writes scripts with counts of their answers, the fixed list, and runs the comparison.
+
+use std::io::{Read, Write};
+use std::process::{Command, Stdio};
+use std::time::{Duration, Instant};
+
+use crate::Arguments;
+use crate::file::mend;
+use crate::generate;
+use crate::script::{Oracle, Stats};
+use crate::text::{parse_hex, put_hex};
+
+/// Appends scripts from `number` on until `enough`; answers the next number.
+fn batch(a: &Arguments, mut number: u32, out: &mut Vec<u8>, enough: impl Fn(u32, u64, usize) -> bool) -> u32 {
+    let (mut scripts, mut loads) = (0, 0);
+    while !enough(scripts, loads, out.len()) {
+        let kind = a.kinds[number as usize % a.kinds.len()];
+        let at = out.len();
+        loads += generate::script(kind, number, a.seed, a.small, out);
+        if kind != generate::Kind::Load {
+            drop_outside(out, at);
+        }
+        number += 1;
+        scripts += 1;
+    }
+    number
+}
+
+/// Takes from the script that begins at `at` the lines that the original cannot judge.
+fn drop_outside(out: &mut Vec<u8>, at: usize) {
+    let mut oracle = Oracle::default();
+    let (mut kept, mut answer, mut dropped) = (Vec::new(), Vec::new(), false);
+    for line in out[at..].split_inclusive(|b| *b == b'\n') {
+        answer.clear();
+        oracle.line(line.strip_suffix(b"\n").unwrap_or(line), &mut answer);
+        let first = answer.split(|b| *b == b'\n').next().unwrap_or_default();
+        if first.ends_with(b" outside") {
+            dropped = true;
+        } else {
+            kept.extend_from_slice(line);
+        }
+    }
+    if dropped {
+        out.truncate(at);
+        out.extend_from_slice(&kept);
+    }
+}
+
+fn answers(oracle: &mut Oracle, scripts: &[u8]) -> Result<Vec<u8>, String> {
+    let mut out = Vec::new();
+    oracle.run(scripts, &mut out).map_err(|line| {
+        let text = scripts.split(|b| *b == b'\n').nth(line - 1).unwrap_or_default();
+        let text = String::from_utf8_lossy(&text[..text.len().min(200)]).into_owned();
+        format!("the generator wrote a line that is none, {line}: {text}")
+    })?;
+    Ok(out)
+}
+
+/// The counts, and what never occurred.
+fn report(stats: &Stats, a: &Arguments) -> Result<(), String> {
+    let mut missing = Vec::new();
+    if a.notes {
+        let mut last = "";
+        for ((note, n), count) in &stats.notes {
+            if note != last && !note.contains('+') {
+                eprint!("\n  {note}:");
+                last = note;
+            }
+            if !note.contains('+') {
+                eprint!(" {n}x{count}");
+            }
+        }
+        eprintln!();
+    }
+    let mut last = String::new();
+    for ((command, n), count) in &stats.answers {
+        if command == "script" {
+            continue;
+        }
+        if *command != last {
+            eprint!("{}{command}:", if last.is_empty() { "" } else { "\n" });
+            last = command.clone();
+        }
+        eprint!(" {n}x{count}");
+    }
+    eprintln!("\naccepted files:");
+    for (name, count) in &stats.accepted {
+        eprintln!("  {name} x{count}");
+    }
+    eprintln!("refusals 20 and 28 by place:");
+    for (name, count) in &stats.places {
+        eprintln!("  {name} x{count}");
+    }
+    let mut need = |command: &str, n: u64| {
+        if !stats.answers.contains_key(&(command.to_string(), n)) {
+            missing.push(format!("{command} {n}"));
+        }
+    };
+    if a.kinds.contains(&generate::Kind::Load) {
+        for n in [0].into_iter().chain(20..=38) {
+            need("load", n);
+        }
+        need("save", 0);
+        need("save", 40);
+        need("plan", 0);
+    }
+    if a.kinds.contains(&generate::Kind::Merge) {
+        for n in [0, 41, 42, 43] {
+            need("merge", n);
+        }
+    }
+    if a.kinds.contains(&generate::Kind::Calls) {
+        for (command, list) in [
+            ("new", &[0, 2, 3][..]),
+            ("record", &[0, 5, 6, 7]),
+            ("finish", &[0, 5, 6]),
+            ("absorb", &[0, 8, 9, 10, 11, 12]),
+            ("add_hints", &[0, 13]),
+            ("confirm", &[0, 14]),
+            ("fingerprint", &[0, 15]),
+            ("hint", &[0, 16]),
+        ] {
+            for &n in list {
+                need(command, n);
+            }
+        }
+    }
+    if a.kinds.contains(&generate::Kind::Load) {
+        for name in [
+            "version 1",
+            "version 2",
+            "version 3",
+            "limit takes nothing",
+            "limit lowers the budget",
+            "limit drops frames",
+            "limit lowers M",
+            "limit thins hints",
+            "limit drops confirmations",
+            "empty area",
+            "no checkpoint",
+            "complete",
+            "not complete",
+            "all boundaries but not complete",
+            "parts share a frame",
+            "frame longer than its parts",
+            "zero-length part",
+            "held part with back 32 or less",
+            "hints",
+            "fingerprint",
+            "confirmations",
+            "M is 0",
+        ] {
+            if !stats.accepted.contains_key(name) {
+                missing.push(format!("an accepted file: {name}"));
+            }
+        }
+        for name in [
+            "20: fewer than 8 bytes",
+            "20: frame header",
+            "20: frame bytes",
+            "20: part",
+            "20: malformed LSN",
+            "20: hint header",
+            "20: confirmation header",
+            "28: bytes 52 to 55",
+            "28: bytes 68 to 71",
+            "28: end state of a list that is not complete",
+            "28: hint header",
+        ] {
+            if !stats.places.contains_key(name) {
+                missing.push(name.to_string());
+            }
+        }
+        if !a.small && !stats.accepted.contains_key("malformed list capped") {
+            missing.push("an accepted file: malformed list capped".to_string());
+        }
+    }
+    if missing.is_empty() || a.unchecked { Ok(()) } else { Err(format!("never occurred: {}", missing.join(", "))) }
+}
+
+pub fn generate(a: &Arguments) -> Result<(), String> {
+    let began = Instant::now();
+    let mut oracle = Oracle::counting();
+    let mut output = std::io::stdout().lock();
+    let (mut number, mut scripts) = (0, Vec::new());
+    let files = a.files.unwrap_or(u64::MAX);
+    let most = a.scripts.unwrap_or(if a.files.is_some() { u32::MAX } else { 2000 });
+    let (mut written, mut spent) = (0u64, Duration::ZERO);
+    while number < most && oracle.stats.loads < files {
+        scripts.clear();
+        let left = files - oracle.stats.loads;
+        number = batch(a, number, &mut scripts, |n, loads, len| number + n >= most || loads >= left || len > 1 << 20);
+        let at = Instant::now();
+        answers(&mut oracle, &scripts)?;
+        spent += at.elapsed();
+        written += scripts.len() as u64;
+        output.write_all(&scripts).map_err(|e| e.to_string())?;
+    }
+    eprintln!(
+        "{number} scripts, {} files, {written} bytes, {:.1} s in all, {:.1} s of them the original's",
+        oracle.stats.loads,
+        began.elapsed().as_secs_f64(),
+        spent.as_secs_f64()
+    );
+    report(&oracle.stats, a)
+}
+
+/// The fixed list: small scripts, and their answers.
+pub fn fixed(a: &Arguments) -> Result<(), String> {
+    let a = &Arguments { small: true, rest: a.rest.clone(), kinds: a.kinds.clone(), ..*a };
+    let mut oracle = Oracle::counting();
+    let names: Vec<String> = a.kinds.iter().map(|k| format!("{k:?}").to_lowercase()).collect();
+    let mut scripts =
+        format!("# seed {}, kinds {}, {}\n", a.seed, names.join(" "), env!("ORACLE_SOURCES")).into_bytes();
+    let most = a.scripts.unwrap_or(300);
+    batch(a, 0, &mut scripts, |n, _, _| n >= most);
+    let out = answers(&mut oracle, &scripts)?;
+    std::fs::write(&a.rest[0], &scripts).map_err(|e| e.to_string())?;
+    std::fs::write(&a.rest[1], &out).map_err(|e| e.to_string())?;
+    let calls = scripts.split(|b| *b == b'\n').filter(|l| !l.is_empty() && l[0] != b'#').count();
+    eprintln!("{most} scripts, {calls} lines, {} files, {} and {} bytes", oracle.stats.loads, scripts.len(), out.len());
+    report(&oracle.stats, a)
+}
+
+/// What `replay` answers, and what its end was where it did not end well.
+fn replayed(replay: &str, scripts: &[u8]) -> Result<(Vec<u8>, Option<String>), String> {
+    let words: Vec<&str> = replay.split(' ').collect();
+    let mut child = Command::new(words[0])
+        .args(&words[1..])
+        .stdin(Stdio::piped())
+        .stdout(Stdio::piped())
+        .spawn()
+        .map_err(|e| format!("cannot run {replay}: {e}"))?;
+    let mut input = child.stdin.take().ok_or("no standard input")?;
+    let mut output = child.stdout.take().ok_or("no standard output")?;
+    let mut out = Vec::new();
+    std::thread::scope(|s| {
+        s.spawn(move || {
+            // A program that ends early closes its input.
+            let _ = input.write_all(scripts);
+        });
+        output.read_to_end(&mut out)
+    })
+    .map_err(|e| e.to_string())?;
+    let status = child.wait().map_err(|e| e.to_string())?;
+    let end = if status.success() { None } else { Some(format!("{replay} ended with {status}")) };
+    Ok((out, end))
+}
+
+/// The first line in which two answers differ.
+fn first_difference(ours: &[u8], theirs: &[u8]) -> Option<(usize, String, String)> {
+    if ours == theirs {
+        return None;
+    }
+    let (mut a, mut b) = (ours.split(|b| *b == b'\n'), theirs.split(|b| *b == b'\n'));
+    let mut line = 0;
+    loop {
+        line += 1;
+        match (a.next(), b.next()) {
+            (None, None) => return None,
+            (x, y) if x == y => {}
+            (x, y) => {
+                let text =
+                    |t: Option<&[u8]>| t.map_or("(nothing)".to_string(), |t| String::from_utf8_lossy(t).into_owned());
+                return Some((line, text(x), text(y)));
+            }
+        }
+    }
+}
+
+/// The scripts of a batch, each from its `script` line on.
+fn split(scripts: &[u8]) -> Vec<Vec<&[u8]>> {
+    let mut out: Vec<Vec<&[u8]>> = Vec::new();
+    for line in scripts.split(|b| *b == b'\n').filter(|l| !l.is_empty()) {
+        if line.starts_with(b"script ") {
+            out.push(Vec::new());
+        }
+        if let Some(last) = out.last_mut() {
+            last.push(line);
+        }
+    }
+    out
+}
+
+fn join<T: AsRef<[u8]>>(lines: &[T]) -> Vec<u8> {
+    lines.iter().flat_map(|l| l.as_ref().iter().copied().chain([b'\n'])).collect()
+}
+
+/// Whether the two sides differ on these lines, inside the comparison.
+fn differs(replay: &str, lines: &[Vec<u8>]) -> bool {
+    let script = join(lines);
+    let mut ours = Vec::new();
+    if Oracle::default().run(&script, &mut ours).is_err() || ours.windows(9).any(|w| w == b" outside\n") {
+        return false;
+    }
+    match replayed(replay, &script) {
+        Ok((theirs, end)) => end.is_some() || ours != theirs,
+        Err(_) => false,
+    }
+}
+
+/// The file without one of its records, once for each record: its bytes are missing and its count
+/// is one less. Frames also lose their last byte.
+fn without_records(b: &[u8]) -> Vec<Vec<u8>> {
+    let at = |i: usize| b.get(i..i + 4).map_or(0, |w| u32::from_le_bytes([w[0], w[1], w[2], w[3]]) as usize);
+    let mut out = Vec::new();
+    let mut take = |field: usize, start: usize, len: usize| {
+        if at(field) > 0 && start + len + 8 <= b.len() {
+            let mut less = b.to_vec();
+            less[field..field + 4].copy_from_slice(&(at(field) as u32 - 1).to_le_bytes());
+            less.drain(start..start + len);
+            out.push(less);
+        }
+    };
+    let mut i = 80;
+    let most = b.len() / 4;
+    let section =
+        |take: &mut dyn FnMut(usize, usize, usize), i: &mut usize, field: usize, count: usize, width: usize| {
+            for j in (0..count.min(most)).rev() {
+                take(field, *i + width * j, width);
+            }
+            *i += width * count.min(most);
+        };
+    section(&mut take, &mut i, 36, at(36), 24);
+    for _ in 0..at(40).min(most) {
+        let len = at(i + 4).min(b.len());
+        take(40, i, 8 + len);
+        if len > 0 {
+            take(i + 4, i + 8 + len - 1, 1);
+        }
+        i += 8 + len;
+    }
+    section(&mut take, &mut i, 44, at(44), 24);
+    section(&mut take, &mut i, 48, at(48), 4);
+    if at(8) >= 2 {
+        let field = i + 16;
+        i += 24;
+        section(&mut take, &mut i, field, at(field), 8);
+    }
+    if at(8) == 3 {
+        let field = i;
+        i += 8;
+        section(&mut take, &mut i, field, at(field), 16);
+    }
+    out
+}
+
+/// Tries to make the script smaller as long as the difference stays, for at most `time`.
+fn shrink(replay: &str, lines: Vec<Vec<u8>>, time: Duration) -> Vec<Vec<u8>> {
+    let until = Instant::now() + time;
+    let mut best: Vec<Vec<u8>> = lines.into_iter().filter(|l| !l.starts_with(b"#")).collect();
+    // Lines: halves, quarters, and so on down to one.
+    let mut size = best.len().div_ceil(2);
+    while size > 0 && Instant::now() < until {
+        let mut at = 0;
+        while at < best.len() {
+            let mut less = best.clone();
+            less.drain(at..(at + size).min(best.len()));
+            if !less.is_empty() && differs(replay, &less) {
+                best = less;
+            } else {
+                at += size;
+            }
+        }
+        size /= 2;
+    }
+    // Bytes of the files that are left: missing, then 0; with the sum as it comes, or mended.
+    for i in 0..best.len() {
+        let words: Vec<Vec<u8>> = best[i].split(|b| *b == b' ').map(<[u8]>::to_vec).collect();
+        if words[0] != b"load" || words.len() != 4 {
+            continue;
+        }
+        let Some(mut bytes) = parse_hex(&words[3]) else { continue };
+        let line = |bytes: &[u8]| {
+            let mut l = [&words[0][..], &words[1], &words[2]].join(&b' ');
+            put_hex(&mut l, bytes);
+            l
+        };
+        // Records first.
+        'records: while Instant::now() < until {
+            for mut less in without_records(&bytes) {
+                mend(&mut less);
+                let mut lines = best.clone();
+                lines[i] = line(&less);
+                if Instant::now() < until && differs(replay, &lines) {
+                    bytes = less;
+                    best[i] = line(&bytes);
+                    continue 'records;
+                }
+            }
+            break;
+        }
+        for zero in [false, true] {
+            let mut size = bytes.len().next_power_of_two() / 2;
+            while size > 0 && Instant::now() < until {
+                let mut at = 0;
+                while at < bytes.len() && Instant::now() < until {
+                    let end = (at + size).min(bytes.len());
+                    let mut less = bytes.clone();
+                    if zero {
+                        if less[at..end].iter().all(|&b| b == 0) {
+                            at += size;
+                            continue;
+                        }
+                        less[at..end].fill(0);
+                    } else {
+                        less.drain(at..end);
+                    }
+                    let mut mended = less.clone();
+                    mend(&mut mended);
+                    let kept = [less, mended].into_iter().find(|b| {
+                        let mut lines = best.clone();
+                        lines[i] = line(b);
+                        *b != bytes && differs(replay, &lines)
+                    });
+                    match kept {
+                        Some(b) => {
+                            bytes = b;
+                            best[i] = line(&bytes);
+                            if zero {
+                                at += size;
+                            }
+                        }
+                        None => at += size,
+                    }
+                }
+                size /= 2;
+            }
+        }
+    }
+    best
+}
+
+pub fn differences(a: &Arguments) -> Result<(), String> {
+    let (amount, replay) = (&a.rest[0], &a.rest[1]);
+    let (seconds, count) = match amount.strip_suffix('s') {
+        Some(n) => (Some(n.parse::<u64>().map_err(|e| e.to_string())?), u32::MAX),
+        None => (None, amount.parse::<u32>().map_err(|e| e.to_string())?),
+    };
+    let began = Instant::now();
+    let mut oracle = Oracle::counting();
+    let (mut number, mut scripts, mut lines) = (0, Vec::new(), 0u64);
+    while number < count && seconds.is_none_or(|s| began.elapsed() < Duration::from_secs(s)) {
+        scripts.clear();
+        number = batch(a, number, &mut scripts, |n, _, len| number + n >= count || len > 4 << 20);
+        // Each side works on a thread of its own.
+        let (ours, theirs) = std::thread::scope(|s| {
+            let theirs = s.spawn(|| replayed(replay, &scripts));
+            let ours = answers(&mut oracle, &scripts);
+            (ours, theirs.join().unwrap_or_else(|_| Err("the other side's thread stopped".to_string())))
+        });
+        let (ours, (theirs, end)) = (ours?, theirs?);
+        lines += ours.iter().filter(|b| **b == b'\n').count() as u64;
+        if ours == theirs && end.is_none() {
+            continue;
+        }
+        let ours = split(&ours);
+        let theirs = split(&theirs);
+        for (i, script) in split(&scripts).iter().enumerate() {
+            let (x, y) = (ours.get(i).map(|l| join(l)), theirs.get(i).map(|l| join(l)));
+            if x == y || x.as_ref().is_some_and(|x| x.windows(9).any(|w| w == b" outside\n")) {
+                continue;
+            }
+            let script: Vec<Vec<u8>> = script.iter().map(|l| l.to_vec()).collect();
+            let name = String::from_utf8_lossy(&script[0]).into_owned();
+            if let Some((line, x, y)) = first_difference(&x.unwrap_or_default(), &y.unwrap_or_default()) {
+                println!("{name} (seed {}), line {line} of its answers:\n  original {x}\n  replay   {y}", a.seed);
+            }
+            let alone = differs(replay, &script);
+            let small = if alone { shrink(replay, script, Duration::from_secs(30)) } else { script };
+            let script = join(&small);
+            let (mut x, mut oracle) = (Vec::new(), Oracle::default());
+            let _ = oracle.run(&script, &mut x);
+            let (y, end) = replayed(replay, &script)?;
+            println!("\nthe smallest script found:\n{}", String::from_utf8_lossy(&script));
+            println!("original:\n{}\nreplay:\n{}", String::from_utf8_lossy(&x), String::from_utf8_lossy(&y));
+            if let Some(end) = end {
+                println!("{end}");
+            }
+            return Err("the two sides differ".to_string());
+        }
+        if let Some(end) = end {
+            return Err(end);
+        }
+    }
+    println!(
+        "{number} scripts, {} files, {lines} lines of answers: no difference ({:.0} s, seed {})",
+        oracle.stats.loads,
+        began.elapsed().as_secs_f64(),
+        a.seed
+    );
+    if a.counts { report(&oracle.stats, a) } else { Ok(()) }
+}

@@ -1,0 +1,578 @@
+//! Scripts from a seed.
+
+use std::io::Write;
+
+use crate::damage;
+use crate::file::{AreaNumbers, File, LIM, List, Reading, Shape};
+use crate::rng::Rng;
+use crate::text::put_hex;
+
+/// What scripts are about.
+#[derive(Clone, Copy, PartialEq, Debug)]
+pub enum Kind {
+    /// `load`, `save` and `plan`.
+    Load,
+    /// Lists of one reading, and a few that are not: `merge`, `reload`.
+    Merge,
+    /// `new`, recorders, hints, confirmations, and everything else.
+    Calls,
+}
+
+pub fn kinds(names: &str) -> Option<Vec<Kind>> {
+    names
+        .split(',')
+        .map(|n| match n {
+            "load" => Some(vec![Kind::Load]),
+            "merge" => Some(vec![Kind::Merge]),
+            "calls" => Some(vec![Kind::Calls]),
+            "all" => Some(vec![Kind::Load, Kind::Load, Kind::Merge, Kind::Calls]),
+            _ => None,
+        })
+        .collect::<Option<Vec<_>>>()
+        .map(|k| k.concat())
+}
+
+fn hex(bytes: &[u8]) -> String {
+    let mut out = Vec::new();
+    put_hex(&mut out, bytes);
+    String::from_utf8_lossy(&out[1..]).into_owned()
+}
+
+struct Script<'a> {
+    out: &'a mut Vec<u8>,
+    pub loads: u64,
+}
+
+impl Script<'_> {
+    fn line(&mut self, text: std::fmt::Arguments<'_>) {
+        // Writing to memory does not fail.
+        let _ = self.out.write_fmt(text);
+        self.out.push(b'\n');
+    }
+
+    fn load(&mut self, note: &str, p: usize, limit: u64, bytes: &[u8]) {
+        self.loads += 1;
+        self.line(format_args!("# {note}"));
+        self.out.extend_from_slice(format!("load {p} {limit}").as_bytes());
+        put_hex(self.out, bytes);
+        self.out.push(b'\n');
+    }
+}
+
+macro_rules! say {
+    ($s:expr, $($text:tt)*) => { $s.line(format_args!($($text)*)) };
+}
+
+/// Appends script `number`; answers how many files it loads. `small` keeps files short.
+pub fn script(kind: Kind, number: u32, seed: u64, small: bool, out: &mut Vec<u8>) -> u64 {
+    let mut rng = Rng::new(seed ^ (u64::from(number) << 20));
+    let mut s = Script { out, loads: 0 };
+    say!(s, "script {number}");
+    match kind {
+        Kind::Load => loads(&mut s, &mut rng, small),
+        Kind::Merge => merges(&mut s, &mut rng, small),
+        Kind::Calls => calls(&mut s, &mut rng, small),
+    }
+    s.loads
+}
+
+fn shape(rng: &mut Rng, small: bool) -> Shape {
+    let mut shape = Shape::random(rng);
+    if small {
+        shape.boundaries = shape.boundaries.min(6);
+        shape.frame_bytes = shape.frame_bytes.min(40);
+        shape.malformed = shape.malformed.min(10);
+        return shape;
+    }
+    match rng.below(300) {
+        // More malformed sectors than a list names.
+        0 => Shape { boundaries: rng.range(3, 12), k: 4096, malformed: rng.range(4000, 9000), ..shape },
+        // Frames of up to the largest size.
+        1 => Shape { boundaries: 4, k: 100, under: 7, frame_bytes: 65_536, malformed: 0 },
+        // As many checkpoints as the tables have room for.
+        2 => Shape { boundaries: rng.range(1000, 1024), k: rng.range(1, 3), under: 1, ..shape },
+        3 => Shape { boundaries: rng.range(1, 30), k: rng.range(33, 200), under: 7, ..shape },
+        _ => shape,
+    }
+}
+
+fn limit(rng: &mut Rng, list: &List) -> u64 {
+    let used = list.used();
+    let first = list.frames.first().map_or(0, |f| f.1.len() as u64);
+    let (most, s, c) = (u64::from(list.most), list.hints.len() as u64, list.confirmations.len() as u64);
+    let near = |rng: &mut Rng, v: u64| (v + rng.below(3)).saturating_sub(1);
+    match rng.below(26) {
+        0 => 0,
+        1 => *rng.pick(&[1, 7, 8, 9, 15, 16, 17, 100]),
+        2 => rng.below(1000),
+        3 => used,
+        4 => used.saturating_sub(1),
+        5 => near(rng, first),
+        6 => near(rng, used / 2),
+        7 => list.budget.min(131_072),
+        8 => near(rng, 8 * most),
+        9 => near(rng, 8 * s),
+        10 => 8 * rng.below(s + 1),
+        11 => near(rng, 16 * most),
+        12 => near(rng, 16 * c),
+        13 => 16 * rng.below(c + 1),
+        14..=17 => 131_072,
+        18..=20 if list.budget <= 131_072 => 1 << 20,
+        21 if list.budget <= 131_072 => *rng.pick(&[1 << 32, 1 << 63, u64::MAX]),
+        22 if rng.chance(1, 20) => u64::MAX,
+        _ => 16 * most.max(used).min(8192),
+    }
+}
+
+/// A valid list: empty, partial or complete, of any version.
+fn list(rng: &mut Rng, reading: &Reading, most: u64) -> List {
+    let b = reading.checkpoints.len();
+    let complete = rng.chance(1, 3);
+    let n = if complete || rng.chance(1, 4) { b } else { rng.below(b as u64 + 1) as usize };
+    let keep = *rng.pick(&[0, 4, 8, 8]);
+    let mut list = reading.cut(rng, n, complete, keep);
+    list.dress(rng, most);
+    if complete && rng.chance(1, 3) {
+        // Ends at the limits of an end state, where the malformed LSNs allow it.
+        let last = list.checkpoints.last().map_or(0, |c| c.thr);
+        if let Some(e) = &mut list.end {
+            e.0 = *rng.pick(&[last, LIM]);
+        }
+    }
+    list
+}
+
+fn plans(s: &mut Script<'_>, rng: &mut Rng, p: usize, list: &List, count: u64) {
+    for _ in 0..count {
+        let mut t = match list.checkpoints.is_empty() {
+            true => 0,
+            false => rng.pick(&list.checkpoints).thr,
+        };
+        if rng.chance(1, 4) {
+            t = list.end.map_or(t, |e| e.0);
+        }
+        let t = match rng.below(6) {
+            0 => t.wrapping_sub(1),
+            1 => t.wrapping_add(1),
+            2 => rng.extreme(),
+            _ => t,
+        };
+        say!(s, "plan {p} {t}");
+    }
+}
+
+fn save(s: &mut Script<'_>, rng: &mut Rng, p: usize, file: &File) {
+    let len = file.bytes.len() as u64;
+    let out = match rng.below(8) {
+        0 => len.saturating_sub(1),
+        1 => rng.below(len),
+        2 => len + rng.below(200),
+        3 => *rng.pick(&[0, 87, 88, 112]),
+        _ => len,
+    };
+    let out = out.min(262_144);
+    say!(s, "save {p} {out}");
+}
+
+fn loads(s: &mut Script<'_>, rng: &mut Rng, small: bool) {
+    let first = shape(rng, small);
+    let mut reading = Reading::random(rng, first);
+    reading.free_digests(rng);
+    let p = if rng.chance(5, 6) { 0 } else { rng.range(1, 3) as usize };
+    let most = if p == 0 { 65_536 } else { 4096 };
+    say!(s, "area {p} {}", reading.area.words());
+    if rng.chance(1, 150) {
+        // Question 1: an area that ends past 4,294,967,295, or a slot that is neither.
+        let a = if rng.chance(1, 2) {
+            AreaNumbers::new(0, u32::MAX - 9, u32::MAX, 2, 1 << 33)
+        } else {
+            AreaNumbers::new(rng.range(2, 255) as u8, 10, 20, 2, 100)
+        };
+        say!(s, "area {p} {}", a.words());
+    }
+    let mut lists: Vec<List> = Vec::new();
+    for _ in 0..rng.range(1, 3) {
+        let mut l = list(rng, &reading, most);
+        while small && l.encode().bytes.len() > 600 {
+            l = list(rng, &reading, most);
+        }
+        lists.push(l);
+    }
+    let large = lists.iter().map(|l| l.encode().bytes.len()).max().unwrap_or(0) > 4000;
+    let rounds = if large { 4 } else { rng.range(6, 16) };
+    for _ in 0..rounds {
+        let l = rng.pick(&lists).clone();
+        let file = l.encode();
+        let limit = limit(rng, &l);
+        if rng.chance(1, 3) {
+            s.load("valid", p, limit, &file.bytes);
+            save(s, rng, p, &file);
+            let count = rng.below(4);
+            plans(s, rng, p, &l, count);
+        } else {
+            let (bytes, note) =
+                if rng.chance(1, 6) { damage::reshaped(&file, rng) } else { damage::damaged(&file, rng) };
+            s.load(&note, p, limit, &bytes);
+            if rng.chance(1, 4) {
+                save(s, rng, p, &file);
+                plans(s, rng, p, &l, 1);
+            }
+        }
+    }
+}
+
+/// Numbers for hints: each LSN has one number, so that no LSN comes under two.
+fn number_at(lsn: u64, start: u64, k: u64) -> u32 {
+    let i = lsn.saturating_sub(start);
+    let n = if k % 3 == 0 { (i * 7919) % 5000 } else { i / 3 + (i % 5) * (k % 4) };
+    (n % u64::from(LIM)) as u32
+}
+
+fn hint_list(rng: &mut Rng, a: &AreaNumbers, k: u64, most: u64) -> Vec<(u64, u32)> {
+    let len = a.end - a.start;
+    let count = rng.below(most);
+    let mut out: Vec<(u64, u32)> = (0..count)
+        .map(|_| {
+            let lsn = if rng.chance(1, 12) {
+                (a.start + len + rng.below(5)).saturating_sub(rng.below(2 * len + 8))
+            } else {
+                a.start + rng.below(len.max(1))
+            };
+            let lsn = lsn.min(u64::from(u32::MAX));
+            (lsn, number_at(lsn, a.start, k))
+        })
+        .collect();
+    if rng.chance(1, 2) {
+        out.sort_unstable();
+    }
+    if rng.chance(1, 2) {
+        out.dedup();
+    }
+    out
+}
+
+fn say_hints(s: &mut Script<'_>, p: usize, hints: &[(u64, u32)]) {
+    let words: String = hints.iter().map(|(l, t)| format!(" {l} {t}")).collect();
+    say!(s, "add_hints {p} {}{words}", hints.len());
+}
+
+fn confirmations(s: &mut Script<'_>, rng: &mut Rng, p: usize, a: &AreaNumbers, count: u64) {
+    for _ in 0..count {
+        let len = a.end - a.start;
+        let lsn = if rng.chance(1, 12) { a.end + rng.below(3) } else { a.start + rng.below(len.min(12)) };
+        let u = if rng.chance(1, 20) { rng.extreme() } else { rng.below(200) as u32 };
+        say!(s, "confirm {p} {lsn} {u} {}", rng.below(3));
+    }
+}
+
+fn hint_calls(s: &mut Script<'_>, rng: &mut Rng, p: usize, a: &AreaNumbers, k: u64, count: u64) {
+    for _ in 0..count {
+        let first = number_at(a.start + rng.below(a.end - a.start), a.start, k);
+        let first = (u64::from(first) + rng.below(90)).saturating_sub(10) as u32;
+        let end = if rng.chance(1, 20) { first.wrapping_sub(1) } else { first.saturating_add(rng.below(150) as u32) };
+        let (first, end) = if rng.chance(1, 30) { (rng.extreme(), rng.extreme()) } else { (first, end) };
+        let playtime = if rng.chance(1, 6) { rng.extreme() } else { rng.below(2000) as u32 };
+        say!(s, "hint {p} {first} {end} {playtime}");
+    }
+}
+
+fn merges(s: &mut Script<'_>, rng: &mut Rng, small: bool) {
+    let mut shape = shape(rng, small);
+    shape.frame_bytes = shape.frame_bytes.min(2000);
+    let mut reading = Reading::random(rng, shape);
+    reading.sector_digests();
+    let a = reading.area;
+    let fingerprint = rng.chance(1, 2).then(|| rng.below(3));
+    let places = rng.range(2, 4) as usize;
+    let mut cuts = Vec::new();
+    for p in 0..places {
+        let mut own = reading.clone();
+        let mut l = {
+            let b = own.checkpoints.len();
+            let complete = rng.chance(1, 4);
+            let n = if complete { b } else { rng.below(b as u64 + 1) as usize };
+            // Now and then a list of another reading.
+            if rng.chance(1, 12) && n > 0 {
+                let j = rng.below(n as u64) as usize;
+                match rng.below(3) {
+                    0 => own.checkpoints[j].digest ^= 1,
+                    1 => own.checkpoints[j].back ^= 1,
+                    _ => own.checkpoints[j].thr = own.checkpoints[j].thr.saturating_sub(1),
+                }
+            }
+            if rng.chance(1, 15) {
+                own.end.0 = (own.end.0 + 1).min(LIM);
+            }
+            let keep = *rng.pick(&[0, 4, 8, 8]);
+            own.cut(rng, n, complete, keep)
+        };
+        if rng.chance(1, 20) {
+            l.k = if l.k > 1 { l.k - 1 } else { 2 };
+            let n = l.checkpoints.len().min(1);
+            l = List {
+                checkpoints: l.checkpoints[..n].to_vec(),
+                parts: vec![],
+                frames: vec![],
+                end: None,
+                malformed: vec![],
+                ..l
+            };
+        }
+        if rng.chance(1, 25) {
+            l.area.channels ^= 1;
+        }
+        l.budget = l.used() + *rng.pick(&[0, 0, 5, 50, 3000, 60_000]);
+        l.spacing = *rng.pick(&[8, 8, 0, 75]);
+        l.most = *rng.pick(&[2048, 2048, 4096, 40, 6, 4, 1, 0]);
+        if rng.chance(2, 3) {
+            let most = u64::from(l.most).min(30) + 1;
+            let mut hints: Vec<(u32, u32)> = hint_list(rng, &a, reading.k, most)
+                .into_iter()
+                .filter(|h| (a.start..a.end).contains(&h.0))
+                .map(|h| (h.0 as u32, h.1))
+                .collect();
+            hints.sort_unstable();
+            hints.dedup();
+            hints.truncate(l.most as usize);
+            l.hints = hints;
+        }
+        l.fingerprint = if rng.chance(1, 20) { Some(77) } else { fingerprint.filter(|_| rng.chance(2, 3)) };
+        if l.fingerprint.is_some() && l.most > 0 && rng.chance(1, 2) {
+            let count = u64::from(l.most).min(8);
+            let lsns = l.lsns(rng, count);
+            l.confirmations = lsns.iter().map(|&x| (x, rng.below(100) as u32, rng.below(3))).collect();
+        }
+        say!(s, "area {p} {}", l.area.words());
+        let file = l.encode();
+        s.load("cut", p, 131_072, &file.bytes);
+        if rng.chance(1, 2) {
+            say!(s, "fingerprint {p} {}", if rng.chance(1, 12) { 9 } else { fingerprint.unwrap_or(5) });
+        }
+        if rng.chance(1, 8) {
+            // An image id without news.
+            say!(s, "recorder {p} {}", a.start);
+            say!(s, "absorb {p} {p} 1 {} 0", rng.range(1, 2));
+        }
+        cuts.push(l);
+    }
+    for _ in 0..rng.range(2, 10) {
+        let p = rng.below(places as u64) as usize;
+        let q = (p + 1 + rng.below(places as u64 - 1) as usize) % places;
+        match rng.below(10) {
+            0..=5 => say!(s, "merge {p} {q}"),
+            6 => {
+                let l = *rng.pick(&[0, 8, 64, 1000, 131_072]);
+                say!(s, "reload {p} {l}");
+            }
+            7 => say!(s, "save {p} {}", *rng.pick(&[88, 500, 8192])),
+            8 => {
+                let list = hint_list(rng, &a, reading.k, 20);
+                say_hints(s, p, &list);
+            }
+            _ => confirmations(s, rng, p, &a, 2),
+        }
+        let l = rng.pick(&cuts).clone();
+        plans(s, rng, p, &l, 2);
+        if rng.chance(1, 3) {
+            hint_calls(s, rng, p, &a, reading.k, 2);
+        }
+    }
+}
+
+/// `record` for checkpoint `j` of the reading; with `wrong` one number of it is off.
+fn record(s: &mut Script<'_>, rng: &mut Rng, p: usize, r: &Reading, j: usize, wrong: bool) {
+    let c = r.checkpoints[j];
+    let (mut lsn, mut thr, mut mal, mut len) = (r.lsn(j), c.thr, c.mal, 2048);
+    let mut under = r.under[j].map(|u| {
+        let f = &r.frames[u.frame];
+        (u64::from(f.start), f.number, f.kind, u.remaining, f.bytes[..u.len].to_vec())
+    });
+    if under.is_none() && c.back > 0 {
+        // A frame under assembly of which nothing is held: more bytes than any frame may have,
+        // or a near start.
+        let start = lsn - u64::from(c.back);
+        if c.back <= 32 {
+            under = Some((start, 5, 0, 1, vec![1, 2, 3]));
+        }
+    }
+    if wrong && rng.chance(1, 40) && under.is_some() {
+        // More bytes than a frame may have, or exactly as many: passed over, or a large part.
+        let len = rng.range(65_536, 65_537) as usize;
+        if let Some(u) = &mut under {
+            u.4 = vec![u.3 as u8; len];
+        }
+    } else if wrong {
+        match rng.below(9) {
+            0 => lsn += rng.range(1, 3),
+            1 => len = *rng.pick(&[0, 2047, 2049]),
+            2 => thr = *rng.pick(&[0, LIM + 1, u32::MAX]),
+            3 => mal = *rng.pick(&[0, j as u64 * r.k + 1, u64::MAX]),
+            4 => under = Some((lsn, 5, 0, 0, vec![1])),
+            5 => under = Some((r.area.start.wrapping_sub(1).min(lsn + 5), 5, 0, 0, vec![1])),
+            6 => under = Some((lsn.saturating_sub(40), LIM, 1, 0, vec![1])),
+            7 => {
+                if let Some(u) = &mut under {
+                    u.4.push(7);
+                    u.4.insert(0, 9);
+                }
+            }
+            _ => {
+                if let Some(u) = &mut under {
+                    u.1 ^= 1;
+                }
+            }
+        }
+    }
+    match under {
+        None => say!(s, "record {p} {lsn} {thr} {mal} {len} {} 0", r.fills[j]),
+        Some((start, number, kind, remaining, bytes)) => say!(
+            s,
+            "record {p} {lsn} {thr} {mal} {len} {} 1 {start} {number} {kind} {remaining} {}",
+            r.fills[j],
+            hex(&bytes)
+        ),
+    }
+}
+
+fn absorb(s: &mut Script<'_>, rng: &mut Rng, p: usize, q: usize, r: &Reading, upto: usize, all: bool) {
+    let known = !rng.chance(1, 5);
+    let id = if rng.chance(1, 60) { 2 } else { 1 };
+    let end = if all { u64::MAX } else { r.lsn(upto) };
+    let mut list: Vec<u32> = r.malformed.iter().copied().filter(|&m| u64::from(m) < end).collect();
+    if rng.chance(1, 20) {
+        match rng.below(3) {
+            0 => list.reverse(),
+            1 => {
+                list.pop();
+            }
+            _ => list.insert(0, r.area.start as u32),
+        }
+    }
+    let words: String = list.iter().map(|m| format!(" {m}")).collect();
+    say!(s, "absorb {p} {q} {} {} {}{words}", u8::from(known), if known { id } else { 0 }, list.len());
+}
+
+fn sees(s: &mut Script<'_>, rng: &mut Rng, a: &AreaNumbers, k: u64, count: u64) {
+    let mut lsn = a.start + rng.below((a.end - a.start).max(1));
+    for _ in 0..count {
+        lsn += rng.below(4);
+        let at = if rng.chance(1, 40) { lsn + (1 << 32) } else { lsn };
+        // A sector's first bytes: header, packets, time.
+        let (f, packets) = (rng.below(8), rng.below(8));
+        let t = number_at(lsn, a.start, k);
+        let mut bytes = vec![(packets << 5 | f << 2 | rng.below(4)) as u8];
+        for _ in 0..packets {
+            bytes.extend([rng.below(256) as u8, rng.below(256) as u8]);
+        }
+        bytes.extend([(t / 4500) as u8, (t / 75 % 60) as u8, (t % 75) as u8]);
+        say!(s, "see {at} {}", hex(&bytes));
+    }
+}
+
+fn calls(s: &mut Script<'_>, rng: &mut Rng, small: bool) {
+    let mut shape = shape(rng, small);
+    if rng.chance(29, 30) {
+        shape.boundaries = shape.boundaries.min(25);
+    }
+    shape.frame_bytes = shape.frame_bytes.min(3000);
+    shape.malformed = shape.malformed.min(5000);
+    let mut reading = Reading::random(rng, shape);
+    reading.sector_digests();
+    let a = reading.area;
+    let b = reading.checkpoints.len();
+    for p in 0..2 {
+        let mut own = a;
+        if p == 1 && rng.chance(1, 15) {
+            own.channels ^= 1;
+        }
+        say!(s, "area {p} {}", own.words());
+        if rng.chance(1, 10) {
+            let (i, g) =
+                *rng.pick(&[(0, 0), (65_537, 0), (65_536, 0), (1, 1u64 << 32), (100, 131_073), (100, 131_072)]);
+            say!(s, "new {p} {i} {g} 8 {}", *rng.pick(&[0u64, 2048, 65_537]));
+        }
+        let budget = *rng.pick(&[0, 10, 100, 5000, 131_072]);
+        let most = *rng.pick(&[0, 1, 2, 4, 10, 40, 2048, 4096]);
+        let k = if p == 1 && rng.chance(1, 15) { reading.k + 1 } else { reading.k };
+        say!(s, "new {p} {k} {budget} {} {most}", *rng.pick(&[0, 1, 8, 75]));
+        say!(s, "recorder {p} {}", if rng.chance(1, 15) { a.start + 1 } else { a.start });
+    }
+    // A scan with place 0's recorder, taken in now and then; place 1's goes over the same ground.
+    let stop = if rng.chance(1, 2) { b } else { rng.below(b as u64 + 1) as usize };
+    let mut second = 0;
+    for j in 0..stop {
+        if rng.chance(1, 15) {
+            record(s, rng, 0, &reading, j, true);
+        }
+        record(s, rng, 0, &reading, j, false);
+        if rng.chance(1, 6) {
+            let all = rng.chance(1, 3);
+            absorb(s, rng, 0, 0, &reading, j, all);
+        }
+        if rng.chance(1, 3) {
+            let mut other = reading.clone();
+            if rng.chance(1, 20) {
+                // The second reading saw something else.
+                other.checkpoints[second].thr = (other.checkpoints[second].thr + 1).min(LIM);
+            }
+            record(s, rng, 1, &other, second, false);
+            second += 1;
+        }
+        if rng.chance(1, 12) {
+            let (p, q) = *rng.pick(&[(0, 1), (1, 1), (1, 0)]);
+            absorb(s, rng, p, q, &reading, second, true);
+        }
+    }
+    if rng.chance(3, 4) {
+        let (thr, mal) = reading.end;
+        if rng.chance(1, 8) {
+            say!(s, "finish 0 {} {}", LIM + 1, mal);
+        }
+        say!(s, "finish 0 {thr} {mal}");
+    }
+    absorb(s, rng, 0, 0, &reading, stop, true);
+    absorb(s, rng, 1, 1, &reading, second, true);
+    if rng.chance(1, 2) {
+        // A recorder of the other list, whose area or interval may be another.
+        absorb(s, rng, 0, 1, &reading, second, true);
+    }
+    if rng.chance(1, 2) {
+        say!(s, "recorder 0 {}", a.start);
+        absorb(s, rng, 0, 0, &reading, stop, true);
+    }
+    for _ in 0..rng.range(1, 3) {
+        let p = rng.below(2) as usize;
+        if rng.chance(2, 3) {
+            say!(s, "fingerprint {p} {}", rng.below(2));
+        }
+        say!(s, "hint_recorder {p}");
+        let count = rng.below(40);
+        sees(s, rng, &a, reading.k, count);
+        if rng.chance(1, 2) {
+            say!(s, "flush");
+        }
+        say!(s, "take {p}");
+        if rng.chance(1, 2) {
+            sees(s, rng, &a, reading.k, 4);
+            say!(s, "flush");
+            say!(s, "take {p}");
+        }
+        let mut list = hint_list(rng, &a, reading.k, 60);
+        if rng.chance(1, 15) {
+            list.push((a.start, LIM));
+        }
+        say_hints(s, p, &list);
+        confirmations(s, rng, p, &a, 4);
+        hint_calls(s, rng, p, &a, reading.k, 6);
+        say!(s, "save {p} {}", *rng.pick(&[88, 8192, 20_000]));
+    }
+    if rng.chance(1, 2) {
+        let bytes: Vec<u8> = (0..rng.below(24)).map(|_| rng.below(256) as u8).collect();
+        say!(s, "first_record {}", hex(&bytes));
+    }
+    say!(s, "merge 1 0");
+    say!(s, "reload 1 {}", *rng.pick(&[0, 100, 131_072]));
+    let whole = reading.cut(rng, b, true, 0);
+    plans(s, rng, 0, &whole, 4);
+    plans(s, rng, 1, &whole, 4);
+}

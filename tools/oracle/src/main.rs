@@ -1,0 +1,5 @@
+//! The program of tools/README.md.
+
+fn main() -> std::process::ExitCode {
+    oracle::command()
+}
