@@ -1,0 +1,42 @@
+use Rattle.script.proofs.Laws.{number-none, number-some}
+use Rattle.script.specs.Text.{follow, fold}
+use Rattle.script.specs.declared.Number.{Number}
+use Rattle.script.specs.declared.Number.the-variants.{Value}
+use Rattle.script.proofs.Laws.{fold-turn, fold-done}
+use native.Mathlib.Omega.{arith}
+use Prim.Native.Nat.{_+_, _-_, _≤_, _<_}
+use mathlib.Core.Path.{_≡_, sym, ap, _∙_}
+use lib.ListN.{length, drop}
+use borrow.Author.Needs.{needs}
+use Rattle.script.proofs.decimal.Statement.{statement}
+use Rattle.script.proofs.decimal.Tie as tie
+
+abbrev Inv-loop : tie.InvT-loop
+Inv-loop s x₀ i₀ x i = (i ≤ length s) × (0 < length s) × (fold follow x (drop i s) ≡ fold follow (Value 0) s)
+
+abbrev μ-loop : tie.MeasureT-loop
+μ-loop s x₀ i₀ x i = length s - i
+
+returns : tie.Need-returns Inv-loop μ-loop
+returns c = number-none (c .before .before .args .s .now) (c .if1 .taken)
+
+loop-again : tie.Need-loop-again Inv-loop μ-loop
+loop-again c = (search needs, search needs, ap (λ (x : Number). fold follow x (drop (c .before .before .before .loop .i + 1) (c .before .before .before .before .before .before .args .s .now))) (c .then .ensures) ∙ sym (fold-turn follow (c .before .before .before .loop .x) (c .before .before .before .loop .i) (c .before .before .before .before .before .before .args .s .now) (omega arith)) ∙ c .before .before .before .loop .inv .2)
+
+returns-2 : tie.Need-returns-2 Inv-loop μ-loop
+returns-2 c = sym (fold-done follow (c .before .loop .x) (c .before .loop .i) (c .before .before .before .before .args .s .now) (omega arith)) ∙ c .before .loop .inv .2 ∙ number-some (c .before .before .before .before .args .s .now) (c .before .loop .inv .1)
+
+pub decimal-spec : {M : Type 1} → statement M
+decimal-spec =
+    tie.close
+    (tie.spec
+    Inv-loop
+    μ-loop
+    returns
+    (λ c. search needs)
+    (λ c. search needs)
+    (λ c κs. search needs)
+    (λ c. search needs)
+    (λ c. search needs)
+    loop-again
+    returns-2)

@@ -1,0 +1,37 @@
+use Rattle.script.proofs.Laws.{fold-turn, fold-done}
+use Rattle.script.specs.Output.{Output, output, putPair}
+use Rattle.script.specs.Text.{fold}
+use native.Mathlib.Omega.{arith}
+use Prim.Native.Nat.{_+_, _-_, _≤_}
+use mathlib.Core.Path.{_≡_, sym, ap, _∙_}
+use lib.ListN.{length, drop}
+use borrow.Author.Needs.{needs}
+use Rattle.script.proofs.put_hex.Statement.{statement}
+use Rattle.script.proofs.put_hex.Tie as tie
+
+abbrev Inv-loop : tie.InvT-loop
+Inv-loop out₀ s q₀ i₀ out q i = (i ≤ length s) × (fold putPair (output out q) (drop i s) ≡ fold putPair (output out₀ q₀) s) × (length out ≡ length out₀)
+
+abbrev μ-loop : tie.MeasureT-loop
+μ-loop out₀ s q₀ i₀ out q i = length s - i
+
+loop-again : tie.Need-loop-again Inv-loop μ-loop
+loop-again c = (search needs, ap (λ (x : Output). fold putPair x (drop (c .before .before .before .before .before .before .loop .i + 1) (c .before .before .before .before .before .before .before .before .before .args .s .now))) (c .before .before .put-pair .ensures) ∙ sym (fold-turn putPair (output (c .before .before .before .before .before .before .loop .out) (c .before .before .before .before .before .before .loop .q)) (c .before .before .before .before .before .before .loop .i) (c .before .before .before .before .before .before .before .before .before .args .s .now) (omega arith)) ∙ c .before .before .before .before .before .before .loop .inv .1, search needs)
+
+returns : tie.Need-returns Inv-loop μ-loop
+returns c = sym (fold-done putPair (output (c .before .loop .out) (c .before .loop .q)) (c .before .loop .i) (c .before .before .before .before .args .s .now) (omega arith)) ∙ c .before .loop .inv .1
+
+pub put-hex-spec : {M : Type 1} → statement M
+put-hex-spec =
+    tie.close
+    (tie.spec
+    Inv-loop
+    μ-loop
+    (λ c. search needs)
+    (λ c. search needs)
+    (λ c κs. search needs)
+    (λ c. search needs)
+    (λ c. search needs)
+    loop-again
+    (λ c. search needs)
+    returns)
