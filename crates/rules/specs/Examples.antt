@@ -106,6 +106,10 @@ holding back =
 abbrev pub empty : Index
 empty = emptyIndex (area 1000 1250) 100 100 8 2048
 
+-- with its first checkpoint
+abbrev pub first : Index
+first = indexOf (area 1000 1250) 100 (checkpoint 0 0 0 ∷ []) none Unknown 2048 [] []
+
 abbrev pub two : Index
 two = indexOf (area 0 1000) 100 [] none Unknown 2048 (hintAt 100 10 ∷ []) []
 
@@ -235,6 +239,8 @@ traps =
     ∷ example (hintNumbers (thin 2 (hintAt 10 50 ∷ hintAt 20 8 ∷ hintAt 30 8 ∷ hintAt 40 9 ∷ []))) (20 ∷ 8 ∷ 30 ∷ 8 ∷ [])
     -- a merge that takes an end state only
     ∷ example (numbersOf indexNumbers (merge ample three ample (closed three))) (0 ∷ 3 ∷ 0 ∷ 0 ∷ 0 ∷ 1 ∷ 1 ∷ 2048 ∷ 0 ∷ 0 ∷ [])
+    -- no checkpoint and one have the same frontier; the one is taken
+    ∷ example (numbersOf indexNumbers (merge ample empty ample first)) (0 ∷ 1 ∷ 0 ∷ 0 ∷ 0 ∷ 0 ∷ 1 ∷ 2048 ∷ 0 ∷ 0 ∷ [])
     -- a part with fewer bytes than the last one of its frame is passed over
     ∷ example (length (addPart 100 (storedIn (holding 33)) (shorter 3) .parts) ∷ length (addPart 100 (storedIn (holding 33)) (shorter 2) .parts) ∷ [])
     (2 ∷ 1 ∷ []) ∷ []
