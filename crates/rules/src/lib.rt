@@ -1,5 +1,34 @@
 // The values that document 01 speaks of. A table's lists are defined on values in specs/.
 
+// LIM: one more than the largest frame number of a first record.
+pub const MAX_NEXT_ACCEPTABLE: u32 = 1166881;
+// The most bytes of a held part.
+pub const MAX_FRAME_BYTES: u32 = 65536;
+// The most malformed LSNs of a list.
+pub const MAX_MALFORMED_WARNINGS: u32 = 4096;
+// The most that M may be.
+pub const MAX_HINTS: u32 = 65536;
+// The most hints of one delivered list, and of a hint recorder.
+pub const MAX_LIST: u32 = 65536;
+// The room that a hint table has above M.
+pub const MERGE_ROOM: u64 = 65536;
+
+pub const MAX_INTERVAL: u32 = 65536;
+// The most that an area's end, or a budget, may be.
+pub const MAX_U32: u64 = 4294967295;
+// A part is stored only where back exceeds this.
+pub const REPLAY_SECTORS: u64 = 32;
+// How far below a frame a hint may lie.
+pub const HINT_REACH: u32 = 64;
+// Spacing and M of a version 1 file.
+pub const DEFAULT_HINT_SPACING: u32 = 8;
+
+pub const DEFAULT_MAX_HINTS: u32 = 2048;
+// The bytes of a sector.
+pub const SECTOR_BYTES: usize = 2048;
+// SBSEEKIX, as a number of eight bytes.
+pub const MAGIC: u64 = 6361698709525447251;
+
 // The first record of a sector: a frame number, or none.
 pub enum First {
     Number(u32),
@@ -164,4 +193,59 @@ pub struct AreaIndex {
     pub ending: End,
     pub fingerprint: Fingerprint,
     pub image: ImageId,
+}
+
+// The numbers of a recorder (source: Recorder): its own stretch begins with checkpoint number first. Its lists lie in four lent tables, with these
+// counts.
+pub struct Recorder {
+    pub area: Area,
+    pub interval: u32,
+    pub budget: u64,
+    pub first: u32,
+    pub from: u64,
+    pub checkpoints: u32,
+    pub frames: u32,
+    pub parts: u32,
+    pub mode: Mode,
+}
+
+// A frame under assembly where a checkpoint is recorded; its bytes are lent beside it.
+pub struct Assembling {
+    pub start: u64,
+    pub number: u32,
+    pub kind: FrameKind,
+    pub remaining: i32,
+}
+
+pub enum UnderAssembly {
+    Nothing,
+    Frame(Assembling),
+}
+
+// The number of the hint listed last; none where none was ever listed.
+pub enum LastListed {
+    Never,
+    Number(u32),
+}
+
+// A hint recorder's tail.
+pub enum Tail {
+    Empty,
+    Hint(Hint),
+}
+
+// The numbers of a hint recorder (source: HintRecorder); its list lies in a lent table, with this count.
+pub struct HintRecorder {
+    pub spacing: u32,
+    pub last: LastListed,
+    pub tail: Tail,
+    pub count: u32,
+}
+
+// The answer of hint: LSN, frame number, upper end of the read, and whether a later hint gave it.
+pub struct Hinted {
+    pub lsn: u32,
+    pub number: u32,
+    pub upper: u64,
+    pub later: bool,
 }
