@@ -29,7 +29,7 @@ new l a k budget spacing most =
     let x = emptyIndex a k budget spacing most in
     after (firstNo (ask (question1 x) 1 ∷ ask (question2 x) 2 ∷ ask (question3 l x) 3 ∷ [])) (Accepted x)
 
--- the entry that states a fingerprint (bind_fingerprint): 1 to 4, 15; it is stored if none is held, and checked
+-- the entry that states a fingerprint (bind_fingerprint): 1 to 4, 15; it is stored if none is held, and checked. Behind 15 v is the held one, if any.
 abbrev pub bound : Index → ℕ → Index
 bound x v = record { scan = x .scan; hinting = x .hinting; fingerprint = Checked v; image = x .image }
 

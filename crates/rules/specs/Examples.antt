@@ -1,7 +1,8 @@
 -- The examples of document 01, and some for its traps: what the definitions give, and what it should be.
 use Prim.Native.Nat.{ℕ, _-_}
 use mathlib.Core.Bool.{cond}
-use mathlib.Core.List.{List, [], _∷_}
+use mathlib.Core.Path.{_≡_}
+use mathlib.Core.List.{List, [], _∷_, map}
 use mathlib.Core.Option.{Option, none, some}
 use lib.IntN.{pos, negsuc}
 use lib.ListN.{length, replicate, set, take}
@@ -110,11 +111,12 @@ empty = emptyIndex (area 1000 1250) 100 100 8 2048
 abbrev pub first : Index
 first = indexOf (area 1000 1250) 100 (checkpoint 0 0 0 ∷ []) none Unknown 2048 [] []
 
-abbrev pub two : Index
-two = indexOf (area 0 1000) 100 [] none Unknown 2048 (hintAt 100 10 ∷ []) []
+-- with a hint, and with confirmations
+abbrev pub version2 : Index
+version2 = indexOf (area 0 1000) 100 [] none Unknown 2048 (hintAt 100 10 ∷ []) []
 
-abbrev pub confirmed : Index
-confirmed = indexOf (area 0 1000) 100 [] none (Checked 9) 2048 (hintAt 100 10 ∷ []) (confirmedAt 10 1 1 ∷ confirmedAt 20 1 1 ∷ [])
+abbrev pub version3 : Index
+version3 = indexOf (area 0 1000) 100 [] none (Checked 9) 2048 (hintAt 100 10 ∷ []) (confirmedAt 10 1 1 ∷ confirmedAt 20 1 1 ∷ [])
 
 -- complete, with the end threshold 80
 abbrev pub closed : Index → Index
@@ -138,13 +140,18 @@ unfoldable pub firstNumbers : First → List ℕ
 firstNumbers (Number t) = t ∷ []
 firstNumbers Nothing = []
 
+-- 1 and the value where it is known, else 0
+unfoldable pub knownNumbers : Option ℕ → List ℕ
+knownNumbers none = 0 ∷ []
+knownNumbers (some v) = 1 ∷ v ∷ []
+
 unfoldable pub hintNumbers : List Hint → List ℕ
 hintNumbers [] = []
 hintNumbers (h ∷ hs) = h .lsn ∷ h .number ∷ hintNumbers hs
 
 unfoldable pub confirmedNumbers : List Confirmation → List ℕ
 confirmedNumbers [] = []
-confirmedNumbers (c ∷ cs) = c .lsn ∷ c .threshold ∷ confirmedNumbers cs
+confirmedNumbers (c ∷ cs) = c .lsn ∷ c .threshold ∷ c .digest ∷ confirmedNumbers cs
 
 -- 0 for the start, 1 and the checkpoint's number, or 2 for the end
 unfoldable pub planNumbers : Plan → List ℕ
@@ -179,6 +186,10 @@ pub record Example : Type 0 where
 abbrev pub example : List ℕ → List ℕ → Example
 example f e = record { found = f; expected = e }
 
+-- the statement about a table: each example gives what it should
+abbrev pub Hold : List Example → Type 0
+Hold t = map (λ (e : Example). e .found) t ≡ map (λ (e : Example). e .expected) t
+
 -- what saving gives is loaded under a limit
 abbrev pub reloaded : Index → ℕ → List ℕ
 reloaded x limit = numbersOf indexNumbers (load ample (x .scan .area) (saved x) limit)
@@ -209,7 +220,7 @@ starred =
     ∷ example
     (numbersOf keptNumbers
     (keepConfirmation ample (indexOf (area 0 1000) 100 [] none (Checked 9) 2 [] (confirmedAt 10 1 1 ∷ confirmedAt 20 1 1 ∷ [])) (confirmedAt 5 1 1)))
-    (0 ∷ 1 ∷ 10 ∷ 1 ∷ 20 ∷ 1 ∷ [])
+    (0 ∷ 1 ∷ 10 ∷ 1 ∷ 1 ∷ 20 ∷ 1 ∷ 1 ∷ [])
     -- area 0..1000, playtime 500, hints (100,10) (200,40), frames 45 to 75: (200, 40, 349, no)
     ∷ example
     (numbersOf hintedNumbers (hint ample (indexOf (area 0 1000) 100 [] none Unknown 2048 (hintAt 100 10 ∷ hintAt 200 40 ∷ []) []) 45 75 500))
@@ -229,10 +240,10 @@ traps =
     ∷ numberOf (load ample (empty .scan .area) (set (saved empty) 79 1) 0) ∷ [])
     (20 ∷ 21 ∷ 22 ∷ [])
     -- version 2 by a hint, version 3 by a confirmation
-    ∷ example (reloaded two 32768) (0 ∷ 0 ∷ 0 ∷ 0 ∷ 0 ∷ 0 ∷ 2 ∷ 2048 ∷ 1 ∷ 0 ∷ [])
-    ∷ example (reloaded confirmed 32768) (0 ∷ 0 ∷ 0 ∷ 0 ∷ 0 ∷ 0 ∷ 3 ∷ 2048 ∷ 1 ∷ 2 ∷ [])
+    ∷ example (reloaded version2 32768) (0 ∷ 0 ∷ 0 ∷ 0 ∷ 0 ∷ 0 ∷ 2 ∷ 2048 ∷ 1 ∷ 0 ∷ [])
+    ∷ example (reloaded version3 32768) (0 ∷ 0 ∷ 0 ∷ 0 ∷ 0 ∷ 0 ∷ 3 ∷ 2048 ∷ 1 ∷ 2 ∷ [])
     -- under a limit of 16 one confirmation and the hint stay; the last confirmation is kept
-    ∷ example (reloaded confirmed 16) (0 ∷ 0 ∷ 0 ∷ 0 ∷ 0 ∷ 0 ∷ 3 ∷ 2 ∷ 1 ∷ 1 ∷ [])
+    ∷ example (reloaded version3 16) (0 ∷ 0 ∷ 0 ∷ 0 ∷ 0 ∷ 0 ∷ 3 ∷ 2 ∷ 1 ∷ 1 ∷ [])
     -- a part whose back is 32 loads, in a frame longer than it
     ∷ example (reloaded (holding 32) 32768) (0 ∷ 2 ∷ 1 ∷ 4 ∷ 1 ∷ 0 ∷ 1 ∷ 2048 ∷ 0 ∷ 0 ∷ [])
     -- falling and equal numbers have the largest gap: of those the lowest place goes first

@@ -60,7 +60,7 @@ takeList n r =
     (Accepted (record { list = r .list; recorder = record { spacing = r .spacing; last = r .last; tail = r .tail; list = [] } }))
 
 -- ---- lists in the order of an LSN
--- x into the list; where its LSN is there already, meet of the held one and x
+-- x into the list, whose LSNs rise (question 4); where its LSN is there already, meet of the held one and x
 unfoldable pub insert : {A : Type 0} → (A → ℕ) → (A → A → A) → A → List A → List A
 insert key meet x [] = x ∷ []
 insert key meet x (y ∷ ys) =
@@ -115,7 +115,7 @@ insertAll a hs (x ∷ xs) = insertAll a (cond (inArea a (x .lsn)) (insert hintLs
 unfoldable pub limitedTo : ℕ → List Hint → List Hint
 limitedTo most hs = cond (leb (length hs) most) hs (thin (most - most / 4) hs)
 
--- at M = 0 nothing is kept
+-- at M = 0 nothing is kept: hs is empty then (question 4)
 unfoldable pub joinedHints : Area → ℕ → List Hint → List Hint → List Hint
 joinedHints a most hs list = cond (eqb most 0) hs (limitedTo most (insertAll a hs list))
 
@@ -148,7 +148,7 @@ lastOnes n xs = drop (length xs - n) xs
 abbrev pub keepsNothing : Bool → ℕ → Bool
 keepsNothing checked most = not checked || eqb most 0
 
--- above M the lowest LSN goes
+-- above M the lowest LSN goes: one, since cs has at most M (question 4); where nothing is kept, cs stays
 unfoldable pub keep : Bool → ℕ → List Confirmation → Confirmation → List Confirmation
 keep checked most cs c = cond (keepsNothing checked most) cs (lastOnes most (insert confirmedLsn heldConfirmation c cs))
 
@@ -192,7 +192,7 @@ largestOf p hs (suc n) = cond (p n) (some (largerOf hs (largestOf p hs n) n)) (l
 unfoldable pub near : ℕ → Hint → Bool
 near first h = ltb (h .number) first && leb (first - h .number) hintReach
 
--- confirmed for first
+-- confirmed for first; of one LSN there is one confirmation (question 4)
 unfoldable pub confirmedAt : List Confirmation → ℕ → ℕ → Bool
 confirmedAt [] lsn first = false
 confirmedAt (c ∷ cs) lsn first = (eqb (c .lsn) lsn && leb (c .threshold) first) || confirmedAt cs lsn first
@@ -218,7 +218,7 @@ pub record Density : Type 0 where
   pub sectors : ℕ
   pub frames : ℕ
 
--- between the hint h and the hint before it
+-- between the hint at a place and the hint before it, whose LSN is lower (question 4)
 unfoldable pub densityBefore : List Hint → ℕ → Option Density
 densityBefore hs zero = none
 densityBefore hs (suc i) =
@@ -226,7 +226,7 @@ densityBefore hs (suc i) =
     (some (record { sectors = getD hs (suc i) noHint .lsn - getD hs i noHint .lsn; frames = getD hs (suc i) noHint .number - getD hs i noHint .number }))
     none
 
--- between the hint and the run's last, if 3 frames or more; else before the hint
+-- between the hint at i and the run's last r, if 3 frames or more; else before the hint. The run's numbers exceed the hint's, and its LSNs too (question 4).
 unfoldable pub local : List Hint → ℕ → Option Hint → Option Density
 local hs i none = densityBefore hs i
 local hs i (some r) =
@@ -253,7 +253,8 @@ pub record Hinted : Type 0 where
   pub upper : ℕ
   pub later : Bool
 
--- the range's frames from the hint r on, plus a quarter and 4 sectors; sums saturate
+-- the range's frames from the hint r on, plus a quarter and 4 sectors; sums saturate. Behind 16, since r is numbered below first or below end; a density has
+-- at least one frame.
 unfoldable pub upperEnd : Hint → ℕ → Density → ℕ
 upperEnd r end d =
     let span = (end - r .number) * d .sectors / d .frames in
@@ -269,7 +270,7 @@ hintedLocally a hs i end playtime =
       later = false;
     }
 
--- through the first later hint numbered end or more, if at most 64 frames past it
+-- through the first later hint s, numbered end or more, if at most 64 frames past it
 unfoldable pub hintedLater : Option Hint → ℕ → Hint → Hinted → Hinted
 hintedLater none end h other = other
 hintedLater (some s) end h other =

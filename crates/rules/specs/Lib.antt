@@ -14,3 +14,8 @@ pub mod Load
 pub mod Sizes
 pub mod Run
 pub mod Examples
+pub mod HintRecorderExamples
+pub mod RecorderExamples
+pub mod AbsorbExamples
+pub mod HintExamples
+pub mod MergeExamples

@@ -56,7 +56,7 @@ readFrame a budget s b =
     ∷ ask (leb (8 + numberAt 4 b 4) (length b)) 20 ∷ []))
     (read (record { start = numberAt 4 b 0; bytes = take (numberAt 4 b 4) (drop 8 b) }) (drop (numberAt 4 b 4) (drop 8 b)))
 
--- a part: 24 bytes, its kind, then its rule
+-- a part: 24 bytes, its kind (a byte 0 or 1 and three zero bytes, as one number at most 1), then its rule
 unfoldable pub readPart : Area → ℕ → List Checkpoint → List Frame → Option Held → List ℕ → Answer (Read Held)
 readPart a k cs fs o b =
     after
@@ -203,7 +203,7 @@ readSections a h b =
     (Accepted (indexFrom a h (cs .value) (fs .value) (ps .value) (ms .value) (hs .value) (qs .value))))))))))
 
 -- ---- the whole file
--- all but the last 8 bytes
+-- all but the last 8 bytes; behind 20, which says that there are 8
 abbrev pub bodyIn : List ℕ → List ℕ
 bodyIn b = take (length b - 8) b
 
@@ -224,12 +224,12 @@ fromBytes a b =
     (after (headerNumber a (readHeader (bodyIn b)) (length (drop 80 (bodyIn b)))) (readSections a (readHeader (bodyIn b)) (drop 80 (bodyIn b))))
 
 -- ---- the limit
--- the first frames, as many as fit b bytes together
+-- the first frames, as many as fit b bytes together: what is left where last frames are dropped while they exceed b
 unfoldable pub fitting : ℕ → List Frame → List Frame
 fitting b [] = []
 fitting b (f ∷ fs) = cond (leb (length (f .bytes)) b) (f ∷ fitting (b - length (f .bytes)) fs) []
 
--- the first parts, up to one whose frame is not among the first n
+-- the parts whose frame is among the first n: the first ones, since a part's frame is never below that of the part before it (32)
 unfoldable pub within : ℕ → List Held → List Held
 within n [] = []
 within n (p ∷ ps) = cond (ltb (p .frame) n) (p ∷ within n ps) []
@@ -248,7 +248,7 @@ limitedScan limit x =
       malformed = x .malformed;
     }
 
--- M at most limit/8, the hints thinned to M, the last min(M, limit/16) confirmations
+-- M at most limit/8, the hints thinned to M, the last min(M, limit/16) confirmations; the divisions round down
 abbrev pub limitedHinting : ℕ → Hinting → Hinting
 limitedHinting limit r =
     record {

@@ -1,16 +1,17 @@
 -- Document 01, "Index": merge, and questions 41 to 43.
 use Prim.Native.Nat.{ℕ}
 use mathlib.Core.Bool.{Bool, _&&_, _||_, not, cond}
-use mathlib.Core.List.{List, [], _∷_}
+use mathlib.Core.List.{List, [], _∷_, _++_}
 use mathlib.Core.Option.{Option, none, some}
 use lib.Dec.{eqb, ltb}
+use lib.ListN.{drop}
 use Rattle.rules.specs.declared.Area.{Area}
 use Rattle.rules.specs.declared.Fingerprint.{Fingerprint}
 use Rattle.rules.specs.declared.Fingerprint.the-variants.{Unknown, Checked}
 use Rattle.rules.specs.declared.Fingerprint.the-variants as fingerprint
 use Rattle.rules.specs.Tests.{all, orElse, agree, agrees, Answer, Accepted, after, ask, firstNo}
 use Rattle.rules.specs.Values.{Scan, Hinting, Index, Lengths, complete, count, stated, isChecked, sameArea, sameCheckpoint, sameEnd}
-use Rattle.rules.specs.Questions.{question1, question2, question3, question4}
+use Rattle.rules.specs.Questions.{both, askFour, fourOf}
 use Rattle.rules.specs.PartRule.{Stored, addParts}
 use Rattle.rules.specs.Hints.{joinedHints, keepAll}
 
@@ -36,14 +37,14 @@ further own other = not (complete own) && (complete other || ltb (count own) (co
 abbrev pub mergedStored : Scan → Scan → Stored
 mergedStored own other = addParts (own .budget) (other .frames) (count own) (other .parts) (record { frames = own .frames; parts = own .parts })
 
--- the rest appended with its parts, and the other's end state and malformed list; question 43 makes its first checkpoints the own ones
+-- the rest appended with its parts, and the other's end state and malformed list
 abbrev pub takenScan : Scan → Scan → Scan
 takenScan own other =
     record {
       area = own .area;
       interval = own .interval;
       budget = own .budget;
-      checkpoints = other .checkpoints;
+      checkpoints = own .checkpoints ++ drop (count own) (other .checkpoints);
       frames = mergedStored own other .frames;
       parts = mergedStored own other .parts;
       ending = other .ending;
@@ -63,7 +64,7 @@ mergedFingerprint Unknown g = heldFrom (stated g)
 mergedFingerprint (fingerprint.Held v) g = fingerprint.Held v
 mergedFingerprint (Checked v) g = Checked v
 
--- hints and confirmations by their rules
+-- hints and confirmations by their rules, without 13 and 14: question 4 of the other answers them
 abbrev pub mergedHinting : Area → Bool → Hinting → Hinting → Hinting
 mergedHinting a checked own other =
     record {
@@ -86,8 +87,8 @@ merged own other =
 unfoldable pub mergeNumber : Lengths → Index → Lengths → Index → ℕ
 mergeNumber l own m other =
     firstNo
-    (ask (question1 own && question1 other) 1 ∷ ask (question2 own && question2 other) 2 ∷ ask (question3 l own && question3 m other) 3
-    ∷ ask (question4 own && question4 other) 4 ∷ ask (question41 own other) 41 ∷ ask (question42 own other) 42 ∷ ask (question43 own other) 43 ∷ [])
+    (askFour (both (fourOf l own) (fourOf m other))
+    (ask (question41 own other) 41 ∷ ask (question42 own other) 42 ∷ ask (question43 own other) 43 ∷ []))
 
 -- the call: the own index afterwards
 unfoldable pub merge : Lengths → Index → Lengths → Index → Answer Index

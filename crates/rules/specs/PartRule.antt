@@ -24,6 +24,7 @@ pub record Piece : Type 0 where
   pub kind : FrameKind
   pub remaining : ℤ
 
+-- question 4 makes the last frame that of the last part
 abbrev pub lastFrame : Stored → Frame
 lastFrame h = lastOr noFrame (h .frames)
 
@@ -40,7 +41,7 @@ joins h p =
     all (eqb (lastFrame h .start) (p .start) ∷ eqb (lastPart h .number) (p .number) ∷ sameKind (lastPart h .kind) (p .kind)
     ∷ leb (lastPart h .len) (length (p .bytes)) ∷ agrees eqb (lastFrame h .bytes) (p .bytes) ∷ [])
 
--- the bytes that the part adds, shared bytes counted once
+-- the bytes that the part adds, shared bytes counted once: none where the frame holds no fewer
 unfoldable pub growth : Stored → Piece → ℕ
 growth h p = cond (opens h p) (length (p .bytes)) (length (p .bytes) - length (lastFrame h .bytes))
 
@@ -59,7 +60,7 @@ opened h p =
       parts = h .parts ++ (partOf p (length (h .frames)) ∷ []);
     }
 
--- in the last frame, which holds the longer of the two
+-- in the last frame, which holds the longer of the two; by question 4 there is one where there is a part
 abbrev pub grown : Stored → Piece → Stored
 grown h p =
     record {
@@ -73,7 +74,7 @@ grown h p =
 unfoldable pub addPart : ℕ → Stored → Piece → Stored
 addPart budget h p = cond (stores budget h p) (cond (opens h p) (opened h p) (grown h p)) h
 
--- a part of frames fs, as it is handed over
+-- a part of frames fs, as it is handed over; by question 4 its frame is there and has its bytes
 abbrev pub piece : List Frame → Held → Piece
 piece fs p =
     record {

@@ -1,6 +1,6 @@
 -- Questions 1 to 4, which every call on an index or a recorder asks.
 use Prim.Native.Nat.{ℕ, _+_}
-use mathlib.Core.Bool.{Bool, true, _||_, not}
+use mathlib.Core.Bool.{Bool, true, _&&_, _||_, not}
 use mathlib.Core.List.{List, [], _∷_}
 use mathlib.Core.Option.{Option, none, some}
 use lib.Dec.{eqb, leb}
@@ -64,9 +64,27 @@ question3 l x =
 unfoldable pub question4 : Index → Bool
 question4 x = all (scanOk (x .scan) ∷ hintingOk (x .scan .area) (x .fingerprint) (x .hinting) ∷ [])
 
--- 1 to 4 of an index in its tables
+-- ---- the answers to 1 to 4 of one object
+pub record Four : Type 0 where
+  pub one : Bool
+  pub two : Bool
+  pub three : Bool
+  pub four : Bool
+
+-- of two objects: each question is asked of both before the next one is asked of either
+abbrev pub both : Four → Four → Four
+both p q = record { one = p .one && q .one; two = p .two && q .two; three = p .three && q .three; four = p .four && q .four }
+
+-- 1 to 4, and then qs
+abbrev pub askFour : Four → List Ask → List Ask
+askFour p qs = ask (p .one) 1 ∷ ask (p .two) 2 ∷ ask (p .three) 3 ∷ ask (p .four) 4 ∷ qs
+
+-- of an index in tables of the lengths l
+abbrev pub fourOf : Lengths → Index → Four
+fourOf l x = record { one = question1 x; two = question2 x; three = question3 l x; four = question4 x }
+
 abbrev pub four : Lengths → Index → List Ask → List Ask
-four l x qs = ask (question1 x) 1 ∷ ask (question2 x) 2 ∷ ask (question3 l x) 3 ∷ ask (question4 x) 4 ∷ qs
+four l x qs = askFour (fourOf l x) qs
 
 -- ---- of a recorder, over its own stretch
 -- the end state that a recorder has
@@ -92,9 +110,12 @@ recorderQuestion4 r =
     ∷ heldOk (r .area) (r .interval) (r .budget) (r .first) (r .checkpoints) (r .frames) (r .parts)
     ∷ endingOk (r .area) (r .checkpoints) (endOf (r .mode)) ∷ [])
 
+abbrev pub recorderFourOf : Lengths → Recorder → Four
+recorderFourOf l r =
+    record { one = recorderQuestion1 r; two = recorderQuestion2 r; three = recorderQuestion3 l r; four = recorderQuestion4 r }
+
 abbrev pub recorderFour : Lengths → Recorder → List Ask → List Ask
-recorderFour l r qs =
-    ask (recorderQuestion1 r) 1 ∷ ask (recorderQuestion2 r) 2 ∷ ask (recorderQuestion3 l r) 3 ∷ ask (recorderQuestion4 r) 4 ∷ qs
+recorderFour l r qs = askFour (recorderFourOf l r) qs
 
 -- ---- of a hint recorder, whose list has space for n hints
 abbrev pub hintRecorderFour : ℕ → HintRecorder → List Ask → List Ask

@@ -17,7 +17,7 @@ use Rattle.rules.specs.declared.Mode.the-variants.{Running, Finished, St
 use Rattle.rules.specs.Tests.{all, isSome, orElse, agree, agrees, Answer, Accepted, after, ask, firstNo}
 use Rattle.rules.specs.Values.{Scan, Index, Recorder, Lengths, lim, maxMalformed, max32, replaySectors, boundaries, lsnOf, count, frontier, counted, lastCheckpoint, sameArea, sameEnd}
 use Rattle.rules.specs.Sections.{endOk, rising, ownLsn, anyLsn}
-use Rattle.rules.specs.Questions.{question1, question2, question3, question4, recorderQuestion1, recorderQuestion2, recorderQuestion3, recorderQuestion4, recorderFour, endOf}
+use Rattle.rules.specs.Questions.{question4, both, askFour, fourOf, recorderFourOf, recorderFour, endOf}
 use Rattle.rules.specs.PartRule.{Stored, Piece, addPart, addParts}
 
 -- ---- record
@@ -54,7 +54,7 @@ unfoldable pub question7 : Recorder → ℕ → Option Assembling → Bool
 question7 r lsn none = true
 question7 r lsn (some f) = all (leb (r .area .start) (f .start) ∷ ltb (f .start) lsn ∷ ltb (f .number) lim ∷ [])
 
--- no frame under assembly: back 0; else LSN − frame start
+-- no frame under assembly: back 0; else LSN − frame start, which 7 keeps above 0
 unfoldable pub backOf : ℕ → Option Assembling → ℕ
 backOf lsn none = 0
 backOf lsn (some f) = lsn - f .start
@@ -135,12 +135,12 @@ question9 x r = all (sameArea (x .scan .area) (r .area) ∷ eqb (x .scan .interv
 unfoldable pub question10 : Index → Recorder → Bool
 question10 x r = all (leb (r .from) (frontier (x .scan)) ∷ leb (r .first) (count (x .scan)) ∷ [])
 
--- 11: thresholds, malformed counts and end state agree where both have them?
+-- 11: thresholds, malformed counts and end state agree where both have them? Behind 10: the recorder's first checkpoint is the index's number first.
 unfoldable pub question11 : Index → Recorder → Bool
 question11 x r =
     all (agrees sameCounts (drop (r .first) (x .scan .checkpoints)) (r .checkpoints) ∷ agree sameEnd (x .scan .ending) (endOf (r .mode)) ∷ [])
 
--- the LSNs below a bound
+-- the LSNs below a bound; of a rising list (12) they are the first ones, which the source takes (take_while)
 unfoldable pub below : ℕ → List ℕ → List ℕ
 below b [] = []
 below b (l ∷ ls) = cond (ltb l b) (l ∷ below b ls) (below b ls)
@@ -149,7 +149,8 @@ below b (l ∷ ls) = cond (ltb l b) (l ∷ below b ls) (below b ls)
 abbrev pub takenStored : Scan → Recorder → Stored
 takenStored x r = addParts (x .budget) (r .frames) (count x) (r .parts) (record { frames = x .frames; parts = x .parts })
 
--- the scan with the recorder's further checkpoints and end state; its malformed list is ms
+-- the scan with the recorder's further checkpoints and end state; its malformed list is ms. Behind 10, which keeps count − first from falling below 0,
+-- and 4: a finished recorder has passed every boundary.
 abbrev pub joined : Scan → Recorder → List ℕ → Scan
 joined x r ms =
     record {
@@ -189,7 +190,7 @@ question12 x r image ms =
     || all (rising ownLsn anyLsn 0 (max32 + 1) ms ∷ sameBytes (take (length (x .scan .malformed)) ms) (x .scan .malformed)
     ∷ eqb (length (y .malformed)) (min (counted (y .checkpoints) (y .ending)) maxMalformed) ∷ question4 (absorbedIndex x r image ms) ∷ [])
 
--- emptied, and stopped if finished
+-- the mode of an emptied recorder: stopped if finished
 unfoldable pub drained : Mode → Mode
 drained Running = Running
 drained (Finished e) = Stopped
@@ -224,10 +225,10 @@ pub record Absorbed : Type 0 where
 abbrev pub absorbNumber : Lengths → Index → Lengths → Recorder → Option ℕ → List ℕ → ℕ
 absorbNumber l x m r image ms =
     firstNo
-    (ask (question1 x && recorderQuestion1 r) 1 ∷ ask (question2 x && recorderQuestion2 r) 2 ∷ ask (question3 l x && recorderQuestion3 m r) 3
-    ∷ ask (question4 x && recorderQuestion4 r) 4 ∷ ask (isStopped (r .mode) || question8 x image) 8 ∷ ask (isStopped (r .mode) || question9 x r) 9
+    (askFour (both (fourOf l x) (recorderFourOf m r))
+    (ask (isStopped (r .mode) || question8 x image) 8 ∷ ask (isStopped (r .mode) || question9 x r) 9
     ∷ ask (isStopped (r .mode) || question10 x r) 10 ∷ ask (isStopped (r .mode) || question11 x r) 11
-    ∷ ask (isStopped (r .mode) || question12 x r image ms) 12 ∷ [])
+    ∷ ask (isStopped (r .mode) || question12 x r image ms) 12 ∷ []))
 
 abbrev pub absorbedBy : ℕ → Index → Recorder → Option ℕ → List ℕ → Absorbed
 absorbedBy n x r image ms =

@@ -72,7 +72,8 @@ follows (some q) p =
     || eqb (p .frame) (suc (q .frame)))
     ∷ [])
 
--- does p belong to checkpoint c, with a frame under assembly, and to frame f, which starts where that frame does?
+-- does p belong to checkpoint c, with a frame under assembly, and to frame f, which starts where that frame does? The checkpoint's rule, asked
+-- beside this (in loading before it, 31), keeps its LSN − back from falling below the start.
 unfoldable pub belongs : Area → ℕ → Held → Checkpoint → Frame → Bool
 belongs a k p c f = all (ltb 0 (c .back) ∷ eqb (lsnOf a k (p .at) - c .back) (f .start) ∷ leb (p .len) (length (f .bytes)) ∷ [])
 
@@ -89,7 +90,7 @@ reached ps = cond (eqb (length ps) 0) 0 (suc (lastOr noHeld ps .frame))
 unfoldable pub partsOk : Area → ℕ → ℕ → List Checkpoint → List Frame → List Held → Bool
 partsOk a k first cs fs ps = all (walk (partOk a k first cs fs) (λ o p. some p) none ps ∷ eqb (reached ps) (length fs) ∷ [])
 
--- ---- the end state, after the last checkpoint c
+-- ---- the end state, after the last checkpoint c; behind question 1, which keeps end − start from falling below 0
 unfoldable pub endOk : Area → Checkpoint → EndState → Bool
 endOk a c e =
     all (leb (c .threshold) (e .threshold) ∷ leb (e .threshold) lim ∷ leb (c .malformed) (e .malformed) ∷ leb (e .malformed) (a .end - a .start) ∷ [])

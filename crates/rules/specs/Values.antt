@@ -153,7 +153,7 @@ frameAt fs i = getD fs i noFrame
 abbrev pub lastCheckpoint : List Checkpoint → Checkpoint
 lastCheckpoint cs = lastOr noCheckpoint cs
 
--- the bytes of a part
+-- the bytes of a part, len of them where question 4 holds: its frame has at least len
 abbrev pub partBytes : List Frame → Held → List ℕ
 partBytes fs p = take (p .len) (frameAt fs (p .frame) .bytes)
 
@@ -163,7 +163,7 @@ used [] = 0
 used (f ∷ fs) = length (f .bytes) + used fs
 
 -- ---- the area's geometry
--- how many boundaries the area has
+-- how many boundaries the area has; behind questions 1 and 2: start is at most end, and the interval is not 0
 unfoldable pub boundaries : Area → ℕ → ℕ
 boundaries a k = (a .end - a .start + k - 1) / k
 
@@ -171,7 +171,7 @@ boundaries a k = (a .end - a .start + k - 1) / k
 abbrev pub lsnOf : Area → ℕ → ℕ → ℕ
 lsnOf a k j = a .start + j * k
 
--- the frontier of a list of n checkpoints
+-- the frontier of a list of n checkpoints; without one, n − 1 is 0 and the frontier the start
 unfoldable pub frontierOf : Area → ℕ → ℕ → Option EndState → ℕ
 frontierOf a k n none = lsnOf a k (n - 1)
 frontierOf a k n (some e) = a .end
