@@ -214,7 +214,7 @@ unfolding unsigned32
 signed-cases true v q h = (refl, ltb-true v 2147483648 q)
 signed-cases false v q h = let g : 2147483648 ≤ v = ltb-false v 2147483648 q in (omega arith, omega arith)
 
-signed-forth : (v : ℕ) → v ≤ max32 → (unsigned32 (signed32 v) ≡ v) × (mag (signed32 v) < 2147483648)
+pub signed-forth : (v : ℕ) → v ≤ max32 → (unsigned32 (signed32 v) ≡ v) × (mag (signed32 v) < 2147483648)
 unfolding signed32
 signed-forth v h = signed-cases (ltb v 2147483648) v refl h
 

@@ -2,7 +2,7 @@
 use mathlib.Core.Path.{_≡_, refl, sym}
 use mathlib.Core.Bool.{Bool, true, false, cond}
 use mathlib.Core.List.{List, [], _∷_}
-use Prim.Native.Nat.{ℕ, _+_, _*_}
+use Prim.Native.Nat.{ℕ, _+_, _*_, _≤_}
 use native.Mathlib.Omega.{arith}
 use lib.Dec.{leb}
 use lib.ListN.{length, length-append}
@@ -10,7 +10,6 @@ use Rattle.field.specs.Records.{bytesOf}
 use Rattle.field.proofs.Number.{encode-length}
 use Rattle.rules.specs.Values.{Frame, Index, used}
 use Rattle.rules.specs.File.{encodeCheckpoint, encodeFrame, encodeHeld, encodeLsn, encodeHint, encodeConfirmation, versionOf, hintSection, confirmedSection, bodyOf, saved, savedLength}
-use Rattle.filelaws.specs.Statements.{SavedLength}
 use Rattle.filelaws.proofs.Layouts.{checkpoint-layout, lsn-layout, hint-layout, confirmation-layout, header-length, held-length}
 use Rattle.filelaws.proofs.Readers.{frame-length}
 
@@ -56,6 +55,6 @@ module _ (x : Index) where
       rw (length-append, header-length, length-append, length-checkpoints, length-append, length-frames, length-append, length-parts, length-append, length-malformed, length-append, length-hints, length-confirmed)
       (omega arith)
 
-pub savedLength-is : SavedLength
+pub savedLength-is : (x : Index) → (savedLength x ≡ length (saved x)) × (88 ≤ savedLength x)
 unfolding saved savedLength
 savedLength-is x = (sym (rw (length-append, encode-length) (length-body x)), omega arith)

@@ -3,7 +3,7 @@ use mathlib.Core.Path.{_≡_, refl, ap}
 use mathlib.Core.Bool.{true}
 use mathlib.Core.List.{List, [], _∷_}
 use mathlib.Core.Option.{none, some}
-use Prim.Native.Nat.{ℕ, _+_, _-_, _/_, _≤_, min}
+use Prim.Native.Nat.{ℕ, _+_, _-_, _/_, _≤_, min, _*_}
 use native.Mathlib.Nat.{sub-zero}
 use native.Mathlib.Omega.{arith}
 use borrow.Author.Tests.{le-leb}
@@ -15,13 +15,13 @@ use Rattle.rules.specs.declared.Fingerprint.{Fingerprint}
 use Rattle.rules.specs.declared.Fingerprint.the-variants.{Unknown, Checked}
 use Rattle.rules.specs.declared.Fingerprint.the-variants as fingerprint
 use Rattle.rules.specs.declared.Held.{Held}
-use Rattle.rules.specs.Tests.{walk}
-use Rattle.rules.specs.Values.{Frame, Index}
+use Rattle.rules.specs.Tests.{walk, Accepted}
+use Rattle.rules.specs.Values.{Frame, Index, Lengths}
 use Rattle.rules.specs.Sections.{Filled, unfilled, framesOk, partOk, partsOk}
-use Rattle.rules.specs.Questions.{question1, question4}
+use Rattle.rules.specs.Questions.{question1, question4, question3}
 use Rattle.rules.specs.Hints.{lastOnes}
 use Rattle.rules.specs.Load.{fitting, within, unmarked, limited, load}
-use Rattle.filelaws.specs.Statements.{stripped, LimitedLoad, LargeLimit}
+use Rattle.filelaws.specs.Statements.{stripped, Savable}
 use Rattle.rules.proofs.Tests.{all→, →asked, →bind}
 use Rattle.rules.proofs.Walk.{walk-head, walk-tail, walk-each}
 use Rattle.scanlaws.proofs.Parts.{frameIn, fill, frame→}
@@ -29,6 +29,7 @@ use Rattle.hintlaws.proofs.Thinning.{thin-few}
 use Rattle.hintlaws.proofs.Closure.{hinting→}
 use Rattle.filelaws.proofs.Facts.{scanOk→}
 use Rattle.filelaws.proofs.Saved.{load-of-save}
+use Rattle.rules.specs.File.{saved}
 
 unmarked-twice : (v : Fingerprint) → unmarked (unmarked v) ≡ unmarked v
 unfolding unmarked
@@ -40,7 +41,8 @@ pub limited-stripped : (limit : ℕ) (x : Index) → limited limit (stripped x) 
 unfolding limited
 limited-stripped limit x = rw (unmarked-twice (x .fingerprint))
 
-pub limited-load : LimitedLoad
+pub limited-load : (l : Lengths) (limit : ℕ) (x : Index) → Savable x → question3 l (limited limit x) ≡ true
+    → load l (x .scan .area) (saved x) limit ≡ Accepted (limited limit x)
 unfolding load question1
 limited-load l limit x s q =
     →asked _ (s .one, tt) (→bind _ (load-of-save x s) (rw (limited-stripped limit x) (→asked _ (q, tt) refl)))
@@ -64,7 +66,7 @@ unfolding within
 within-all n nothing = refl
 within-all n (one {x = p} h hs) = rw h (ap (_∷_ p) (within-all n hs))
 
-pub large-limit : LargeLimit
+pub large-limit : (limit : ℕ) (x : Index) → question4 x ≡ true → x .scan .budget ≤ limit → 16 * x .hinting .most ≤ limit → limited limit x ≡ stripped x
 unfolding limited question4 framesOk partsOk partOk
 large-limit limit x q b m =
     let g = all→ _ q in

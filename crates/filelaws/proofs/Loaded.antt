@@ -30,7 +30,7 @@ use Rattle.rules.specs.File.{readHeader, headerValues, headerBytes, magicBytes,
 use Rattle.rules.specs.declared.HintHeader.{HintHeader}
 use Rattle.rules.specs.Load.{adds, isComplete, hasFingerprint, keyOf, endingOf, headerNumber, endNumber, indexFrom, bodyIn, sumIn, fileNumber, fromBytes}
 use Rattle.hintlaws.proofs.Closure.{HintingIs, →hinting}
-use Rattle.filelaws.specs.Statements.{Savable, OwnBytes, LoadedValid}
+use Rattle.filelaws.specs.Statements.{Savable}
 use Rattle.rules.proofs.Tests.{nil-of, or-move, some-or, test, and-left, and-right, each-map, →all, Asked, asked, after→, asked→}
 use Rattle.rules.proofs.Same.{sameKey-eq}
 use Rattle.filelaws.proofs.Reading.{behind}
@@ -280,14 +280,14 @@ whole a b x by q =
       parsed = sections-forth a (readHeader (bodyIn b)) (drop 80 (bodyIn b)) x (bytes-drop (bodyIn b) 80 (bytes-take b (length b - 8) by)) (w .1);
     }
 
-pub loaded-valid : LoadedValid
+pub loaded-valid : (a : Area) (b : List ℕ) (x : Index) → Bytes b → areaOk a ≡ true → fromBytes a b ≡ Accepted x → Savable x
 unfolding loaded
 loaded-valid a b x by o q =
     let w = whole a b x by q in
     let c = bodyIn b in
     subst Savable (w .parsed .is) (savable a (readHeader c) (drop 80 c) x (w .parsed) (w .header) o (header-fit c (bytes-take b (length b - 8) by)))
 
-pub own-bytes : OwnBytes
+pub own-bytes : (a : Area) (b : List ℕ) (x : Index) → Bytes b → fromBytes a b ≡ Accepted x → saved x ≡ b
 unfolding loaded saved bodyOf
 own-bytes a b x by q =
     let w = whole a b x by q in

@@ -15,15 +15,19 @@ use Rattle.field.proofs.Fields.{fieldBytes-bytes}
 use Rattle.field.proofs.Format.{Each, none, one, bytesOf-bytes}
 use Rattle.fnv.specs.Fnv.{fnv64}
 use Rattle.rules.specs.Values.{Index}
-use Rattle.rules.specs.Questions.{hintingOk, question1, question4}
+use Rattle.rules.specs.Questions.{hintingOk, question1, question4, question2}
 use Rattle.rules.specs.File.{headerBytes, headerOf, encodeCheckpoint, encodeFrame, encodeHeld, encodeLsn, versionOf, hintSection, confirmedSection, bodyOf, saved}
 use Rattle.hintlaws.proofs.Closure.{unmarked-stated}
-use Rattle.filelaws.specs.Statements.{stripped, Question4IsLoading}
+use Rattle.filelaws.specs.Statements.{stripped}
 use Rattle.filelaws.proofs.Layouts.{checkpoint-layout, lsn-layout, hint-layout, confirmation-layout, header-bytes, held-bytes, hintWidths, hintValues, hintBytes}
 use Rattle.filelaws.proofs.Readers.{frame-bytes}
 use Rattle.filelaws.proofs.Facts.{SizeFacts, sized→}
 use Rattle.filelaws.proofs.Saved.{hintHeaderOf, hint-bytes, confirmed-bytes, load-of-save}
 use Rattle.filelaws.proofs.Loaded.{loaded-valid}
+use Rattle.rules.specs.Tests.{Accepted}
+use mathlib.Core.Logic.{_↔_}
+use Rattle.rules.specs.Sizes.{sized}
+use Rattle.rules.specs.Load.{fromBytes}
 
 -- ---- a saved list is bytes
 bytes-each-of : {A : Type 0} {P : A → Type 0} (e : A → List ℕ) → ((x : A) → P x → Bytes (e x)) → {xs : List A} → Each P xs → Bytes (bytesOf e xs)
@@ -54,7 +58,8 @@ pub four-stripped : (x : Index) → question4 (stripped x) ≡ question4 x
 unfolding question4 hintingOk
 four-stripped x = rw (unmarked-stated (x .fingerprint))
 
-pub question4-is-loading : Question4IsLoading
+pub question4-is-loading : (x : Index) → question1 x ≡ true → question2 x ≡ true → sized x ≡ true
+    → (question4 x ≡ true) ↔ (fromBytes (x .scan .area) (saved x) ≡ Accepted (stripped x))
 unfolding question1
 question4-is-loading x o t s = (
   (λ q. load-of-save x (record { one = o; two = t; four = q; sizes = s })),

@@ -30,7 +30,7 @@ use Rattle.rules.specs.declared.Header.{Header}
 use Rattle.rules.specs.File.{readHeader, headerBytes, magicBytes, encodeCheckpoint, encodeFrame, encodeHeld, encodeLsn, encodeHint, encodeConfirmation, endOrZero, orZero, hasConfirmed, hasHinting, versionOf, headerOf, hintSection, confirmedSection, bodyOf, saved, savedLength}
 use Rattle.rules.specs.declared.HintHeader.{HintHeader}
 use Rattle.rules.specs.Load.{read, hasFingerprint, headerNumber, endNumber, decodeHintHeader, noHintHeader, adds, hintNumber, HintSection, readHintSection, confirmedNumber, readConfirmedSection, readCheckpoints, readFrames, readParts, readMalformed, indexFrom, readSections, bodyIn, sumIn, fileNumber, unmarked, fromBytes}
-use Rattle.filelaws.specs.Statements.{stripped, LoadOfSave}
+use Rattle.filelaws.specs.Statements.{stripped, Savable}
 use Rattle.rules.proofs.Tests.{each-both, each-map, nil-of, or-none, or-move, some-or, never, test, all→, →all, and-left, and-right, both, asks, →after, →asked, →bind}
 use Rattle.rules.proofs.Walk.{rising-each}
 use Rattle.scanlaws.proofs.Parts.{fill}
@@ -274,7 +274,7 @@ file-back a b h r l e m d n =
     let k : 8 ≤ length (summed b) = let q = summed-length b in omega arith in
     rw (body-in b, sum-in b, e, d) (→asked _ (le-leb 8 _ k, (both (le-leb 80 (length b) l) (eq-eqb _ _ m), (eq-eqb (fnv64 b) (fnv64 b) refl, tt))) (→after n refl))
 
-pub load-of-save : LoadOfSave
+pub load-of-save : (x : Index) → Savable x → fromBytes (x .scan .area) (saved x) ≡ Accepted (stripped x)
 unfolding saved summed headerOf
 load-of-save x s =
     let f = facts x s in

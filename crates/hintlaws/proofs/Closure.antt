@@ -16,20 +16,28 @@ use Rattle.rules.specs.declared.Fingerprint.the-variants.{Unknown, Checked}
 use Rattle.rules.specs.declared.Fingerprint.the-variants as fingerprint
 use Rattle.rules.specs.declared.Hint.{Hint}
 use Rattle.rules.specs.Tests.{isSome, orElse}
-use Rattle.rules.specs.Values.{Hinting, maxHints, maxList, mergeRoom, stated, isChecked}
+use Rattle.rules.specs.Values.{Hinting, maxHints, maxList, mergeRoom, stated, isChecked, max32, max64, Lengths}
 use Rattle.rules.specs.Sections.{hintLsn, hintOk, hintsOk, confirmedLsn, confirmationOk, confirmationsOk}
 use Rattle.rules.specs.Questions.{hintingOk, hintingRoom}
-use Rattle.rules.specs.Hints.{lastOnes, withHints, question13}
+use Rattle.rules.specs.Hints.{lastOnes, withHints, question13, question14, keep, withConfirmed}
 use Rattle.rules.specs.Merge.{heldFrom, mergedFingerprint, mergedHinting}
 use Rattle.rules.specs.Load.{limitedHinting, unmarked}
 use Rattle.rules.specs.Sizes.{hintingSized, knownSized}
-use Rattle.hintlaws.specs.Statements.{keptHinting, newHinting, AddHintsOk, KeepOk, MergeOk, LimitOk, BindOk, NewOk, AddHintsSized, KeepSized, MergeSized, LimitSized, NewSized, MergeKnown, UnmarkedStated, MergeRoom, LimitRoom}
 use Rattle.rules.proofs.Tests.{test, never, and-right, all→, →all, or-cases, or-left, or-right}
 use Rattle.hintlaws.proofs.Lists.{sub-last, last-length, Passes, each→, →each, all-sub, all-map}
 use Rattle.hintlaws.proofs.Rising.{rising-none, rising-each}
 use Rattle.hintlaws.proofs.Thinning.{thin-length}
 use Rattle.hintlaws.proofs.Hints.{hints-thin, joined-ok, joined-length}
 use Rattle.hintlaws.proofs.Confirmations.{digestSized, keep-length, keepAll-length, keep-ok, keepAll-ok, keep-sized, keepAll-sized, keep-none, keepAll-none, confirmed-pass, confirmed-sub}
+use Rattle.rules.specs.Create.{emptyIndex}
+
+-- the hinting after keep_confirmation
+abbrev pub keptHinting : Fingerprint → Hinting → Confirmation → Hinting
+keptHinting f r c = withConfirmed r (keep (isChecked f) (r .most) (r .confirmed) c)
+
+-- the hinting of a new index
+abbrev pub newHinting : Area → ℕ → ℕ → ℕ → ℕ → Hinting
+newHinting a k budget spacing most = emptyIndex a k budget spacing most .hinting
 
 -- ---- question 4 as facts
 pub record HintingIs (a : Area) (f : Fingerprint) (r : Hinting) : Type 0 where
@@ -88,7 +96,7 @@ unchecked : (f : Fingerprint) (most : ℕ) → isChecked f ≡ false → (not (i
 unchecked f most e = rw e
 
 -- ---- question 4
-pub add-hints-ok : AddHintsOk
+pub add-hints-ok : (a : Area) (f : Fingerprint) (r : Hinting) (list : List Hint) → question13 list ≡ true → hintingOk a f r ≡ true → hintingOk a f (withHints a r list) ≡ true
 unfolding question13
 add-hints-ok a f r list q e =
     let h = hinting→ a f r e in
@@ -102,7 +110,7 @@ add-hints-ok a f r list q e =
       known = h .known;
     })
 
-pub keep-hinting-ok : KeepOk
+pub keep-hinting-ok : (a : Area) (f : Fingerprint) (r : Hinting) (c : Confirmation) → question14 a c ≡ true → hintingOk a f r ≡ true → hintingOk a f (keptHinting f r c) ≡ true
 keep-hinting-ok a f r c q e =
     let h = hinting→ a f r e in
     →hinting a f (keptHinting f r c)
@@ -119,7 +127,8 @@ hints-pass : (a : Area) (hs : List Hint) → hintsOk a hs ≡ true → Passes hi
 unfolding hintsOk
 hints-pass a hs e = all-map _ (λ h. hintOk h ≡ true) (λ h u. u .1 .1) hs (rising-each hintLsn hintOk (a .start) (a .end) hs e)
 
-pub merge-ok : MergeOk
+pub merge-ok : (a : Area) (f g : Fingerprint) (own other : Hinting) → hintingOk a f own ≡ true → hintingOk a g other ≡ true
+    → hintingOk a (mergedFingerprint f g) (mergedHinting a (isChecked f) own other) ≡ true
 merge-ok a f g own other e d =
     let h = hinting→ a f own e in let k = hinting→ a g other d in
     →hinting a (mergedFingerprint f g) (mergedHinting a (isChecked f) own other)
@@ -133,13 +142,13 @@ merge-ok a f g own other e d =
           (λ z. keepAll-none (isChecked f) (own .most) (unchecked f (own .most) z) (own .confirmed) (other .confirmed));
     })
 
-pub unmarked-stated : UnmarkedStated
+pub unmarked-stated : (f : Fingerprint) → stated (unmarked f) ≡ stated f
 unfolding unmarked stated
 unmarked-stated Unknown = refl
 unmarked-stated (fingerprint.Held v) = refl
 unmarked-stated (Checked v) = refl
 
-pub limit-ok : LimitOk
+pub limit-ok : (a : Area) (f : Fingerprint) (limit : ℕ) (r : Hinting) → hintingOk a f r ≡ true → hintingOk a (unmarked f) (limitedHinting limit r) ≡ true
 limit-ok a f limit r e =
     let h = hinting→ a f r e in let w = h .most in let m = min (r .most) (limit / 8) in let n = min m (limit / 16) in let v = last-length n (r .confirmed) in
     →hinting a (unmarked f) (limitedHinting limit r)
@@ -152,7 +161,7 @@ limit-ok a f limit r e =
       known = rw (unmarked-stated f) (known-from (length (r .confirmed)) (length (lastOnes n (r .confirmed))) (stated f) (stated f) (λ z. omega arith) (λ z. z) (h .known));
     })
 
-pub bind-ok : BindOk
+pub bind-ok : (a : Area) (f : Fingerprint) (v : ℕ) (r : Hinting) → hintingOk a f r ≡ true → hintingOk a (Checked v) r ≡ true
 unfolding stated isSome
 bind-ok a f v r e =
     let h = hinting→ a f r e in
@@ -166,7 +175,7 @@ bind-ok a f v r e =
       known = or-right (eqb (length (r .confirmed)) 0) refl;
     })
 
-pub new-ok : NewOk
+pub new-ok : (a : Area) (k budget spacing most : ℕ) → hintingOk a Unknown (newHinting a k budget spacing most) ≡ true
 unfolding hintsOk confirmationsOk
 new-ok a k budget spacing most =
     →hinting a Unknown (newHinting a k budget spacing most)
@@ -188,20 +197,20 @@ digests : (r : Hinting) → hintingSized r ≡ true → Passes digestSized (r .c
 unfolding hintingSized
 digests r e = each→ digestSized (r .confirmed) (all→ _ e .1 .0)
 
-pub add-hints-sized : AddHintsSized
+pub add-hints-sized : (a : Area) (r : Hinting) (list : List Hint) → hintingSized r ≡ true → hintingSized (withHints a r list) ≡ true
 add-hints-sized a r list e = resized r (withHints a r list) refl (λ h. h) e
 
-pub keep-hinting-sized : KeepSized
+pub keep-hinting-sized : (f : Fingerprint) (r : Hinting) (c : Confirmation) → leb (c .digest) max64 ≡ true → hintingSized r ≡ true → hintingSized (keptHinting f r c) ≡ true
 keep-hinting-sized f r c q e = resized r (keptHinting f r c) refl (λ h. keep-sized (isChecked f) (r .most) (r .confirmed) c q h) e
 
-pub merge-sized : MergeSized
+pub merge-sized : (a : Area) (f : Fingerprint) (own other : Hinting) → hintingSized own ≡ true → hintingSized other ≡ true → hintingSized (mergedHinting a (isChecked f) own other) ≡ true
 merge-sized a f own other e d =
     resized own (mergedHinting a (isChecked f) own other) refl (λ h. keepAll-sized (isChecked f) (own .most) (own .confirmed) (other .confirmed) (digests other d) h) e
 
-pub limit-sized : LimitSized
+pub limit-sized : (limit : ℕ) (r : Hinting) → hintingSized r ≡ true → hintingSized (limitedHinting limit r) ≡ true
 limit-sized limit r e = resized r (limitedHinting limit r) refl (λ h. all-sub _ (sub-last (min (min (r .most) (limit / 8)) (limit / 16)) (r .confirmed)) h) e
 
-pub new-sized : NewSized
+pub new-sized : (a : Area) (k budget spacing most : ℕ) → leb spacing max32 ≡ true → hintingSized (newHinting a k budget spacing most) ≡ true
 unfolding hintingSized
 new-sized a k budget spacing most e = →all _ (e, (→each digestSized [] tt, tt))
 
@@ -220,14 +229,14 @@ unfolding orElse
 either-sized none g h k = k
 either-sized (some v) g h k = h
 
-pub merge-known : MergeKnown
+pub merge-known : (f g : Fingerprint) → knownSized (stated f) ≡ true → knownSized (stated g) ≡ true → knownSized (stated (mergedFingerprint f g)) ≡ true
 merge-known f g h k = rw (merged-stated f g) (either-sized (stated f) (stated g) h k)
 
 -- ---- room
-pub merge-room : MergeRoom
+pub merge-room : (l : Lengths) (a : Area) (f : Fingerprint) (own other : Hinting) → hintingRoom l (mergedHinting a (isChecked f) own other .most) ≡ hintingRoom l (own .most)
 merge-room l a f own other = refl
 
-pub limit-room : LimitRoom
+pub limit-room : (l : Lengths) (limit : ℕ) (r : Hinting) → hintingRoom l (r .most) ≡ true → hintingRoom l (limitedHinting limit r .most) ≡ true
 unfolding hintingRoom
 limit-room l limit r e =
     let t = all→ _ e in let u = leb-true (r .most + mergeRoom) (l .hints) (t .0) in let v = leb-true (r .most + 1) (l .confirmed) (t .1 .0) in let m = min (r .most) (limit / 8) in

@@ -64,6 +64,11 @@ unfolding limitedTo
 limitedTo-length most hs =
     test (leb (length hs) most) (λ e. rw e (leb-true (length hs) most e)) (λ e. rw e (omega (arith, thin-length (most - most / 4) hs)))
 
+pub limitedTo-few : (most : ℕ) (hs : List Hint) → length (limitedTo most hs) ≤ length hs
+unfolding limitedTo
+limitedTo-few most hs =
+    test (leb (length hs) most) (λ e. rw e (omega arith)) (λ e. rw e (omega (arith, thin-length (most - most / 4) hs)))
+
 pub joined-length : (a : Area) (most : ℕ) (hs list : List Hint) → length hs ≤ most → length (joinedHints a most hs list) ≤ most
 joined-length a most hs list l = joined-cases a (λ h. length h ≤ most) most hs list l (limitedTo-length most (insertAll a hs list))
 

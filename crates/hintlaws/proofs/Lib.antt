@@ -1,9 +1,14 @@
 pub mod Lists
 pub mod Rising
+pub mod Merging
 pub mod Ranks
 pub mod Thinning
 pub mod Hints
 pub mod Confirmations
+pub mod Keeping
+pub mod Splitting
+pub mod Passes
+pub mod Steps
 pub mod Closure
 pub mod Adding
 pub mod Calls

@@ -75,6 +75,10 @@ module _ {A : Type 0} (P : A → Type 0) where
   all-append [] ys h k = k
   all-append (x ∷ xs) ys h k = (h .0, all-append xs ys (h .1) k)
 
+  pub all-split : (xs ys : List A) → All P (xs ++ ys) → All P xs × All P ys
+  all-split [] ys h = (tt, h)
+  all-split (x ∷ xs) ys h = let r = all-split xs ys (h .1) in ((h .0, r .0), r .1)
+
   pub all-at : (xs : List A) (i : ℕ) (d : A) → i < length xs → All P xs → P (getD xs i d)
   all-at [] i d l h = let z : ⊥ = omega arith in absurd z
   all-at (x ∷ xs) zero d l h = h .0

@@ -8,18 +8,20 @@ use lib.ListN.{length, getD}
 use Rattle.rules.specs.Tests.{walk}
 use Rattle.rules.specs.Sections.{risingOk, risen, rising}
 use Rattle.rules.specs.Hints.{insert}
+use Rattle.hintlaws.specs.Order.{Rises}
 use Rattle.rules.proofs.Walk.{walk-none, walk-cons, walk-head, walk-tail, risen→, →risen}
 use Rattle.hintlaws.proofs.Lists.{Sub, empty, same, skip, sub-none, sub-self, sub-append, All, all-sub, all-append, all-map, all-both, all-insert, insert-none, insert-cases}
 
 -- ---- keys that rise from b on
-abbrev pub Rises : {A : Type 0} → (A → ℕ) → ℕ → List A → Type 0
-Rises key b [] = Unit {0}
-Rises key b (x ∷ xs) = (b ≤ key x) × Rises key (suc (key x)) xs
-
 module _ {A : Type 0} (key : A → ℕ) where
   pub rises-from : (b c : ℕ) (xs : List A) → b ≤ c → Rises key c xs → Rises key b xs
   rises-from b c [] l h = tt
   rises-from b c (x ∷ xs) l h = let w = h .0 in (omega arith, h .1)
+
+  -- each is b or more
+  pub rises-all : (b : ℕ) (xs : List A) → Rises key b xs → All (λ x. b ≤ key x) xs
+  rises-all b [] r = tt
+  rises-all b (x ∷ xs) r = let l = r .0 in (l, all-map (λ z. suc (key x) ≤ key z) (λ z. b ≤ key z) (λ z h. omega arith) xs (rises-all (suc (key x)) xs (r .1)))
 
   pub rises-sub : (b : ℕ) {xs ys : List A} → Sub xs ys → Rises key b ys → Rises key b xs
   rises-sub b empty h = tt

@@ -1,3 +1,5 @@
 pub mod Adding
-pub mod Statements
 pub mod Cutoff
+pub mod Merging
+pub mod Order
+pub mod Passes

@@ -138,7 +138,7 @@ module _ (x : Scan) (r : Recorder) (ok : ScanIs x) (ok' : RecorderIs r) (ea : r 
       }
 
 -- what is asked of a recorder that is not stopped
-unstopped : (r : Recorder) (b : Bool) → isStopped (r .mode) ≡ false → (isStopped (r .mode) || b) ≡ true → b ≡ true
+pub unstopped : (r : Recorder) (b : Bool) → isStopped (r .mode) ≡ false → (isStopped (r .mode) || b) ≡ true → b ≡ true
 unstopped r b s e = ⊎-elim (λ z. never z s) (λ z. z) (or-cases (isStopped (r .mode)) b e)
 
 -- question 12 of a frontier that moves

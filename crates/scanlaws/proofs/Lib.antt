@@ -8,4 +8,3 @@ pub mod Sizes
 pub mod Absorb
 pub mod Sections
 pub mod Theorems
-pub mod Flat

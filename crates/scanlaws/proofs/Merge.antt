@@ -31,6 +31,10 @@ pub index-takes : (P : ℕ → Content → Type 0) (a : Area) (k budget budget' 
 index-takes P a k budget budget' first cs ds gs qs h ok ok' l s s' =
     rw (zero-add (length cs)) at (addParts-ok P a k budget budget' 0 first cs ds gs qs h ok ok' (omega arith) s (λ i z m. s' i z))
 
+-- the rest of a list appended to its first part is the list: what merge appends, after question 43
+pub appended : (cs ds : List Checkpoint) → cs ≡ take (length cs) ds → cs ++ drop (length cs) ds ≡ ds
+appended cs ds e = ap (λ (l : List Checkpoint). l ++ drop (length cs) ds) e ∙ take-append-drop (length cs) ds
+
 module _ (own other : Scan) (ok : ScanIs own) (ok' : ScanIs other) (ea : own .area ≡ other .area) (ei : own .interval ≡ other .interval) where
   -- a further list has no fewer checkpoints
   pub further-count : further own other ≡ true → count own ≤ count other
@@ -51,8 +55,7 @@ module _ (own other : Scan) (ok : ScanIs own) (ok' : ScanIs other) (ea : own .ar
     merge-takes f =
         let theirs : HeldIs (own .area) (own .interval) (other .budget) 0 (other .checkpoints) (other .frames) (other .parts) = rw (ea, ei) (ok' .stretch .held) in
         let cs : own .checkpoints ++ drop (count own - 0) (other .checkpoints) ≡ other .checkpoints =
-        ap (λ (n : ℕ). own .checkpoints ++ drop n (other .checkpoints)) (sub-zero (count own))
-        ∙ ap (λ (l : List Checkpoint). l ++ drop (count own) (other .checkpoints)) (prefix f) ∙ take-append-drop (count own) (other .checkpoints) in
+        ap (λ (n : ℕ). own .checkpoints ++ drop n (other .checkpoints)) (sub-zero (count own)) ∙ appended (own .checkpoints) (other .checkpoints) (prefix f) in
         rw cs at
         (index-takes P (own .area) (own .interval) (own .budget) (other .budget) 0 (own .checkpoints) (other .checkpoints) (other .frames) (other .parts)
         (record { frames = own .frames; parts = own .parts }) (ok .stretch .held) theirs (omega arith) s s')
@@ -60,7 +63,8 @@ module _ (own other : Scan) (ok : ScanIs own) (ok' : ScanIs other) (ea : own .ar
     taken-ok : further own other ≡ true → ScanIs (takenScan own other)
     taken-ok f =
         let t = ok' .stretch in let b = ap₂ boundaries ea ei in
-        record {
+        rw (appended (own .checkpoints) (other .checkpoints) (prefix f))
+        (record {
           stretch =
               record {
                 within = let x = t .within in omega arith;
@@ -70,7 +74,7 @@ module _ (own other : Scan) (ok : ScanIs own) (ok' : ScanIs other) (ea : own .ar
                 ending = rw ea (t .ending);
               };
           malformed = rw (ea, ei) (ok' .malformed);
-        }
+        })
 
     -- closure of question 4 under merging, and the parts still say what P says
     pub merged-ok : ScanIs (mergedScan own other) × Says P (mergedScan own other .frames) (mergedScan own other .parts)

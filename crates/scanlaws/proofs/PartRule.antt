@@ -20,7 +20,6 @@ use Rattle.rules.specs.Sections.{unfilled, framesOk, partOk}
 use Rattle.rules.specs.PartRule.{Stored, Piece, lastFrame, lastPart, opens, joins, growth, partOf, opened, grown, stores, addPart, piece, addParts}
 use Rattle.rules.specs.Run.{Content, contentOf}
 use Rattle.scanlaws.specs.Kept.{Grow, contentIn, Added, Keeps, Says}
-use Rattle.scanlaws.specs.Statements.{AddedKeeps}
 use Rattle.rules.proofs.Tests.{test, never, all→, and-left, and-right, or-cases, or-none}
 use Rattle.rules.proofs.Walk.{Snoc, ends, length-snoc, lastOr-snoc, set-last, arrived, arrived-none, arrived-cons, arrived-snoc, walk-left, walk-snoc, walk-last, walk-at}
 use Rattle.scanlaws.proofs.Parts.{frameIn, fill, frame→, →frame, frames-walk, fill-used, used-snoc, frame-at, keep, latest, atAfter, framesTo, PartIs, part→, →part, follows→, follows-open, follows-same, latest-last, latest-none, HeldIs, part-at, latest-below, part-grow, walk-parts, held-append}
@@ -225,18 +224,23 @@ grown-added h p l j =
       kept = grow-set fs i more l';
     }
 
--- PART-BYTES: a part is passed over, or stored with its bytes, and what was held stays
-pub addPart-bytes : (budget : ℕ) (h : Stored) (p : Piece) → framesTo (latest (h .parts)) ≡ length (h .frames) → (addPart budget h p ≡ h) ⊎ Added h (addPart budget h p) p
+-- a part is passed over
+pub addPart-passed : (budget : ℕ) (h : Stored) (p : Piece) → stores budget h p ≡ false → addPart budget h p ≡ h
 unfolding addPart
-addPart-bytes budget h p r =
-    test (stores budget h p)
-    (λ s.
-    test (opens h p) (λ o. rw (s, o) (inr (opened-added h p)))
+addPart-passed budget h p s = rw s
+
+-- or stored with its bytes, and what was held stays
+pub addPart-added : (budget : ℕ) (h : Stored) (p : Piece) → framesTo (latest (h .parts)) ≡ length (h .frames) → stores budget h p ≡ true → Added h (addPart budget h p) p
+unfolding addPart
+addPart-added budget h p r s =
+    test (opens h p) (λ o. rw (s, o) (opened-added h p))
     (λ o.
     let e : latest (h .parts) ≡ some (lastPart h) = latest-last (h .parts) (some-part h p o) in
     let n : suc (lastPart h .frame) ≡ length (h .frames) = rw e at r in
-    rw (s, o) (inr (grown-added h p (omega arith) (stored-joins budget h p s o)))))
-    (λ s. rw s (inl refl))
+    rw (s, o) (grown-added h p (omega arith) (stored-joins budget h p s o)))
+
+pub addPart-bytes : (budget : ℕ) (h : Stored) (p : Piece) → framesTo (latest (h .parts)) ≡ length (h .frames) → (addPart budget h p ≡ h) ⊎ Added h (addPart budget h p) p
+addPart-bytes budget h p r = test (stores budget h p) (λ s. inr (addPart-added budget h p r s)) (λ s. inl (addPart-passed budget h p s))
 
 -- what holds of each number below n and of n holds of each below n + 1
 one-more : (P : ℕ → Type 0) (n m : ℕ) → m ≡ n + 1 → ((i : ℕ) → i < n → P i) → P n → (i : ℕ) → i < m → P i
@@ -272,7 +276,7 @@ grow-more fs gs hs g g' =
       bytes = λ i n l b. let x = g .long i l in g' .bytes i n (omega arith) (omega arith) ∙ g .bytes i n l b;
     }
 
-keeps-self : (h : Stored) → Keeps h h
+pub keeps-self : (h : Stored) → Keeps h h
 keeps-self h = record { more = []; parts = sym (append-nil (h .parts)); frames = grow-self (h .frames) }
 
 keeps-added : (h₀ h h' : Stored) (p : Piece) → Keeps h₀ h → Added h h' p → Keeps h₀ h'
@@ -283,7 +287,7 @@ keeps-added h₀ h h' p k s =
       frames = grow-more (h₀ .frames) (h .frames) (h' .frames) (k .frames) (s .kept);
     }
 
-pub added-keeps : AddedKeeps
+pub added-keeps : (h h' : Stored) (p : Piece) → Added h h' p → Keeps h h'
 added-keeps h h' p s = keeps-added h h h' p (keeps-self h) s
 
 -- ---- the parts of another list
@@ -330,7 +334,7 @@ module _ (P : ℕ → Content → Type 0) (a : Area) (k budget first : ℕ) (cs 
   take-skip : (o : Option Held) (p : Held) (h : Stored) → atAfter o ≤ p .at → p .at < n → Taken P a k budget first cs n h₀ o h → Taken P a k budget first cs n h₀ (some p) h
   take-skip o p h w l t = record { keeps = t .keeps; held = t .held; says = t .says; next = λ j x y. t .next j x (omega arith) }
 
-  take-add : (o : Option Held) (p : Held) (h : Stored) → atAfter o ≤ p .at → n ≤ p .at → PieceIs a k first cs (piece gs p) → P (p .at) (contentOf gs p)
+  pub take-add : (o : Option Held) (p : Held) (h : Stored) → atAfter o ≤ p .at → n ≤ p .at → PieceIs a k first cs (piece gs p) → P (p .at) (contentOf gs p)
       → Taken P a k budget first cs n h₀ o h → Taken P a k budget first cs n h₀ (some p) (addPart budget h (piece gs p))
   take-add o p h w l pok q t =
       let rises = t .next (p .at) l w in
@@ -350,7 +354,7 @@ onward first cs first' ds = cs ++ drop (first + length cs - first') ds
 module _ (P : ℕ → Content → Type 0) (a : Area) (k budget budget' first first' : ℕ) (cs ds : List Checkpoint) (gs : List Frame) (qs : List Held) (h : Stored)
     (ok : HeldIs a k budget first cs (h .frames) (h .parts)) (ok' : HeldIs a k budget' first' ds gs qs) (joins : first' ≤ first + length cs) where
   -- a part from the next number on, handed over
-  onward-piece : (p : Held) → PartIs a k first' ds gs p → first + length cs ≤ p .at → PieceIs a k first (onward first cs first' ds) (piece gs p)
+  pub onward-piece : (p : Held) → PartIs a k first' ds gs p → first + length cs ≤ p .at → PieceIs a k first (onward first cs first' ds) (piece gs p)
   onward-piece p f l =
       let x = f .low in let y = f .high in let m = first + length cs - first' in
       let e : checkpointAt (onward first cs first' ds) (p .at - first) ≡ checkpointAt ds (p .at - first') =
@@ -368,22 +372,32 @@ module _ (P : ℕ → Content → Type 0) (a : Area) (k budget budget' first fir
         number = f .number;
       }
 
+  -- before the first part
+  pub addParts-start : Says P (h .frames) (h .parts) → Taken P a k budget first (onward first cs first' ds) (first + length cs) h none h
+  addParts-start s =
+      record {
+        keeps = keeps-self h;
+        held = held-append a k budget first cs (drop (first + length cs - first') ds) (h .frames) (h .parts) ok;
+        says = s;
+        next = λ j x y. let z = latest-below a k first cs (h .frames) none (h .parts) (omega arith) (ok .parts) in omega arith;
+      }
+
+  -- a stretch ps of the other list, after o
+  pub addParts-on : (h₀ : Stored) (o : Option Held) (ps : List Held) (x : Stored) → walk (partOk a k first' ds gs) keep o ps ≡ true
+      → Says (λ at c. first + length cs ≤ at → P at c) gs ps → Taken P a k budget first (onward first cs first' ds) (first + length cs) h₀ o x
+      → Taken P a k budget first (onward first cs first' ds) (first + length cs) h₀ (arrived keep o ps) (addParts budget gs (first + length cs) ps x)
+  addParts-on h₀ o ps x w s t =
+      let n = first + length cs in let cs' = onward first cs first' ds in
+      addParts-keep (λ o x. Taken P a k budget first cs' n h₀ o x) (λ o p. (partOk a k first' ds gs o p ≡ true) × (n ≤ p .at → P (p .at) (contentOf gs p))) budget gs n
+      (λ o p x w l t. take-skip P a k budget first cs' n h₀ gs o p x (follows→ o p (part→ a k first' ds gs o p (w .0) .1) .0) l t)
+      (λ o p x w l t. let f = part→ a k first' ds gs o p (w .0) in
+      take-add P a k budget first cs' n h₀ gs o p x (follows→ o p (f .1) .0) l (onward-piece p (f .0) l) (w .1 l) t)
+      o ps x (λ i l. (walk-at (partOk a k first' ds gs) keep noHeld o ps i w l, s i l)) t
+
   -- the parts of another list keep the rules over the longer list
   pub addParts-ok : Says P (h .frames) (h .parts) → Says (λ at c. first + length cs ≤ at → P at c) gs qs
       → Taken P a k budget first (onward first cs first' ds) (first + length cs) h (latest qs) (addParts budget gs (first + length cs) qs h)
-  addParts-ok s s' =
-      let n = first + length cs in let cs' = onward first cs first' ds in
-      addParts-keep (λ o x. Taken P a k budget first cs' n h o x) (λ o p. (partOk a k first' ds gs o p ≡ true) × (n ≤ p .at → P (p .at) (contentOf gs p))) budget gs n
-      (λ o p x w l t. take-skip P a k budget first cs' n h gs o p x (follows→ o p (part→ a k first' ds gs o p (w .0) .1) .0) l t)
-      (λ o p x w l t. let f = part→ a k first' ds gs o p (w .0) in
-      take-add P a k budget first cs' n h gs o p x (follows→ o p (f .1) .0) l (onward-piece p (f .0) l) (w .1 l) t)
-      none qs h (λ i l. (walk-at (partOk a k first' ds gs) keep noHeld none qs i (ok' .parts) l, s' i l))
-      (record {
-        keeps = keeps-self h;
-        held = held-append a k budget first cs (drop (n - first') ds) (h .frames) (h .parts) ok;
-        says = s;
-        next = λ j x y. let z = latest-below a k first cs (h .frames) none (h .parts) (omega arith) (ok .parts) in omega arith;
-      })
+  addParts-ok s s' = addParts-on h none qs h (ok' .parts) s' (addParts-start s)
 
 -- a part for the next checkpoint
 pub next-part : (a : Area) (k budget first : ℕ) (cs : List Checkpoint) (h : Stored) (c : Checkpoint) (p : Piece) → HeldIs a k budget first cs (h .frames) (h .parts)

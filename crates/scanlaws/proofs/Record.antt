@@ -14,15 +14,14 @@ use Rattle.rules.specs.declared.Checkpoint.{Checkpoint}
 use Rattle.rules.specs.declared.EndState.{EndState}
 use Rattle.rules.specs.declared.Mode.{Mode}
 use Rattle.rules.specs.declared.Mode.the-variants.{Running, Finished, Stopped}
-use Rattle.rules.specs.Tests.{isSome}
-use Rattle.rules.specs.Values.{Recorder, lim, replaySectors, boundaries, lsnOf, complete}
+use Rattle.rules.specs.Tests.{isSome, Accepted}
+use Rattle.rules.specs.Values.{Recorder, lim, replaySectors, boundaries, lsnOf, complete, Lengths, Index}
 use Rattle.rules.specs.Sections.{checkpointsOk, endingOk}
 use Rattle.rules.specs.Questions.{numbersOk, question1, question2, question4, recorderQuestion1, recorderQuestion2, endOf}
 use Rattle.rules.specs.PartRule.{Stored, Piece, addPart}
 use Rattle.rules.specs.Create.{emptyRecorder, recorder}
 use Rattle.rules.specs.Record.{Assembling, isRunning, nextNumber, question5, question6, question7, backOf, storedOf, assembled, recorded, recordAt, withMode, finish, drained, emptied}
 use Rattle.scanlaws.specs.Kept.{Sound}
-use Rattle.scanlaws.specs.Statements.{RecordSound, FinishSound, RecorderSound, EmptiedSound, StoppedSound}
 use Rattle.rules.proofs.Tests.{never, all→, and-right, asked, accepted→, choose}
 use Rattle.rules.proofs.Walk.{length-snoc, walk-none}
 use Rattle.scanlaws.proofs.Parts.{HeldIs, held-none, held-append}
@@ -105,7 +104,8 @@ recorded-ok r lsn threshold malformed f sector s five six seven =
           }),
     )
 
-pub record-sound : RecordSound
+pub record-sound : (l : Lengths) (r : Recorder) (lsn threshold malformed : ℕ) (f : Option Assembling) (sector : List ℕ) (r' : Recorder)
+    → recordAt l r lsn threshold malformed f sector ≡ Accepted r' → Sound r'
 unfolding recordAt
 record-sound l r lsn threshold malformed f sector r' e =
     let h = accepted→ _ (recorded r lsn threshold malformed f sector) r' e in
@@ -121,7 +121,7 @@ mode-sound r m s f e =
     let h = recorder→ r (s .2) in
     (s .0, s .1, →recorder (withMode r m) (record { within = h .within; full = f; checkpoints = h .checkpoints; held = h .held; ending = e }))
 
-pub finish-sound : FinishSound
+pub finish-sound : (l : Lengths) (r : Recorder) (e : EndState) (r' : Recorder) → finish l r e ≡ Accepted r' → Sound r'
 unfolding finish endOf endingOk
 finish-sound l r e r' x =
     let h = accepted→ _ (withMode r (Finished e)) r' x in
@@ -129,7 +129,7 @@ finish-sound l r e r' x =
     let n = eqb-true (nextNumber r) (boundaries (r .area) (r .interval)) (and-right (isRunning (r .mode)) (eqb (nextNumber r) (boundaries (r .area) (r .interval))) (q .1 .1 .1 .1 .0)) in
     rw (h .1) at (mode-sound r (Finished e) (q .0, q .1 .0, q .1 .1 .1 .0) (λ w. n) (q .1 .1 .1 .1 .1 .0))
 
-pub stopped-sound : StoppedSound
+pub stopped-sound : (r : Recorder) → Sound r → Sound (withMode r Stopped)
 unfolding endOf endingOk isSome
 stopped-sound r s = mode-sound r Stopped s (λ w. never {b = false} w refl) refl
 
@@ -151,7 +151,7 @@ empty-sound r one two l c f p o =
           }),
     )
 
-pub recorder-sound : RecorderSound
+pub recorder-sound : (l : Lengths) (x : Index) (from : ℕ) (r : Recorder) → recorder l x from ≡ Accepted r → Sound r
 unfolding recorder question1 question2 question4 recorderQuestion1 recorderQuestion2 endOf isSome
 recorder-sound l x from r e =
     let h = accepted→ _ (emptyRecorder (x .scan) from) r e in
@@ -167,6 +167,6 @@ drained-open Running = refl
 drained-open (Finished e) = refl
 drained-open Stopped = refl
 
-pub emptied-sound : EmptiedSound
+pub emptied-sound : (r : Recorder) → Sound r → Sound (emptied r)
 unfolding recorderQuestion1 recorderQuestion2
 emptied-sound r s = empty-sound (emptied r) (s .0) (s .1) (recorder→ r (s .2) .within) refl refl refl (drained-open (r .mode))

@@ -7,14 +7,14 @@ use Prim.Native.Nat.{ℕ, _-_, min}
 use lib.Dec.{leb, ltb}
 use lib.Signed.{mag}
 use lib.ListN.{length}
+use Rattle.rules.specs.declared.Checkpoint.{Checkpoint}
 use Rattle.rules.specs.declared.Held.{Held}
 use Rattle.rules.specs.Tests.{each, lastOr}
-use Rattle.rules.specs.Values.{Frame, noFrame, noHeld, frameAt}
+use Rattle.rules.specs.Values.{Frame, max64, noFrame, noHeld, frameAt, count, Scan}
 use Rattle.rules.specs.PartRule.{Stored, Piece, lastFrame, opens, opened, grown, stores, addPart, piece, addParts}
 use Rattle.rules.specs.Merge.{further, takenScan, mergedScan}
-use Rattle.rules.specs.Load.{fitting, within}
+use Rattle.rules.specs.Load.{fitting, within, limitedScan}
 use Rattle.rules.specs.Sizes.{frameSized, scanSized}
-use Rattle.scanlaws.specs.Statements.{MergeSized, LimitSized}
 use Rattle.rules.proofs.Tests.{choose, all→, →all, each-none, each-cons, each-head, each-tail, each-append, each-take, each-drop, each-set, each-or, each-at}
 use Rattle.scanlaws.proofs.PartRule.{addParts-keep}
 
@@ -23,6 +23,9 @@ byteSized b = ltb b 256
 
 abbrev partSized : Held → Bool
 partSized p = ltb (mag (p .remaining)) 2147483648
+
+abbrev digestSized : Checkpoint → Bool
+digestSized c = leb (c .digest) max64
 
 -- a frame of bytes
 byte-frame : (s : ℕ) (bs : List ℕ) → each byteSized bs ≡ true → frameSized (record { start = s; bytes = bs }) ≡ true
@@ -63,12 +66,13 @@ merge-sized budget gs n ps h g k s =
     (λ o p x w l t. addPart-sized budget x (piece gs p) t (each-take byteSized (p .len) (frameAt gs (p .frame) .bytes) (at-sized gs (p .frame) g)) w)
     none ps h (λ i l. each-at partSized noHeld ps i k l) s
 
-pub merged-sized : MergeSized
+pub merged-sized : (own other : Scan) → scanSized own ≡ true → scanSized other ≡ true → scanSized (mergedScan own other) ≡ true
 unfolding scanSized mergedScan
 merged-sized own other h k =
     let a = all→ _ h in let b = all→ _ k in
     let s = merge-sized (own .budget) (other .frames) (length (own .checkpoints)) (other .parts) (record { frames = own .frames; parts = own .parts }) (b .1 .1 .0) (b .1 .1 .1 .0) (a .1 .1 .0, a .1 .1 .1 .0) in
-    choose (λ x. scanSized x ≡ true) (further own other) (takenScan own other) own (λ f. →all _ (a .0, (b .1 .0, (s .0, (s .1, tt))))) (λ f. h)
+    let cs = each-append digestSized (own .checkpoints) _ (a .1 .0) (each-drop digestSized (count own) (other .checkpoints) (b .1 .0)) in
+    choose (λ x. scanSized x ≡ true) (further own other) (takenScan own other) own (λ f. →all _ (a .0, (cs, (s .0, (s .1, tt))))) (λ f. h)
 
 fit-sized : (b : ℕ) (fs : List Frame) → each frameSized fs ≡ true → each frameSized (fitting b fs) ≡ true
 unfolding fitting
@@ -85,7 +89,7 @@ in-sized n (p ∷ ps) h =
     choose (λ l. each partSized l ≡ true) (ltb (p .frame) n) (p ∷ within n ps) []
     (λ e. each-cons partSized p _ (each-head partSized p ps h) (in-sized n ps (each-tail partSized p ps h))) (λ e. each-none partSized)
 
-pub limited-sized : LimitSized
+pub limited-sized : (limit : ℕ) (x : Scan) → scanSized x ≡ true → scanSized (limitedScan limit x) ≡ true
 unfolding scanSized
 limited-sized limit x h =
     let a = all→ _ h in

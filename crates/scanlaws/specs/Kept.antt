@@ -39,13 +39,6 @@ pub record Keeps (h h' : Stored) : Type 0 where
 abbrev pub Says : (ℕ → Content → Type 0) → List Frame → List Held → Type 0
 Says P fs ps = (i : ℕ) → i < length ps → P (getD ps i noHeld .at) (contentOf fs (getD ps i noHeld))
 
--- one of the parts ps, of frames fs, belongs to checkpoint number at and says c
-pub record Given (fs : List Frame) (ps : List Held) (at : ℕ) (c : Content) : Type 0 where
-  pub place : ℕ
-  pub inside : place < length ps
-  pub same : getD ps place noHeld .at ≡ at
-  pub content : contentOf fs (getD ps place noHeld) ≡ c
-
 -- questions 1, 2 and 4 of a recorder, and of an index
 abbrev pub Sound : Recorder → Type 0
 Sound r = (recorderQuestion1 r ≡ true) × (recorderQuestion2 r ≡ true) × (recorderQuestion4 r ≡ true)
