@@ -17,7 +17,7 @@ use Rattle.rules.specs.Values.{Frame}
 use Rattle.rules.specs.File.{decodeHeld}
 use Rattle.rules.specs.Tests.{walk, Answer, Refused, Accepted, ask, firstNo, after, bind, numberOf}
 use Rattle.rules.specs.Load.{Read, read, readEach, readRecord, readFrame, readPart}
-use Rattle.table.specs.Files.{restOf, Inspected, listed, behindEach, frameHere, frameFollows}
+use Rattle.table.specs.Files.{listed, behindEach, frameHere, frameFollows}
 
 -- an answer behind xs
 abbrev pub prefix : {A : Type 0} → List A → Answer (Read (List A)) → Answer (Read (List A))
@@ -48,11 +48,6 @@ bind-both : {A : Type 0} (x : A) (q : Bool) (xs : List A) (e : Answer (Read (Lis
 unfolding bind
 bind-both x true xs e k = bind-prefix x xs e
 bind-both x false xs e k = refl
-
-number-cond : {A : Type 0} (p : Bool) (e : Answer A) (k : ℕ) → numberOf (cond p e (Refused k)) ≡ cond p (numberOf e) k
-unfolding numberOf
-number-cond true e k = refl
-number-cond false e k = refl
 
 module _ {S A : Type 0} (w : ℕ) (d : List ℕ → A) (ok : S → A → Bool) (next : S → A → S) (k : ℕ) (other : eqb k 0 ≡ false) where
   -- a record that is there
@@ -109,65 +104,12 @@ module _ {S A : Type 0} (w : ℕ) (d : List ℕ → A) (ok : S → A → Bool) (
       let short : length (drop (m * w) b) < w = simp length-drop (omega arith) in
       rw e (read-first m (suc (n - m - 1)) s b (Refused 20) l (λ z. read-missing z (n - m - 1) (drop (m * w) b) short))
 
-  -- the number where m of n records are there
-  pub number-some : (m n : ℕ) (s : S) (b : List ℕ) → m ≤ n → m * w ≤ length b → (m < n → length b < m * w + w)
-      → numberOf (readEach (readRecord w d ok k) next n s b) ≡ cond (walk ok next s (records w d m b)) (cond (ltb m n) 20 0) k
-  unfolding numberOf
-  number-some m n s b h l g =
-      ⊎-elim
-      (λ (q : m ≡ n).
-      rw (← q, read-all m s b l, le-ltb m m (omega arith)) (number-cond (walk ok next s (records w d m b)) (read (records w d m b) (drop (m * w) b)) k))
-      (λ (q : m < n).
-      rw (read-short m n s b q l (g q), lt-ltb m n q) (number-cond (walk ok next s (records w d m b)) (Refused 20) k))
-      (eq-or-lt-of-le h)
-
--- ---- a loop that reads in order
--- the loop has read j things up to at and is in state s, and the answer is to be x
-pub record Reading {S A : Type 0} (r : S → List ℕ → Answer (Read A)) (next : S → A → S) (n : ℕ) (b : List ℕ) (x : Answer (Read (List A))) (j at : ℕ) (s : S) : Type 0 where
-  pub within : j ≤ n
-  pub inside : at ≤ length b
-  pub number : numberOf (readEach r next (n - j) s (drop at b)) ≡ numberOf x
-  pub behind : restOf (readEach r next (n - j) s (drop at b)) ≡ restOf x
-
+-- ---- what was read, where nothing refused
 number-bind : {A : Type 0} (v : A) (e : Answer (Read (List A))) → numberOf (bind e (λ u. read (v ∷ u .value) (u .rest))) ≡ numberOf e
 unfolding bind numberOf
 number-bind v (Refused k) = refl
 number-bind v (Accepted t) = refl
 
-rest-bind : {A : Type 0} (v : A) (e : Answer (Read (List A))) → restOf (bind e (λ u. read (v ∷ u .value) (u .rest))) ≡ restOf e
-unfolding bind
-rest-bind v (Refused k) = refl
-rest-bind v (Accepted t) = refl
-
-pub reading-start : {S A : Type 0} (r : S → List ℕ → Answer (Read A)) (next : S → A → S) (n : ℕ) (b : List ℕ) (at : ℕ) (s : S) → at ≤ length b
-    → Reading r next n b (readEach r next n s (drop at b)) 0 at s
-reading-start r next n b at s h = record { within = omega arith; inside = h; number = rw sub-zero; behind = rw sub-zero }
-
-module _ {S A : Type 0} {r : S → List ℕ → Answer (Read A)} {next : S → A → S} {n : ℕ} {b : List ℕ} {x : Answer (Read (List A))} {j at : ℕ} {s : S}
-    (k : Reading r next n b x j at s) where
-  left : j < n → n - j ≡ suc (n - (j + 1))
-  left h = omega arith
-
-  pub reading-on : {v : A} {at' : ℕ} {s' : S} → j < n → r s (drop at b) ≡ read v (drop at' b) → at' ≤ length b → s' ≡ next s v → Reading r next n b x (j + 1) at' s'
-  unfolding readEach bind
-  reading-on {v} {at'} h e l g = record {
-    within = omega arith;
-    inside = l;
-    number = rw g (sym (number-bind v (readEach r next (n - (j + 1)) (next s v) (drop at' b))) ∙ rw (left h, e) at (k .number));
-    behind = rw g (sym (rest-bind v (readEach r next (n - (j + 1)) (next s v) (drop at' b))) ∙ rw (left h, e) at (k .behind));
-  }
-
-  pub reading-stop : {m : ℕ} → j < n → r s (drop at b) ≡ Refused m → (m ≡ 0 → ⊥) → Inspected x b m 0
-  unfolding readEach bind numberOf
-  reading-stop h e z = record { is-number = rw (left h, e) at (k .number); behind = λ q. absurd (z q); inside = omega arith }
-
-  pub reading-end : n ≤ j → Inspected x b 0 at
-  unfolding readEach numberOf
-  reading-end h =
-      let q : n - j ≡ 0 = omega arith in
-      record { is-number = rw q at (k .number); behind = λ z. sym (rw q at (k .behind)); inside = k .inside }
-
--- ---- what was read, where nothing refused
 after-zero : {A : Type 0} (n : ℕ) (x : Answer A) → numberOf (after n x) ≡ 0 → after n x ≡ x
 unfolding after numberOf
 after-zero n x e = by (eqb n 0) refl e where
@@ -193,13 +135,6 @@ module _ {S A : Type 0} {r : S → List ℕ → Answer (Read A)} {v : List ℕ �
       let f = k .steady s b (front-zero (r s b) _ e) in
       let e' : numberOf (readEach r next n (next s (v b)) (follows b)) ≡ 0 = sym (number-bind (v b) (readEach r next n (next s (v b)) (follows b))) ∙ (rw f at e) in
       rw (f, read-each n (next s (v b)) (follows b) e')
-
-  -- what an inspection that answers 0 has read
-  pub inspected-read : (n : ℕ) (s : S) (c b : List ℕ) (number at : ℕ) → Inspected (readEach r next n s c) b number at → number ≡ 0
-      → readEach r next n s c ≡ read (listed v follows n c) (drop at b)
-  inspected-read n s c b number at i z =
-      let e = read-each n s c (sym (i .is-number) ∙ z) in
-      e ∙ ap (read (listed v follows n c)) (sym (ap restOf e) ∙ i .behind z)
 
 pub steady-record : {S A : Type 0} (w : ℕ) (d : List ℕ → A) (ok : S → A → Bool) (k : ℕ) → Steady (readRecord w d ok k) (λ b. d (take w b)) (drop w)
 unfolding readRecord

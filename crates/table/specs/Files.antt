@@ -1,24 +1,10 @@
--- Sections as they lie in a file: what an inspection answers.
-use mathlib.Core.Path.{_≡_}
+-- Frames as they lie in a file.
 use mathlib.Core.List.{List, [], _∷_}
-use Prim.Native.Nat.{ℕ, zero, suc, _+_, _≤_}
+use Prim.Native.Nat.{ℕ, zero, suc, _+_}
 use lib.ListN.{length, take, drop}
 use Rattle.field.specs.Number.{numberAt}
-use Rattle.rules.specs.Tests.{Answer, Refused, Accepted, numberOf}
 use Rattle.rules.specs.Values.{Frame}
 use Rattle.rules.specs.Sections.{Filled, filled}
-use Rattle.rules.specs.Load.{Read}
-
--- the bytes behind what was read
-abbrev pub restOf : {A : Type 0} → Answer (Read A) → List ℕ
-restOf (Refused k) = []
-restOf (Accepted t) = t .rest
-
--- number is that of the answer x; where it is 0, at is the place in b behind what was read
-pub record Inspected {A : Type 0} (x : Answer (Read A)) (b : List ℕ) (number at : ℕ) : Type 0 where
-  pub is-number : number ≡ numberOf x
-  pub behind : number ≡ 0 → restOf x ≡ drop at b
-  pub inside : at ≤ length b
 
 -- what a frame that was read adds
 abbrev pub frameNext : Filled → Frame → Filled

@@ -9,20 +9,19 @@ use rules::Confirmation;
 use rules::FrameKind;
 use rules::Held;
 use rules::Hint;
+use rules::MAX_FRAME_BYTES;
+use rules::MAX_NEXT_ACCEPTABLE;
 ghost use mathlib.Core.Path.{_≡_};
 ghost use mathlib.Core.List.{List, []};
 ghost use mathlib.Core.Option.{none};
-ghost use mathlib.Core.Bool.{true, _&&_, cond};
+ghost use mathlib.Core.Bool.{_&&_};
 ghost use lib.Dec.{leb, ltb};
 ghost use Prim.Native.Nat.{ℕ, _+_, _-_, _*_, _≤_, _<_};
 ghost use lib.ListN.{length, take, drop};
-ghost use Rattle.field.specs.Number.{numberAt};
 ghost use Rattle.field.specs.Records.{records, recordAt};
 ghost use Rattle.rules.specs.Values.{used, noHeld, checkpointAt, sameKind};
-ghost use Rattle.rules.specs.Tests.{walk, numberOf};
-ghost use Rattle.rules.specs.Load.{readEach, readRecord, readFrame, readPart};
-ghost use Rattle.table.specs.Files.{frameNext, placeAt, framesRead, Inspected};
-ghost use Rattle.rules.specs.Sections.{checkpointOk, checkpointsOk, framesOk, follows, belongs, partOk, partsOk, reached, unfilled, risingOk, risen, rising, ownLsn, anyLsn, hintsOk, confirmationsOk};
+ghost use Rattle.rules.specs.Tests.{walk};
+ghost use Rattle.rules.specs.Sections.{checkpointOk, checkpointsOk, framesOk, follows, belongs, partOk, partsOk, reached, rising, ownLsn, anyLsn, hintsOk, confirmationsOk};
 ghost use Rattle.rules.specs.File.{kindOf, signed32, decodeCheckpoint, decodeHeld, decodeLsn, decodeHint, decodeConfirmation};
 ghost use Rattle.table.specs.Tables.{checkpointsIn, partsIn, lsnsIn, hintsIn, confirmationsIn, decodeHeader, headersIn, headerAt, frameOf, framesIn, headerOk, filledTo, passedAt, before, partNext, partNear, partHere, Checked};
 
@@ -47,7 +46,7 @@ pub fn read_checkpoint(t: &[u8], j: usize) -> Checkpoint
 }
 
 // The header in the bytes from at on.
-fn header_at(t: &[u8], at: usize) -> FrameHeader
+pub fn header_at(t: &[u8], at: usize) -> FrameHeader
     requires { ⌜ at + 8 ≤ length (now t) ⌝ }
     ensures { λ r. ⌜ r ≡ decodeHeader (take 8 (drop at (now (t .entry)))) ⌝ }
 {
@@ -181,18 +180,18 @@ fn checkpoint_ok(interval: u32, number: usize, b: Checkpoint, c: Checkpoint) -> 
     let grows = and(b.malformed <= c.malformed, counted);
     and(
         b.threshold <= c.threshold,
-        and(c.threshold <= 1166881, grows),
+        and(c.threshold <= MAX_NEXT_ACCEPTABLE, grows),
     )
 }
 
 // floor and used are of the frames before it.
-fn header_ok(area: Area, budget: u64, floor: u64, used: u64, h: FrameHeader) -> bool
+pub fn header_ok(area: Area, budget: u64, floor: u64, used: u64, h: FrameHeader) -> bool
     requires { ⌜ used ≤ budget ⌝ }
     ensures { λ r. ⌜ r ≡ headerOk area budget (filledTo floor used) h ⌝ }
 {
     let start = h.start as u64;
     let len = h.len as u64;
-    let fits = and(len <= 65536, len <= budget - used);
+    let fits = and(h.len <= MAX_FRAME_BYTES, len <= budget - used);
     and(floor <= start, and(start < area.end, fits))
 }
 
@@ -297,7 +296,12 @@ fn check_numbered(section: &[u8], n: usize, w: usize, area: Area) -> bool
     let mut j = 0;
     while j < n {
         let h = hint_at(section, j * w);
-        if !rising_ok(area.end, floor, h.lsn as u64, h.number < 1166881) {
+        if !rising_ok(
+            area.end,
+            floor,
+            h.lsn as u64,
+            h.number < MAX_NEXT_ACCEPTABLE,
+        ) {
             return false;
         }
         floor = h.lsn as u64 + 1;
@@ -358,14 +362,14 @@ pub fn reached(parts: &[u8], h: usize) -> u64
 }
 
 // Is p of the f frames, and may it come after q, unless it is the first?
-fn near_ok(f: usize, begins: bool, q: Held, p: Held) -> bool
+pub fn near_ok(f: usize, begins: bool, q: Held, p: Held) -> bool
     ensures { λ r. ⌜ r ≡ partNear f (before begins q) p ⌝ }
 {
     and((p.frame as usize) < f, follows_ok(begins, q, p))
 }
 
 // Does p belong to a checkpoint and to the frame of h?
-fn here_ok(
+pub fn here_ok(
     area: Area,
     interval: u32,
     first: usize,
@@ -379,7 +383,10 @@ fn here_ok(
 {
     let at = p.at as usize;
     let c = get_checkpoint(checkpoints, n, less(at as u64, first as u64) as usize);
-    let rest = and(belongs_ok(area, interval, p, c, h), p.number < 1166881);
+    let rest = and(
+        belongs_ok(area, interval, p, c, h),
+        p.number < MAX_NEXT_ACCEPTABLE,
+    );
     and(first <= at, and(at < first + n, rest))
 }
 
@@ -406,7 +413,7 @@ fn part_ok(
     )
 }
 
-fn no_part() -> Held
+pub fn no_part() -> Held
     ensures { λ r. ⌜ r ≡ noHeld ⌝ }
 {
     Held {
@@ -478,127 +485,11 @@ pub fn check_parts(
     )
 }
 
-// ---- sections of a file, whose bytes may end early
-// What an inspection answers: a refusal number or 0, and the place behind the section where it is 0.
-pub struct Inspection {
-    pub number: u32,
-    pub at: usize,
-}
-
+// ---- sections of a file
 // The bytes of b from at on.
 pub fn behind(b: &[u8], at: usize) -> &[u8]
     requires { ⌜ at ≤ length (now b) ⌝ }
     ensures { λ r. ⌜ now r ≡ drop at (now (b .entry)) ⌝ }
 {
     &b[at..]
-}
-
-// How many of n records of w bytes lie in left bytes.
-fn there(n: usize, left: usize, w: usize) -> usize
-    requires { ⌜ 0 < w ⌝ }
-    ensures { λ r. ⌜ (r ≤ n) × (r * w ≤ left) × (r < n → left < r * w + w) ⌝ }
-{
-    let whole = left / w;
-    if n < whole { n } else { whole }
-}
-
-// 20 or 35, or 0: the malformed LSNs of the file b from at on.
-pub fn inspect_lsns(b: &[u8], at: usize, m: usize, area: Area, front: u64) -> u32
-    requires { ⌜ at ≤ length (now b) ⌝ }
-    ensures { λ r. ⌜ r ≡ numberOf (readEach (readRecord 4 decodeLsn (risingOk ownLsn anyLsn front) 35) (risen ownLsn) m (area .start) (drop at (now (b .entry)))) ⌝ }
-{
-    let section = behind(b, at);
-    let some = there(m, section.len(), 4);
-    if !check_lsns(section, some, area, front) {
-        return 35;
-    }
-    if some < m { 20 } else { 0 }
-}
-
-// 20 or 32, or 0: the frames of the file b from at on.
-pub fn inspect_frames(b: &[u8], at: usize, f: usize, area: Area, budget: u64) -> Inspection
-    requires { ⌜ at ≤ length (now b) ⌝ }
-    ensures { λ r. ⌜ Inspected (readEach (readFrame area budget) frameNext f (unfilled area) (drop at (now (b .entry)))) (now (b .entry)) (r .number) (r .at) × (r .number ≡ 0 → r .at ≡ placeAt (now (b .entry)) at f) ⌝ }
-{
-    let mut here = at;
-    let mut floor = area.start;
-    let mut used = 0;
-    let mut j = 0;
-    while j < f {
-        if b.len() - here < 8 {
-            return Inspection { number: 20, at: 0 };
-        }
-        let h = header_at(b, here);
-        if !header_ok(area, budget, floor, used, h) {
-            return Inspection { number: 32, at: 0 };
-        }
-        let len = h.len as usize;
-        if b.len() - here - 8 < len {
-            return Inspection { number: 20, at: 0 };
-        }
-        here = here + 8 + len;
-        floor = h.start as u64 + 1;
-        used += h.len as u64;
-        j += 1;
-    }
-    Inspection {
-        number: 0,
-        at: here,
-    }
-}
-
-// The place of the next frame in b, or that of this one.
-fn place_by(b: &[u8], place: usize, moves: bool) -> usize
-    requires { ⌜ place + 8 + numberAt 4 (now b) (place + 4) ≤ length (now b) ⌝ }
-    ensures { λ r. ⌜ r ≡ cond moves (place + 8 + numberAt 4 (now (b .entry)) (place + 4)) place ⌝ }
-{
-    if moves {
-        return place + 8 + read_u32(b, place + 4) as usize;
-    }
-    place
-}
-
-// 20, 32 or 33, or 0: the parts of the file b from at on, whose f frames begin at frames.
-pub fn inspect_parts(
-    b: &[u8],
-    at: usize,
-    h: usize,
-    area: Area,
-    interval: u32,
-    checkpoints: &[u8],
-    n: usize,
-    frames: usize,
-    f: usize,
-) -> Inspection
-    requires { ⌜ (at ≤ length (now b)) × (n * 24 ≤ length (now checkpoints)) × (n ≤ 4294967296) × (area .start ≤ 4294967295) × (placeAt (now b) frames f ≤ length (now b)) ⌝ }
-    ensures { λ r. ⌜ Inspected (readEach (readPart area interval (checkpointsIn n (now (checkpoints .entry))) (framesRead f (drop frames (now (b .entry))))) partNext h none (drop at (now (b .entry)))) (now (b .entry)) (r .number) (r .at) ⌝ }
-{
-    let mut here = at;
-    let mut place = frames;
-    let mut q = no_part();
-    let mut j = 0;
-    while j < h {
-        if b.len() - here < 24 {
-            return Inspection { number: 20, at: 0 };
-        }
-        let next = here + 24;
-        let p = held_at(b, here);
-        if 1 < read_u32(b, here + 20) {
-            return Inspection { number: 33, at: 0 };
-        }
-        if !near_ok(f, j == 0, q, p) {
-            return Inspection { number: 32, at: 0 };
-        }
-        place = place_by(b, place, p.frame != q.frame);
-        if !here_ok(area, interval, 0, checkpoints, n, p, header_at(b, place)) {
-            return Inspection { number: 32, at: 0 };
-        }
-        q = p;
-        here = next;
-        j += 1;
-    }
-    Inspection {
-        number: 0,
-        at: here,
-    }
 }

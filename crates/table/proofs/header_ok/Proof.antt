@@ -4,7 +4,7 @@ use Rattle.table.proofs.header_ok.Statement.{statement}
 use Rattle.table.proofs.header_ok.Tie as tie
 
 returns : tie.Need-returns
-returns c = rw (header-is _ _ _ _ _ (c .before .before .before .before .before .before .pre)) (cc)
+returns c = rw (header-is _ _ _ _ _ (c .before .before .before .before .before .before .before .pre)) (cc)
 
 pub header-ok-spec : {M : Type 1} → statement M
 header-ok-spec =
