@@ -1,4 +1,4 @@
--- Frames written into a header table and a store are read back. Assumes nothing.
+-- Frames written into a header table and a store are read back; and so are the numbers of a list. Assumes nothing.
 use mathlib.Core.Path.{_≡_, refl, _∙_}
 use mathlib.Core.List.{List, [], _∷_, _++_, append-nil, append-assoc}
 use Prim.Native.Nat.{ℕ}
@@ -11,30 +11,42 @@ use Rattle.field.specs.Fields.{FieldsFit}
 use Rattle.field.proofs.Format.{Layout, Each}
 use Rattle.field.proofs.Format as each
 use Rattle.field.proofs.Fields.{of-fields}
+use Rattle.field.proofs.Records.{records-length}
+use Rattle.rules.specs.declared.AreaIndex.{AreaIndex}
+use Rattle.rules.specs.declared.End.{End}
+use Rattle.rules.specs.declared.End.the-variants.{Open, Closed}
+use Rattle.rules.specs.declared.Fingerprint.{Fingerprint}
+use Rattle.rules.specs.declared.ImageId.{ImageId}
+use Rattle.rules.specs.declared.ImageId.the-variants.{Anonymous, Id}
 use Rattle.rules.specs.Values.{Frame}
-use Rattle.rules.specs.File.{encodeFrameHeader}
+use Rattle.rules.specs.File.{encodeFrameHeader, decodeCheckpoint, decodeHeld, decodeLsn, decodeHint, decodeConfirmation}
 use Rattle.table.specs.declared.FrameHeader.{FrameHeader}
-use Rattle.table.specs.Tables.{decodeHeader, framesOf, stretch}
-use Rattle.table.proofs.Frames.{stretch-within}
-use Rattle.index.specs.Index.{storeOf}
+use Rattle.table.specs.Tables.{decodeHeader, headersIn, framesOf, stretch}
+use Rattle.table.proofs.Frames.{stretch-within, frames-length}
+use Rattle.index.specs.Index.{Tables, indexIn, numbersFrom, storeOf}
+use Rattle.sections.specs.Numbers.{endIn, idIn, endFrom, idFrom}
 
 -- ---- frames: start and length of one
-abbrev headerOf : Frame → FrameHeader
+abbrev pub headerOf : Frame → FrameHeader
 headerOf f = record { start = f .start; len = length (f .bytes) }
 
-abbrev encodeHeader : FrameHeader → List ℕ
+abbrev pub encodeHeader : FrameHeader → List ℕ
 encodeHeader h = encode 4 (h .start) ++ encode 4 (h .len)
 
-abbrev HeaderFits : FrameHeader → Type 0
+abbrev pub HeaderFits : FrameHeader → Type 0
 HeaderFits h = FieldsFit (4 ∷ 4 ∷ []) (h .start ∷ h .len ∷ [])
 
 abbrev pub FrameFits : Frame → Type 0
 FrameFits f = HeaderFits (headerOf f)
 
-header-layout : Layout 8 decodeHeader encodeHeader HeaderFits
+pub header-layout : Layout 8 decodeHeader encodeHeader HeaderFits
 unfolding decodeHeader
 header-layout =
     of-fields (4 ∷ 4 ∷ []) (λ h. h .start ∷ h .len ∷ []) (λ v. record { start = getD v 0 0; len = getD v 1 0 }) (λ b. refl) (λ h. simp append-nil) (λ h. refl)
+
+pub header-length : (f : Frame) → length (encodeFrameHeader f) ≡ 8
+unfolding encodeFrameHeader
+header-length f = header-layout .size (headerOf f)
 
 -- the bytes at the start of a store
 bytes-front : (b s : List ℕ) → stretch (length b) (b ++ s) ≡ b
@@ -60,3 +72,52 @@ frames-back r s (each.one {x = f} {xs = fs} p ps) =
       drop-at (f .bytes) (storeOf fs ++ s) (length (f .bytes)) refl,
       frames-back r s ps,
     )
+
+-- ---- the numbers of what numbers and tables stand for
+abbrev pub withPrint : AreaIndex → Fingerprint → AreaIndex
+withPrint x f =
+    record {
+      area = x .area;
+      interval = x .interval;
+      budget = x .budget;
+      spacing = x .spacing;
+      most = x .most;
+      checkpoints = x .checkpoints;
+      frames = x .frames;
+      parts = x .parts;
+      malformed = x .malformed;
+      hints = x .hints;
+      confirmed = x .confirmed;
+      ending = x .ending;
+      fingerprint = f;
+      image = x .image;
+    }
+
+end-back : (e : End) → endFrom (endIn e) ≡ e
+unfolding endFrom endIn
+end-back Open = refl
+end-back (Closed e) = refl
+
+id-back : (i : ImageId) → idFrom (idIn i) ≡ i
+unfolding idFrom idIn
+id-back Anonymous = refl
+id-back (Id v) = refl
+
+-- the numbers of a value that numbers and tables stand for, with another fingerprint
+pub numbers-with : (x : AreaIndex) (t : Tables) (f : Fingerprint)
+    → numbersFrom (record { scan = indexIn x t .scan; hinting = indexIn x t .hinting; fingerprint = f; image = indexIn x t .image }) ≡ withPrint x f
+numbers-with x t f =
+    rw (
+      records-length 24 decodeCheckpoint (x .checkpoints) (t .checkpoints),
+      frames-length (headersIn (x .frames) (t .frames)) (t .store),
+      records-length 8 decodeHeader (x .frames) (t .frames),
+      records-length 24 decodeHeld (x .parts) (t .parts),
+      records-length 4 decodeLsn (x .malformed) (t .malformed),
+      records-length 8 decodeHint (x .hints) (t .hints),
+      records-length 16 decodeConfirmation (x .confirmed) (t .confirmed),
+      end-back (x .ending),
+      id-back (x .image),
+    )
+
+pub numbers-back : (x : AreaIndex) (t : Tables) → numbersFrom (indexIn x t) ≡ x
+numbers-back x t = numbers-with x t (x .fingerprint)

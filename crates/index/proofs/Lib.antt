@@ -1,8 +1,8 @@
 pub mod Numbers
+pub mod Four
 pub mod Questions
 pub mod Each
-pub mod Search
-pub mod Held
-pub mod Steps
-pub mod Created
 pub mod Back
+pub mod Store
+pub mod Standing
+pub mod Lent

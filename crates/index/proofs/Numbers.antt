@@ -2,16 +2,11 @@
 use mathlib.Core.Path.{_≡_, refl, sym, subst}
 use mathlib.Core.Bool.{Bool, true, false, _&&_}
 use mathlib.Core.List.{List, [], _∷_}
-use Prim.Native.Nat.{ℕ, zero, suc, _+_, _*_, _/_, _^_, _<_, _≤_}
+use Prim.Native.Nat.{ℕ, zero, suc, _*_, _/_, _≤_}
 use native.Mathlib.Omega.{arith}
 use lib.Dec.{T}
 use lib.ListN.{getD}
 use Rattle.rules.specs.Tests.{all}
-use Rattle.table.proofs.Tests.{product-most}
-
--- the LSN of a checkpoint fits
-pub lsn-fits : (s j k : ℕ) → s ≤ 4294967295 → j < 4294967296 → k < 4294967296 → s + j * k < 2 ^ 64
-lsn-fits s j k hs hj hk = omega (arith, product-most j k hj hk)
 
 -- n records of w bytes lie in a table that has space for b of them
 pub within24 : (n b l : ℕ) → n ≤ b → b ≤ l / 24 → n * 24 ≤ l

@@ -10,15 +10,19 @@ use lib.ListN.{length}
 use Rattle.field.proofs.Records.{records-length}
 use Rattle.rules.specs.declared.Area.{Area}
 use Rattle.rules.specs.declared.AreaIndex.{AreaIndex}
-use Rattle.rules.specs.Tests.{all, isSome, Ask, ask, firstNo}
-use Rattle.rules.specs.Values.{boundaries, stated, frontierOf, counted}
+use Rattle.rules.specs.Tests.{all, isSome, ask, firstNo}
+use Rattle.rules.specs.Values.{boundaries, stated, frontierOf, counted, used}
 use Rattle.rules.specs.Sections.{countsOk, hintsOk, confirmationsOk, checkpointsOk, framesOk, partsOk, endingOk, malformedOk}
 use Rattle.rules.specs.Questions.{areaOk, numbersOk, scanRoom, hintingRoom, question1, question2, question3, question4, heldOk, scanOk, hintingOk}
 use Rattle.rules.specs.File.{decodeCheckpoint, decodeHeld, decodeLsn, decodeHint, decodeConfirmation}
-use Rattle.table.specs.Tables.{decodeHeader, headersIn, hintsIn, confirmationsIn}
+use Rattle.scanlaws.proofs.Parts.{frames-used}
+use Rattle.filelaws.proofs.Facts.{scanOk→}
+use Rattle.table.specs.Tables.{decodeHeader, headersIn, framesIn, hintsIn, confirmationsIn}
 use Rattle.table.proofs.Frames.{frames-length}
-use Rattle.index.specs.Index.{Tables, roomOf, endIn, indexIn, kindsOk, heldQuestion4, fourIn}
-use Rattle.index.specs.Calls.{tables, Roomy, Long, Passes, roomIn, three, refusal, scanSpace, hintRoom, sectionsIn, scanIn, hintingIn, sectionsOk, hintCounts, frontierIn}
+use Rattle.index.specs.Index.{Tables, tables, roomOf, indexIn, kindsOk, kindsIn, kindedNumber, refusal, three, roomIn, frontierIn}
+use Rattle.sections.specs.Numbers.{endIn}
+use Rattle.index.specs.Needs.{Roomy, Long, Passes, heldQuestion4, scanSpace, hintRoom, sectionsIn, scanIn, hintingIn, sectionsOk, hintCounts}
+use Rattle.index.proofs.Four.{one-bits}
 use Rattle.index.proofs.Numbers.{within24, within8, within4, within16, test, first, second}
 
 -- ---- 1 to 3
@@ -165,18 +169,14 @@ pub parts-long : {x : AreaIndex} {t : Tables} {q : Bool} → Roomy x t → q ≡
 parts-long r e n = scan-long r (sym e ∙ not-false _ n) .parts
 
 -- ---- sections
-pub sections-are : {steps filling held ending rest : Bool} {front count : ℕ} (x : AreaIndex) (t : Tables)
+pub sections-are : {steps held ends : Bool} (x : AreaIndex) (t : Tables)
     → steps ≡ checkpointsOk (x .interval) 0 (indexIn x t .scan .checkpoints)
-    → filling ≡ framesOk (x .area) (x .budget) (indexIn x t .scan .frames)
-    → held ≡ partsOk (x .area) (x .interval) 0 (indexIn x t .scan .checkpoints) (indexIn x t .scan .frames) (indexIn x t .scan .parts)
-    → ending ≡ endingOk (x .area) (indexIn x t .scan .checkpoints) (endIn (x .ending))
-    → front ≡ frontierOf (x .area) (x .interval) (x .checkpoints) (endIn (x .ending))
-    → count ≡ counted (indexIn x t .scan .checkpoints) (endIn (x .ending))
-    → rest ≡ malformedOk (x .area) front count (indexIn x t .scan .malformed)
-    → (steps && ((filling && held) && (ending && rest))) ≡ sectionsIn x t
-unfolding sectionsIn sectionsOk heldOk all
-sections-are x t a b c d e f g =
-    rw (a, b, c, d, g, e, f, records-length 24 decodeCheckpoint (x .checkpoints) (t .checkpoints)) (simp (and-true, and-assoc))
+    → held ≡ heldOk (x .area) (x .interval) (x .budget) 0 (indexIn x t .scan .checkpoints) (indexIn x t .scan .frames) (indexIn x t .scan .parts)
+    → ends ≡ (endingOk (x .area) (indexIn x t .scan .checkpoints) (endIn (x .ending))
+    && malformedOk (x .area) (frontierOf (x .area) (x .interval) (x .checkpoints) (endIn (x .ending))) (counted (indexIn x t .scan .checkpoints) (endIn (x .ending))) (indexIn x t .scan .malformed))
+    → (steps && (held && ends)) ≡ sectionsIn x t
+unfolding sectionsIn sectionsOk all
+sections-are x t a b c = rw (a, b, c, records-length 24 decodeCheckpoint (x .checkpoints) (t .checkpoints)) (simp and-true)
 
 -- ---- 1 to 3
 module _ (x : AreaIndex) (t : Tables) {a : Bool} (p : a ≡ areaOk (x .area)) where
@@ -214,32 +214,29 @@ roomy x t e =
     record { area = f .0; numbers = f .1; room = f .2 }
 
 -- ---- 1 to 4
-then-4 : (a b c d : Bool) (qs : List Ask)
-    → firstNo (ask a 1 ∷ ask b 2 ∷ ask c 3 ∷ ask d 4 ∷ qs)
-    ≡ cond (eqb (firstNo (ask a 1 ∷ ask b 2 ∷ ask c 3 ∷ [])) 0) (cond d (firstNo qs) 4) (firstNo (ask a 1 ∷ ask b 2 ∷ ask c 3 ∷ []))
+then-4 : (ok a b c d : Bool)
+    → kindedNumber ok (firstNo (ask a 1 ∷ ask b 2 ∷ ask c 3 ∷ ask d 4 ∷ []))
+    ≡ cond (eqb (firstNo (ask a 1 ∷ ask b 2 ∷ ask c 3 ∷ [])) 0) (cond (d && ok) 0 4) (firstNo (ask a 1 ∷ ask b 2 ∷ ask c 3 ∷ []))
 unfolding firstNo
-then-4 false b c d qs = refl
-then-4 true false c d qs = refl
-then-4 true true false d qs = refl
-then-4 true true true d qs = refl
+then-4 ok false b c d = one-bits ok false b c d
+then-4 ok true false c d = one-bits ok true false c d
+then-4 ok true true false d = one-bits ok true true false d
+then-4 ok true true true d = one-bits ok true true true d
 
 module _ (x : AreaIndex) (t : Tables) where
-  refusal-is : (qs : List Ask) → firstNo (fourIn x t qs) ≡ cond (eqb (three x t) 0) (cond (heldQuestion4 x t) (firstNo qs) 4) (three x t)
-  unfolding three
-  refusal-is qs = then-4 (question1 (indexIn x t)) (question2 (indexIn x t)) (question3 (roomOf t) (indexIn x t)) (heldQuestion4 x t) qs
+  refusal-is : refusal x t ≡ cond (eqb (three x t) 0) (cond (heldQuestion4 x t) 0 4) (three x t)
+  unfolding refusal three heldQuestion4
+  refusal-is = then-4 (kindsIn x t) (question1 (indexIn x t)) (question2 (indexIn x t)) (question3 (roomOf t) (indexIn x t)) (question4 (indexIn x t))
 
   pub refused-by : {n : ℕ} → n ≡ three x t → (n ≡ 0 → ⊥) → n ≡ refusal x t
-  unfolding refusal
-  refused-by {n} e h = sym (refusal-is [] ∙ rw (← e, ne-eqb n 0 h))
+  refused-by {n} e h = sym (refusal-is ∙ rw (← e, ne-eqb n 0 h))
 
   module _ {n : ℕ} (e : n ≡ three x t) (z : n ≡ 0) {q : Bool} (h : q ≡ heldQuestion4 x t) where
     pub no-4 : not q ≡ true → 4 ≡ refusal x t
-    unfolding refusal
-    no-4 m = sym (refusal-is [] ∙ rw (← e, eq-eqb n 0 z, ← h, not-true q m))
+    no-4 m = sym (refusal-is ∙ rw (← e, eq-eqb n 0 z, ← h, not-true q m))
 
     pub no-0 : not q ≡ false → 0 ≡ refusal x t
-    unfolding refusal firstNo
-    no-0 m = sym (refusal-is [] ∙ rw (← e, eq-eqb n 0 z, ← h, not-false q m))
+    no-0 m = sym (refusal-is ∙ rw (← e, eq-eqb n 0 z, ← h, not-false q m))
 
 fourth : (d : Bool) (n : ℕ) → cond (eqb n 0) (cond d 0 4) n ≡ 0 → (n ≡ 0) × (d ≡ true)
 fourth true zero e = (refl, refl)
@@ -248,25 +245,9 @@ fourth d (suc n) e = let q : suc n ≡ 0 = rw (ne-eqb (suc n) 0 (λ z. omega ari
 
 -- 1 to 4 hold where no number is given
 pub passes : (x : AreaIndex) (t : Tables) → refusal x t ≡ 0 → Passes x t
-unfolding refusal firstNo
 passes x t e =
-    let f = fourth (heldQuestion4 x t) (three x t) (sym (refusal-is x t []) ∙ e) in
+    let f = fourth (heldQuestion4 x t) (three x t) (sym (refusal-is x t) ∙ e) in
     record { roomy = roomy x t (f .0); held = f .1 }
-
-more : (a b c d : Bool) (qs : List Ask)
-    → firstNo (ask a 1 ∷ ask b 2 ∷ ask c 3 ∷ ask d 4 ∷ qs)
-    ≡ cond (eqb (firstNo (ask a 1 ∷ ask b 2 ∷ ask c 3 ∷ ask d 4 ∷ [])) 0) (firstNo qs) (firstNo (ask a 1 ∷ ask b 2 ∷ ask c 3 ∷ ask d 4 ∷ []))
-unfolding firstNo
-more false b c d qs = refl
-more true false c d qs = refl
-more true true false d qs = refl
-more true true true false qs = refl
-more true true true true qs = refl
-
--- questions after 1 to 4
-pub four-more : (x : AreaIndex) (t : Tables) (qs : List Ask) → firstNo (fourIn x t qs) ≡ cond (eqb (refusal x t) 0) (firstNo qs) (refusal x t)
-unfolding refusal
-four-more x t qs = more (question1 (indexIn x t)) (question2 (indexIn x t)) (question3 (roomOf t) (indexIn x t)) (heldQuestion4 x t) qs
 
 -- ---- what 4 says of the scan
 scan-holds : {x : AreaIndex} {t : Tables} → Passes x t → scanIn x t ≡ true
@@ -282,6 +263,34 @@ checkpoints-hold {x} {t} p =
 
 pub passes-long : {x : AreaIndex} {t : Tables} → Passes x t → Long x (t .checkpoints) (t .frames) (t .parts) (t .malformed)
 passes-long p = scan-long (p .roomy) (scan-holds p)
+
+-- ---- and of the rest
+others-hold : {x : AreaIndex} {t : Tables} → Passes x t → (hintingIn x (t .hints) (t .confirmed) && kindsIn x t) ≡ true
+others-hold {x} {t} p = second (scanIn x t) _ (sym (held-is x t) ∙ p .held)
+
+pub passes-kinds : {x : AreaIndex} {t : Tables} → Passes x t → kindsIn x t ≡ true
+passes-kinds {x} {t} p = second (hintingIn x (t .hints) (t .confirmed)) _ (others-hold p)
+
+pub passes-hints : {x : AreaIndex} {t : Tables} → Passes x t → HintsLong x (t .hints) (t .confirmed)
+passes-hints {x} {t} p =
+    let c = first (hintCounts (x .most) (x .hints) (x .confirmed)) _ (sym (hinting-is x (t .hints) (t .confirmed)) ∙ first (hintingIn x (t .hints) (t .confirmed)) _ (others-hold p)) in
+    hints-long x (t .hints) (t .confirmed) (hint-space (p .roomy)) (sym c) refl
+
+pub passes-frames : {x : AreaIndex} {t : Tables} → Passes x t → framesOk (x .area) (x .budget) (framesIn (x .frames) (t .frames) (t .store)) ≡ true
+unfolding scanIn
+passes-frames {x} {t} p = scanOk→ (indexIn x t .scan) (scan-holds p) .frames
+
+pub passes-parts : {x : AreaIndex} {t : Tables} → Passes x t
+    → partsOk (x .area) (x .interval) 0 (indexIn x t .scan .checkpoints) (indexIn x t .scan .frames) (indexIn x t .scan .parts) ≡ true
+unfolding scanIn
+passes-parts {x} {t} p = scanOk→ (indexIn x t .scan) (scan-holds p) .parts
+
+-- the store has the bytes of the frames
+pub passes-store : {x : AreaIndex} {t : Tables} → Passes x t → used (framesIn (x .frames) (t .frames) (t .store)) ≤ length (t .store)
+unfolding roomIn question3 scanRoom
+passes-store {x} {t} p =
+    let b : x .budget ≤ length (t .store) = leb-true _ _ (test _ (test _ (p .roomy .room) 0) 3) in
+    omega (arith, frames-used (x .area) (x .budget) (framesIn (x .frames) (t .frames) (t .store)) (passes-frames p))
 
 -- ---- the frontier
 module _ (x : AreaIndex) {a : Bool} (p : a ≡ areaOk (x .area)) where

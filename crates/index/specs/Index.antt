@@ -1,22 +1,21 @@
 -- How the numbers of an index and its seven lent tables stand for its value.
-use Prim.Native.Nat.{ℕ, _/_}
-use mathlib.Core.Bool.{Bool, true, _&&_}
+use Prim.Native.Nat.{ℕ, _-_, _*_, _/_}
+use mathlib.Core.Bool.{Bool, _&&_, cond}
 use mathlib.Core.List.{List, [], _∷_, _++_}
-use mathlib.Core.Option.{Option, none, some}
-use lib.Dec.{leb}
-use lib.ListN.{length, drop}
+use mathlib.Core.Option.{none}
+use lib.Dec.{leb, ltb}
+use lib.ListN.{length, drop, replicate}
 use Rattle.field.specs.Number.{numberAt}
 use Rattle.field.specs.Records.{records, bytesOf}
 use Rattle.rules.specs.declared.AreaIndex.{AreaIndex}
-use Rattle.rules.specs.declared.End.{End}
-use Rattle.rules.specs.declared.End.the-variants.{Open, Closed}
-use Rattle.rules.specs.declared.EndState.{EndState}
-use Rattle.rules.specs.declared.ImageId.{ImageId}
-use Rattle.rules.specs.declared.ImageId.the-variants.{Anonymous, Id}
-use Rattle.rules.specs.Tests.{each, Ask, ask, firstNo}
-use Rattle.rules.specs.Values.{Frame, Index, Lengths}
-use Rattle.rules.specs.Questions.{question1, question2, question3, question4}
+use Rattle.rules.specs.Tests.{each, Answer, Refused, Accepted, numberOf, ask, firstNo}
+use Rattle.rules.specs.Values.{Frame, Index, Lengths, frontierOf}
+use Rattle.rules.specs.Questions.{areaOk, question1, question2, question3, four}
 use Rattle.rules.specs.File.{encodeCheckpoint, encodeFrameHeader, encodeHeld, encodeLsn, encodeHint, encodeConfirmation}
+use Rattle.index.specs.declared.Made.{Made}
+use Rattle.index.specs.declared.Made.the-variants as made
+unfoldable pub use Rattle.sections.specs.Numbers.{endIn, idIn, endFrom, idFrom}
+pub use Rattle.sections.specs.Numbers.{numbersFrom}
 use Rattle.table.specs.Tables.{checkpointsIn, framesIn, partsIn, lsnsIn, hintsIn, confirmationsIn}
 
 -- the bytes of the seven tables
@@ -28,6 +27,9 @@ pub record Tables : Type 0 where
   pub malformed : List ℕ
   pub hints : List ℕ
   pub confirmed : List ℕ
+
+abbrev pub tables : List ℕ → List ℕ → List ℕ → List ℕ → List ℕ → List ℕ → List ℕ → Tables
+tables a b c d e f g = record { checkpoints = a; frames = b; store = c; parts = d; malformed = e; hints = f; confirmed = g }
 
 -- how many records each has space for
 abbrev pub roomOf : Tables → Lengths
@@ -43,14 +45,6 @@ roomOf t =
     }
 
 -- ---- the value that numbers and tables stand for
-unfoldable pub endIn : End → Option EndState
-endIn Open = none
-endIn (Closed e) = some e
-
-unfoldable pub idIn : ImageId → Option ℕ
-idIn Anonymous = none
-idIn (Id v) = some v
-
 abbrev pub indexIn : AreaIndex → Tables → Index
 indexIn x t =
     record {
@@ -76,47 +70,39 @@ indexIn x t =
       image = idIn (x .image);
     }
 
+-- ---- kind bytes, which a value cannot hold
 -- is the kind of each of the first h parts 0 or 1, as loading asks?
 unfoldable pub kindsOk : ℕ → List ℕ → Bool
 kindsOk h t = each (λ b. leb (numberAt 4 b 20) 1) (records 24 (λ b. b) h t)
 
--- 4 of an index in its tables: what they hold is what loading would accept
-unfoldable pub heldQuestion4 : AreaIndex → Tables → Bool
-heldQuestion4 x t = question4 (indexIn x t) && kindsOk (x .parts) (t .parts)
+abbrev pub kindsIn : AreaIndex → Tables → Bool
+kindsIn x t = kindsOk (x .parts) (t .parts)
 
--- 1 to 4 of an index in its tables, and then qs
-abbrev pub fourIn : AreaIndex → Tables → List Ask → List Ask
-fourIn x t qs =
-    ask (question1 (indexIn x t)) 1 ∷ ask (question2 (indexIn x t)) 2 ∷ ask (question3 (roomOf t) (indexIn x t)) 3 ∷ ask (heldQuestion4 x t) 4 ∷ qs
+-- 4 where a kind is neither, after 1 to 3
+unfoldable pub orFour : ℕ → ℕ
+orFour n = cond (ltb 0 n && leb n 3) n 4
 
--- ---- the numbers and tables of a value
-unfoldable pub endFrom : Option EndState → End
-endFrom none = Open
-endFrom (some e) = Closed e
+-- over a number, and over an answer of the rules
+unfoldable pub kindedNumber : Bool → ℕ → ℕ
+kindedNumber ok n = cond ok n (orFour n)
 
-unfoldable pub idFrom : Option ℕ → ImageId
-idFrom none = Anonymous
-idFrom (some v) = Id v
+unfoldable pub kinded : {A : Type 0} → Bool → Answer A → Answer A
+kinded ok r = cond ok r (Refused (orFour (numberOf r)))
 
-abbrev pub numbersFrom : Index → AreaIndex
-numbersFrom x =
-    record {
-      area = x .scan .area;
-      interval = x .scan .interval;
-      budget = x .scan .budget;
-      spacing = x .hinting .spacing;
-      most = x .hinting .most;
-      checkpoints = length (x .scan .checkpoints);
-      frames = length (x .scan .frames);
-      parts = length (x .scan .parts);
-      malformed = length (x .scan .malformed);
-      hints = length (x .hinting .hints);
-      confirmed = length (x .hinting .confirmed);
-      ending = endFrom (x .scan .ending);
-      fingerprint = x .fingerprint;
-      image = idFrom (x .image);
-    }
+-- ---- questions of an index in its tables
+-- 1 to 4: the number of the first answered no, 0 for none
+unfoldable pub refusal : AreaIndex → Tables → ℕ
+refusal x t = kindedNumber (kindsIn x t) (firstNo (four (roomOf t) (indexIn x t) []))
 
+-- 1 to 3
+unfoldable pub three : AreaIndex → Tables → ℕ
+three x t = firstNo (ask (question1 (indexIn x t)) 1 ∷ ask (question2 (indexIn x t)) 2 ∷ ask (question3 (roomOf t) (indexIn x t)) 3 ∷ [])
+
+-- 3
+unfoldable pub roomIn : AreaIndex → Tables → Bool
+roomIn x t = question3 (roomOf t) (indexIn x t)
+
+-- ---- the tables of a value
 -- bytes over the start of a table; past them it stays
 abbrev pub over : List ℕ → List ℕ → List ℕ
 over new old = new ++ drop (length new) old
@@ -136,3 +122,34 @@ tablesFrom x t =
       hints = over (bytesOf encodeHint (x .hinting .hints)) (t .hints);
       confirmed = over (bytesOf encodeConfirmation (x .hinting .confirmed)) (t .confirmed);
     }
+
+-- with the hint table cleared behind the list, up to record number w
+abbrev pub tablesCleared : ℕ → Index → Tables → Tables
+tablesCleared w x t =
+    record {
+      checkpoints = tablesFrom x t .checkpoints;
+      frames = tablesFrom x t .frames;
+      store = tablesFrom x t .store;
+      parts = tablesFrom x t .parts;
+      malformed = tablesFrom x t .malformed;
+      hints = over (bytesOf encodeHint (x .hinting .hints) ++ replicate ((w - length (x .hinting .hints)) * 8) 0) (t .hints);
+      confirmed = tablesFrom x t .confirmed;
+    }
+
+-- ---- the answer of a call that gives an index, and the tables afterwards
+pub record Out : Type 0 where
+  pub answer : Made
+  pub tables : Tables
+
+abbrev pub out : Made → Tables → Out
+out r t = record { answer = r; tables = t }
+
+-- a refusal changes no table; an accepted list is put into them
+unfoldable pub outOf : (Index → Tables) → Tables → Answer Index → Out
+outOf put t (Refused n) = out (made.Refused n) t
+outOf put t (Accepted x) = out (made.Index (numbersFrom x)) (put x)
+
+-- ---- readers
+-- the frontier, 0 where the area fails 1
+unfoldable pub frontierIn : AreaIndex → ℕ
+frontierIn x = cond (areaOk (x .area)) (frontierOf (x .area) (x .interval) (x .checkpoints) (endIn (x .ending))) 0

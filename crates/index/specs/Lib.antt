@@ -1,2 +1,3 @@
 pub mod Index
-pub mod Calls
+pub mod Needs
+pub mod Lent

@@ -1,6 +1,7 @@
 use Rattle.index.proofs.Each.{still, same, kindOk, itself, kinds-are, kind-no, kind-yes}
 use Rattle.index.specs.Index.{kindsOk}
 use Rattle.table.proofs.Walk.{Walk, walk-start, walk-on, walk-stop, walk-end}
+use native.Mathlib.Omega.{arith}
 use Prim.Native.Nat.{_-_}
 use mathlib.Core.Path.{refl}
 use borrow.Author.Needs.{needs}
@@ -17,10 +18,10 @@ loop-holds : tie.Need-loop-holds Inv-loop μ-loop
 loop-holds c = rw (← kinds-are _ _) (walk-start _ _ _ _ _ _ _)
 
 returns : tie.Need-returns Inv-loop μ-loop
-returns c = walk-stop (c .before .before .before .loop .inv) (c .before .before .loop-test .taken) refl (kind-no _ _ (c .before .read-u32 .ensures) (c .if1 .taken))
+returns c = walk-stop (c .before .before .before .loop .inv) (c .before .before .loop-test .taken) refl (kind-no _ _ (c .before .read-u32 .ensures) (omega arith))
 
 loop-again : tie.Need-loop-again Inv-loop μ-loop
-loop-again c = walk-on (c .before .before .before .loop .inv) (c .before .before .loop-test .taken) refl (kind-yes _ _ (c .before .read-u32 .ensures) (c .if1 .left)) refl
+loop-again c = walk-on (c .before .before .before .loop .inv) (c .before .before .loop-test .taken) refl (kind-yes _ _ (c .before .read-u32 .ensures) (omega arith)) refl
 
 returns-2 : tie.Need-returns-2 Inv-loop μ-loop
 returns-2 c = walk-end (c .before .loop .inv) (c .loop-test .left)

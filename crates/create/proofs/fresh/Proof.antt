@@ -1,0 +1,12 @@
+use Rattle.sections.specs.Numbers.{endFrom, idFrom}
+use Rattle.create.specs.Needs.{freshOf}
+use borrow.Author.Needs.{needs}
+use Rattle.create.proofs.fresh.Statement.{statement}
+use Rattle.create.proofs.fresh.Tie as tie
+
+returns : tie.Need-returns
+unfolding freshOf endFrom idFrom
+returns c = rw (c .min-u64 .ensures)
+
+pub fresh-spec : {M : Type 1} → statement M
+fresh-spec = tie.close (tie.spec (λ c. search needs) (λ c κs. search needs) (λ c. search needs) returns)

@@ -1,0 +1,4 @@
+pub mod Search
+pub mod Held
+pub mod Steps
+pub mod Part

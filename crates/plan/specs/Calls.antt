@@ -1,0 +1,16 @@
+-- What plan answers: the call of the rules on the list that the tables hold.
+use Prim.Native.Nat.{ℕ}
+use Rattle.rules.specs.declared.AreaIndex.{AreaIndex}
+use Rattle.rules.specs.declared.Plan.{Plan}
+use Rattle.rules.specs.Tests.{Answer, Refused, Accepted}
+use Rattle.rules.specs.Plan.{plan}
+use Rattle.index.specs.Index.{Tables, tables, roomOf, indexIn, kindsIn, kinded}
+use Rattle.plan.specs.declared.Planned.{Planned}
+use Rattle.plan.specs.declared.Planned.the-variants as variants
+
+unfoldable pub plannedOf : Planned → Answer Plan
+plannedOf (variants.Refused n) = Refused n
+plannedOf (variants.Plan p) = Accepted p
+
+unfoldable pub planIn : AreaIndex → Tables → ℕ → Answer Plan
+planIn x t first = kinded (kindsIn x t) (plan (roomOf t) (indexIn x t) first)
