@@ -1,4 +1,4 @@
 pub mod Places
-pub mod Questions
 pub mod Table
 pub mod Written
+pub mod Numbers

@@ -1,11 +1,8 @@
--- Where the fields of the header lie, and questions asked in order.
+-- Where the fields of the header lie.
 use Prim.Native.Nat.{ℕ, _+_, _≤_, _<_}
 use mathlib.Core.Path.{_≡_}
-use mathlib.Core.Bool.{Bool, cond}
 use mathlib.Core.List.{List, [], _∷_}
-use lib.Dec.{eqb}
 use lib.ListN.{length, getD, take}
-use Rattle.rules.specs.declared.Area.{Area}
 use Rattle.rules.specs.File.{Field, field, headerFields}
 
 -- field number i of fields
@@ -30,11 +27,3 @@ pub record Holds (b : List ℕ) (i w : ℕ) : Type 0 where
   pub long : 80 ≤ length b
   pub below : i < 19
   pub wide : entry headerFields i .width ≡ w
-
--- the refusal number after one more question
-unfoldable pub asked : ℕ → Bool → ℕ → ℕ
-asked before ok number = cond (eqb before 0) (cond ok 0 number) before
-
--- an area from start to end, of no key: boundaries do not depend on it
-abbrev pub stretch : ℕ → ℕ → Area
-stretch start end = record { key = record { slot = 0; start = 0; end = 0; channels = 0; sectors = 0 }; start = start; end = end }

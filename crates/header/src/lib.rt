@@ -1,7 +1,5 @@
 // The header of a file: its table of fields, read and written through it, and questions 23 to 30.
 use field::and;
-use field::not;
-use field::or;
 use field::read_u32;
 use field::read_u64;
 use field::write_u32;
@@ -9,6 +7,11 @@ use field::write_u64;
 use rules::Area;
 use rules::AreaKey;
 use rules::Header;
+use rules::MAX_INTERVAL;
+use rules::MAX_U32;
+use sections::area_boundaries;
+use sections::ask;
+use sections::counts_ok;
 ghost use mathlib.Core.Path.{_≡_};
 ghost use mathlib.Core.Bool.{true, cond};
 ghost use mathlib.Core.List.{_++_};
@@ -18,9 +21,10 @@ ghost use Rattle.field.specs.Number.{put};
 ghost use Rattle.rules.specs.File.{headerFields, fieldAt, readHeader, headerValues, headerBytes};
 ghost use Rattle.rules.specs.Load.{headerNumber, isComplete, hasFingerprint, keyOf, fixedSize};
 ghost use Rattle.rules.specs.Questions.{areaOk};
-ghost use Rattle.rules.specs.Sections.{countsOk};
-ghost use Rattle.rules.specs.Values.{sameKey, boundaries};
-ghost use Rattle.header.specs.Place.{Placed, Holds, entry, total, asked, stretch};
+ghost use Rattle.rules.specs.Tests.{firstNo};
+ghost use Rattle.rules.specs.Values.{sameKey};
+ghost use Rattle.header.specs.Place.{Placed, Holds, entry, total};
+ghost use Rattle.header.specs.Needs.{keyQuestions, sizeQuestions};
 
 // Where a field lies, and how many bytes it has.
 pub struct Field {
@@ -227,19 +231,6 @@ pub fn write_header(out: &mut [u8], h: Header)
     }
 }
 
-// The refusal number after one more question, whose refusal is number.
-pub fn ask(before: u32, ok: bool, number: u32) -> u32
-    ensures { λ r. ⌜ r ≡ asked before ok number ⌝ }
-{
-    if before != 0 {
-        before
-    } else if ok {
-        0
-    } else {
-        number
-    }
-}
-
 // Is the list complete?
 pub fn complete(h: Header) -> bool
     ensures { λ r. ⌜ r ≡ isComplete h ⌝ }
@@ -266,40 +257,6 @@ pub fn same_key(a: AreaKey, b: AreaKey) -> bool
                 a.end == b.end,
                 and(a.channels == b.channels, a.sectors == b.sectors),
             ),
-        ),
-    )
-}
-
-// How many boundaries an area from start to end has.
-pub fn boundaries(start: u64, end: u64, interval: u32) -> u64
-    requires { ⌜ (start ≤ end) × (end ≤ 4294967295) × (1 ≤ interval) ⌝ }
-    ensures { λ r. ⌜ (r ≡ boundaries (stretch start end) interval) × (r ≤ end - start) ⌝ }
-{
-    let k = interval as u64;
-    (end - start + k - 1) / k
-}
-
-// How many boundaries an area has; none where the interval is 0.
-pub fn area_boundaries(area: Area, interval: u32) -> u64
-    requires { ⌜ areaOk area ≡ true ⌝ }
-    ensures { λ r. ⌜ r ≡ boundaries area interval ⌝ }
-{
-    if interval == 0 {
-        return 0;
-    }
-    boundaries(area.start, area.end, interval)
-}
-
-// Counts of boundaries, checkpoints, frames, parts and malformed LSNs; whole is a complete list.
-pub fn counts_ok(b: u64, n: u32, whole: bool, f: u32, h: u32, m: u32) -> bool
-    ensures { λ r. ⌜ r ≡ countsOk b n whole f h m ⌝ }
-{
-    let count = n as u64;
-    and(
-        count <= b,
-        and(
-            or(not(whole), count == b),
-            and(h <= n, and(f <= h, m <= 4096)),
         ),
     )
 }
@@ -343,31 +300,44 @@ fn key_of(h: Header) -> AreaKey
     }
 }
 
-// Questions 23 to 30, with the bytes left behind the header.
+// Questions 23 to 26: is it a file of this area?
+fn key_number(area: Area, h: Header) -> u32
+    ensures { λ r. ⌜ r ≡ firstNo (keyQuestions area h) ⌝ }
+{
+    let version = and(1 <= h.version, h.version <= 3);
+    let flags = and(h.flags as u64 <= pick(2 <= h.version, 3, 1), h.zero15 == 0);
+    let same = same_key(key_of(h), area.key);
+    let n = ask(0, version, 23);
+    let n = ask(n, h.slot <= 1, 24);
+    let n = ask(n, flags, 25);
+    ask(n, same, 26)
+}
+
+// Questions 27 to 30, with the bytes left behind the header.
+fn size_number(area: Area, h: Header, left: usize) -> u32
+    requires { ⌜ areaOk area ≡ true ⌝ }
+    ensures { λ r. ⌜ r ≡ firstNo (sizeQuestions area h left) ⌝ }
+{
+    let b = area_boundaries(area, h.interval);
+    let whole = complete(h);
+    let counts = counts_ok(b, h.checkpoints, whole, h.frames, h.parts, h.malformed);
+    let fits = and(counts, fixed_size(h) <= left as u64);
+    let interval = and(1 <= h.interval, h.interval <= MAX_INTERVAL);
+    let n = ask(0, interval, 27);
+    let n = ask(n, h.zero52 == 0, 28);
+    let n = ask(n, h.budget <= MAX_U32, 29);
+    let n = ask(n, h.zero68 == 0, 28);
+    ask(n, fits, 30)
+}
+
+// Questions 23 to 30.
 pub fn header_number(area: Area, h: Header, left: usize) -> u32
     requires { ⌜ areaOk area ≡ true ⌝ }
     ensures { λ r. ⌜ r ≡ headerNumber area h left ⌝ }
 {
-    let n = ask(0, and(1 <= h.version, h.version <= 3), 23);
-    let n = ask(n, h.slot <= 1, 24);
-    let n = ask(
-        n,
-        and(h.flags as u64 <= pick(2 <= h.version, 3, 1), h.zero15 == 0),
-        25,
-    );
-    let n = ask(n, same_key(key_of(h), area.key), 26);
-    let n = ask(n, and(1 <= h.interval, h.interval <= 65536), 27);
-    let n = ask(n, h.zero52 == 0, 28);
-    let n = ask(n, h.budget <= 4294967295, 29);
-    let n = ask(n, h.zero68 == 0, 28);
-    let b = area_boundaries(area, h.interval);
-    let counts = counts_ok(
-        b,
-        h.checkpoints,
-        complete(h),
-        h.frames,
-        h.parts,
-        h.malformed,
-    );
-    ask(n, and(counts, fixed_size(h) <= left as u64), 30)
+    let n = key_number(area, h);
+    if n != 0 {
+        return n;
+    }
+    size_number(area, h, left)
 }

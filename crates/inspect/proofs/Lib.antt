@@ -1,3 +1,3 @@
-pub mod Words
 pub mod Sections
+pub mod Tails
 pub mod Whole

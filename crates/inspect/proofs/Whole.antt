@@ -2,10 +2,13 @@
 use mathlib.Core.Path.{_≡_, refl, sym, ap, subst, _∙_}
 use mathlib.Core.Bool.{Bool, true, false, cond}
 use mathlib.Core.List.{List, []}
-use Prim.Native.Nat.{ℕ, zero, suc, _<_, _≤_}
+use Prim.Native.Nat.{ℕ, zero, suc, _-_, _<_, _≤_}
+use native.Mathlib.Omega.{arith}
 use borrow.Author.Tests.{le-leb, lt-leb}
 use lib.Dec.{eqb, leb}
-use lib.ListN.{length, drop}
+use lib.ListN.{length, drop, length-drop}
+use lib.Seq.{take-all}
+use Rattle.field.specs.Number.{decode, numberAt}
 use Rattle.rules.specs.declared.Area.{Area}
 use Rattle.rules.specs.declared.Checkpoint.{Checkpoint}
 use Rattle.rules.specs.declared.Confirmation.{Confirmation}
@@ -15,7 +18,7 @@ use Rattle.rules.specs.Tests.{Answer, Refused, Accepted, after, bind, firstNo}
 use Rattle.rules.specs.Values.{Frame, Index, used}
 use Rattle.rules.specs.File.{readHeader}
 use Rattle.rules.specs.Load.{Read, readEach, HintSection, noHintHeader, readHintSection, readSections, indexFrom, bodyIn, sumIn, fileNumber, fromBytes}
-use Rattle.index.specs.Index.{idFrom}
+use Rattle.sections.specs.Numbers.{idFrom}
 use Rattle.rules.proofs.Tests.{accepted-eq, after→, bind→}
 use Rattle.inspect.specs.declared.Found.{Found}
 use Rattle.inspect.specs.declared.Inspected.{Inspected}
@@ -86,6 +89,10 @@ module _ (f : List ℕ) where
 pub whole-short : (a : Area) (b : List ℕ) → length b < 8 → inspected.Refused 20 ≡ inspection a b
 unfolding fromBytes fileNumber firstNo after inspectionOf
 whole-short a b h = rw (lt-leb 8 (length b) h)
+
+pub sum-is : {v : ℕ} (b : List ℕ) → 8 ≤ length b → v ≡ numberAt 8 b (length b - 8) → v ≡ sumIn b
+unfolding numberAt
+sum-is b h e = e ∙ ap decode (take-all 8 (drop (length b - 8) b) (simp length-drop (omega arith)))
 
 pub whole : {r : Inspected} (a : Area) (b : List ℕ) {sum : ℕ} {body : List ℕ} → 8 ≤ length b → body ≡ bodyIn b → sum ≡ sumIn b → r ≡ answered (fromBody a sum body)
     → r ≡ inspection a b

@@ -1,3 +1,2 @@
 pub mod Inspect
 pub mod Tails
-pub mod Cursors

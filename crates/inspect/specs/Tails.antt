@@ -16,10 +16,11 @@ use Rattle.rules.specs.declared.HintHeader.{HintHeader}
 use Rattle.rules.specs.declared.ImageId.the-variants.{Anonymous}
 use Rattle.rules.specs.Tests.{Answer, Refused, Accepted, after, ask, bind, firstNo}
 use Rattle.rules.specs.Values.{Frame, used, frontierOf}
-use Rattle.rules.specs.Sections.{risingOk, risen, ownLsn, anyLsn}
-use Rattle.rules.specs.File.{readHeader, magicBytes, decodeLsn}
-use Rattle.rules.specs.Load.{Read, readEach, readRecord, hasFingerprint, endingOf, headerNumber, endNumber, readCheckpoints, readFrames, readParts, readHintSection, readConfirmedSection}
-use Rattle.index.specs.Index.{endFrom}
+use Rattle.rules.specs.File.{readHeader, magicBytes}
+use Rattle.rules.specs.Load.{Read, hasFingerprint, endingOf, headerNumber, endNumber, readCheckpoints, readFrames, readParts, readHintSection, readConfirmedSection}
+use Rattle.table.specs.Files.{framesRead}
+use Rattle.inspect_scan.specs.Taken.{readLsns}
+use Rattle.sections.specs.Numbers.{endFrom}
 use Rattle.inspect.specs.declared.Found.{Found}
 use Rattle.inspect.specs.declared.Inspected.{Inspected}
 use Rattle.inspect.specs.declared.Inspected.the-variants as inspected
@@ -49,6 +50,10 @@ foundBy a h u g c =
       version = h .version;
     }
 
+-- the bytes of a header's frames
+abbrev pub usedBy : Header → List ℕ → ℕ
+usedBy h frames = used (framesRead (h .frames) frames)
+
 unfoldable pub answered : Answer Found → Inspected
 answered (Refused n) = inspected.Refused n
 answered (Accepted f) = inspected.Passed f
@@ -64,9 +69,6 @@ unfoldable pub fromHints : Area → Header → ℕ → List ℕ → Answer Found
 fromHints a h u b = bind (readHintSection a h b) (λ hs. fromConfirmed a h u (hs .value .header) (hs .rest))
 
 -- below the frontier front
-abbrev pub readLsns : Area → Header → ℕ → List ℕ → Answer (Read (List ℕ))
-readLsns a h front b = readEach (readRecord 4 decodeLsn (risingOk ownLsn anyLsn front) 35) (risen ownLsn) (h .malformed) (a .start) b
-
 unfoldable pub fromMalformed : Area → Header → ℕ → ℕ → List ℕ → Answer Found
 fromMalformed a h u front b = bind (readLsns a h front b) (λ ms. fromHints a h u (ms .rest))
 

@@ -1,42 +1,28 @@
-use mathlib.Core.Path.{refl}
-use Rattle.rules.specs.Load.{headerNumber}
-use Rattle.header.proofs.Questions.{asked-all}
+use Rattle.header.proofs.Numbers.{number-no, number-yes}
 use borrow.Author.Needs.{needs}
 use Rattle.header.proofs.header_number.Statement.{statement}
 use Rattle.header.proofs.header_number.Tie as tie
+use Rattle.header.proofs.header_number.Reads as reads
+use Rattle.header.proofs.header_number.Lts as lts
+use Rattle.header.proofs.key_number.Reads as key-number-reads
+use Rattle.header.proofs.size_number.Reads as size-number-reads
 
-area-boundaries-requires : tie.Need-area-boundaries-requires
-area-boundaries-requires c κs = c .before .before .before .before .before .before .before .before .before .before .before .before .before .before .before .before .before .before .before .before .before .before .before .before .before .pre
+-- src/lib.rt:338:9
+key-number-requires : tie.Need-key-number-requires
+key-number-requires c κs = search needs
 
+-- src/lib.rt:340:9
 returns : tie.Need-returns
-unfolding headerNumber
-returns c =
-    asked-all _ refl
-    (rw (c .ask9 .ensures, c .before .and4 .ensures, c .before .before .fixed-size .ensures, c .before .before .before .counts-ok .ensures, c .before .before .before .before .complete .ensures, c .before .before .before .before .before .area-boundaries .ensures, c .before .before .before .before .before .before .ask8 .ensures, c .before .before .before .before .before .before .before .before .ask7 .ensures, c .before .before .before .before .before .before .before .before .before .before .ask6 .ensures, c .before .before .before .before .before .before .before .before .before .before .before .before .ask5 .ensures, c .before .before .before .before .before .before .before .before .before .before .before .before .before .and3 .ensures, c .before .before .before .before .before .before .before .before .before .before .before .before .before .before .before .before .ask4 .ensures, c .before .before .before .before .before .before .before .before .before .before .before .before .before .before .before .before .before .same-key .ensures, c .before .before .before .before .before .before .before .before .before .before .before .before .before .before .before .before .before .before .key-of .ensures, c .before .before .before .before .before .before .before .before .before .before .before .before .before .before .before .before .before .before .before .ask3 .ensures, c .before .before .before .before .before .before .before .before .before .before .before .before .before .before .before .before .before .before .before .before .and2 .ensures, c .before .before .before .before .before .before .before .before .before .before .before .before .before .before .before .before .before .before .before .before .before .before .pick .ensures .0, c .before .before .before .before .before .before .before .before .before .before .before .before .before .before .before .before .before .before .before .before .before .before .before .before .before .ask2 .ensures, c .before .before .before .before .before .before .before .before .before .before .before .before .before .before .before .before .before .before .before .before .before .before .before .before .before .before .before .ask .ensures, c .before .before .before .before .before .before .before .before .before .before .before .before .before .before .before .before .before .before .before .before .before .before .before .before .before .before .before .before .and .ensures))
+returns c = number-no _ _ _ (c .before .key-number .ensures) (c .if1 .taken)
+
+-- src/lib.rt:342:5
+size-number-requires : tie.Need-size-number-requires
+size-number-requires c κs = search needs
+
+-- src/lib.rt:334:1
+returns-2 : tie.Need-returns-2
+returns-2 c = number-yes _ _ _ (c .before .before .key-number .ensures) (c .before .if1 .left) (c .size-number .ensures)
 
 pub header-number-spec : {M : Type 1} → statement M
 header-number-spec =
-    tie.close
-    (tie.spec
-    (λ c κs. search needs)
-    (λ c κs. search needs)
-    (λ c κs. search needs)
-    (λ c. search needs)
-    (λ c κs. search needs)
-    (λ c κs. search needs)
-    (λ c κs. search needs)
-    (λ c κs. search needs)
-    (λ c κs. search needs)
-    (λ c κs. search needs)
-    (λ c κs. search needs)
-    (λ c κs. search needs)
-    (λ c κs. search needs)
-    (λ c κs. search needs)
-    (λ c κs. search needs)
-    area-boundaries-requires
-    (λ c κs. search needs)
-    (λ c κs. search needs)
-    (λ c κs. search needs)
-    (λ c κs. search needs)
-    (λ c κs. search needs)
-    returns)
+    tie.close (tie.spec key-number-requires returns size-number-requires returns-2)

@@ -1,24 +1,25 @@
-use denote.Ref.{now}
-use Rattle.field.proofs.Records.{records-length}
-use Rattle.rules.specs.Tests.{bind, after, firstNo}
-use Rattle.inspect.specs.Tails.{fromConfirmed, atEnd, answered}
-use Rattle.inspect.specs.Cursors.{confirmedBy}
-use Rattle.inspect.proofs.Words.{left-over, all-done}
+use Rattle.inspect.proofs.Sections.{TookConfirmed, confirmed-taken, counted-refused}
+use Rattle.inspect.proofs.Tails.{stops, left-over, all-done}
+use Rattle.inspect.specs.Tails.{fromConfirmed}
 use borrow.Author.Needs.{needs}
 use Rattle.inspect.proofs.inspect_confirmed.Statement.{statement}
 use Rattle.inspect.proofs.inspect_confirmed.Tie as tie
 
+abbrev taken-call : tie.After-known-told2 → tie.Start
+taken-call c = c .before .before .before .before .before
+
+taken : (c : tie.After-known-told2) → TookConfirmed (taken-call c .args .area) (taken-call c .args .h) (taken-call c .args .g .most) (taken-call c .args .body .now) (taken-call c .args .c .at) (c .before .count .given .0 .0) (c .before .count .given .0 .1 .0)
+taken c = confirmed-taken _ _ _ _ _ (c .before .before .before .before .before .pre) (c .before .before .before .confirmed-section .ensures) (c .before .count .given .1)
+
 returns : tie.Need-returns
-unfolding fromConfirmed atEnd confirmedBy bind after firstNo answered
-returns c = rw (c .before .before .before .before .before .confirmed-section .ensures, c .before .before .before .count .given .1, left-over (now (c .before .before .before .before .before .before .before .args .body)) ((c .before .before .before .count .given .0 .1 .0 .at)) (c .if1 .taken))
+returns c = left-over _ _ _ _ _ _ (taken (c .before .before)) (c .if1 .taken)
 
 returns-2 : tie.Need-returns-2
-unfolding fromConfirmed confirmedBy bind answered
-returns-2 c = rw (c .before .before .before .confirmed-section .ensures, c .before .k .given .1)
+unfolding fromConfirmed
+returns-2 c = stops _ (counted-refused _ _ _ _ _ (c .before .before .before .before .before .pre) (c .before .before .before .confirmed-section .ensures) (c .before .k .given .1))
 
 returns-3 : tie.Need-returns-3
-unfolding fromConfirmed atEnd confirmedBy bind after firstNo answered
-returns-3 c = rw (c .found-by .ensures, c .before .before .before .before .before .before .confirmed-section .ensures, c .before .before .before .before .count .given .1, all-done (now (c .before .before .before .before .before .before .before .before .args .body)) ((c .before .before .before .before .count .given .0 .1 .0 .at)) (c .before .if1 .left), records-length)
+returns-3 c = all-done _ _ _ _ _ _ (taken (c .before .before .before)) (c .before .if1 .left) (c .found-by .ensures)
 
 pub inspect-confirmed-spec : {M : Type 1} → statement M
 inspect-confirmed-spec =

@@ -1,7 +1,7 @@
 use Rattle.field.proofs.Records.{records-length}
-use Rattle.header.proofs.Questions.{ordered}
+use Rattle.sections.proofs.Questions.{ordered}
 use Rattle.inspect.specs.Tails.{fromEnd, answered}
-use Rattle.inspect.proofs.Words.{after-no, after-yes}
+use Rattle.inspect.proofs.Tails.{after-no, after-yes}
 use borrow.Author.Needs.{needs}
 use Rattle.inspect.proofs.inspect_end.Statement.{statement}
 use Rattle.inspect.proofs.inspect_end.Tie as tie
@@ -11,7 +11,7 @@ unfolding fromEnd answered
 returns c = rw (← (c .before .end-number .ensures), after-no (c .before .end-number .result) _ (c .if1 .taken))
 
 frontier-of-requires : tie.Need-frontier-of-requires
-frontier-of-requires c κs = let o = ordered ((c .before .before .before .before .before .before .args .area)) (c .before .before .before .before .before .before .pre .0) in search needs
+frontier-of-requires c κs = let o = ordered (c .before .before .before .before .before .before .args .area) (c .before .before .before .before .before .before .pre .0) in search needs
 
 returns-2 : tie.Need-returns-2
 unfolding fromEnd

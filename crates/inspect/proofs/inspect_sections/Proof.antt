@@ -1,38 +1,35 @@
-use Prim.Native.Nat.{_*_}
-use denote.Ref.{now}
-use lib.ListN.{drop}
 use native.Mathlib.Omega.{arith}
-use Rattle.field.proofs.Records.{records-take}
-use Rattle.rules.specs.File.{decodeCheckpoint}
-use Rattle.rules.specs.Tests.{bind}
-use Rattle.inspect.specs.Tails.{fromCheckpoints, answered}
-use Rattle.inspect.specs.Cursors.{answerBy}
-use Rattle.inspect.proofs.Sections.{part-fits}
+use Rattle.inspect.proofs.Sections.{tail-is}
+use Rattle.inspect.proofs.Tails.{checkpoints-fit, checkpoints-no, checkpoints-yes}
 use borrow.Author.Needs.{needs}
 use Rattle.inspect.proofs.inspect_sections.Statement.{statement}
 use Rattle.inspect.proofs.inspect_sections.Tie as tie
 
-inspect-stored-requires : tie.Need-inspect-stored-requires
-inspect-stored-requires c κs = (c .before .before .before .before .before .before .before .pre .0, part-fits (now (c .before .before .before .before .before .before .before .args .body)) 80 (c .before .before .before .before .before .before .before .args .h .checkpoints * 24) (c .before .before .before .before .before .before .before .pre .1) (c .part .ensures), c .before .before .before .before .checkpoints .ensures .inside _ (c .before .before .d .given .1))
+check-checkpoints-requires : tie.Need-check-checkpoints-requires
+check-checkpoints-requires c κs = let call = c .before .before .before .before in (checkpoints-fit (call .args .area) (call .args .h) (call .args .body .now) (call .pre .1) (rw (tail-is (call .args .body .now) 80) at (c .cut .ensures)), omega (arith, (c .before .before .struct-known .given)))
 
 returns : tie.Need-returns
-unfolding fromCheckpoints answerBy bind answered
-returns c = rw (c .before .before .before .checkpoints .ensures .is, c .before .k .given .1)
+returns c = let call = c .before .before .before .before .before .before in checkpoints-no (call .args .area) (call .args .h) (call .args .body .now) (call .pre .1) (rw (tail-is (call .args .body .now) 80) at (c .before .before .cut .ensures)) (c .before .check-checkpoints .ensures) (c .if1 .taken)
+
+inspect-stored-requires : tie.Need-inspect-stored-requires
+inspect-stored-requires c κs = let call = c .before .before .before .before .before .before in ((call .pre .0), checkpoints-fit (call .args .area) (call .args .h) (call .args .body .now) (call .pre .1) (rw (tail-is (call .args .body .now) 80) at (c .before .before .cut .ensures)), (call .pre .1))
 
 returns-2 : tie.Need-returns-2
-unfolding fromCheckpoints answerBy bind
-returns-2 c = rw (c .inspect-stored .ensures, c .before .part .ensures, records-take 24 decodeCheckpoint ((c .before .before .before .before .before .before .before .before .args .h .checkpoints)) ((c .before .before .before .before .before .before .before .before .args .h .checkpoints) * 24) (drop 80 (now (c .before .before .before .before .before .before .before .before .args .body))) (omega arith), c .before .before .before .before .before .checkpoints .ensures .is, c .before .before .before .d .given .1)
+returns-2 c = let call = c .before .before .before .before .before .before .before in checkpoints-yes (call .args .area) (call .args .h) (call .args .body .now) (call .pre .1) (rw (tail-is (call .args .body .now) 80) at (c .before .before .before .cut .ensures)) (c .before .before .check-checkpoints .ensures) (c .before .if1 .left) (c .inspect-stored .ensures)
 
 pub inspect-sections-spec : {M : Type 1} → statement M
 inspect-sections-spec =
     tie.close
     (tie.spec
     (λ c. search needs)
+    (λ c. search needs)
+    (λ c. search needs)
+    (λ c. search needs)
+    (λ c. search needs)
     (λ c κs. search needs)
-    (λ c. search needs)
-    (λ c. search needs)
-    (λ c. search needs)
-    (λ c κs. search needs)
-    inspect-stored-requires
+    check-checkpoints-requires
     returns
+    (λ c. search needs)
+    (λ c. search needs)
+    inspect-stored-requires
     returns-2)

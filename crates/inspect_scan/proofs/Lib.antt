@@ -1,0 +1,4 @@
+pub mod Loop
+pub mod Frames
+pub mod Parts
+pub mod Lsns

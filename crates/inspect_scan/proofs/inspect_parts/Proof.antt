@@ -1,0 +1,74 @@
+use native.Mathlib.Omega.{arith}
+use mathlib.Core.Path.{_≡_, ap}
+use mathlib.Core.Bool.{true}
+use Prim.Native.Nat.{_-_}
+use lib.Dec.{eqb}
+use Rattle.rules.specs.Load.{readPart, readParts}
+use Rattle.table.specs.Tables.{checkpointsIn, before, partNext}
+use Rattle.table.specs.Files.{framesRead}
+use Rattle.inspect_scan.specs.Taken.{takenOf}
+use Rattle.inspect_scan.specs.Needs.{LastAt}
+use Rattle.table.proofs.Frames.{before-next}
+use Rattle.inspect_scan.proofs.Loop.{Reading, reading-start, reading-on, reading-stop, reading-end}
+use Rattle.inspect_scan.proofs.Parts.{PartRead, part-read, part-refused, last-none, last-next}
+use borrow.Author.Needs.{needs}
+use Rattle.inspect_scan.proofs.inspect_parts.Statement.{statement}
+use Rattle.inspect_scan.proofs.inspect_parts.Tie as tie
+
+abbrev Inv-loop : tie.InvT-loop
+Inv-loop b area h checkpoints frames n last₀ here₀ j₀ last here j = Reading (readPart area (h .interval) (checkpointsIn (h .checkpoints) checkpoints) (framesRead (h .frames) frames)) partNext n b (takenOf b (readParts area h (checkpointsIn (h .checkpoints) checkpoints) (framesRead (h .frames) frames) b)) j here (before (eqb j 0) (last .part)) × LastAt frames (eqb j 0) last
+
+abbrev μ-loop : tie.MeasureT-loop
+μ-loop b area h checkpoints frames n last₀ here₀ j₀ last here j = n - j
+
+loop-holds : tie.Need-loop-holds Inv-loop μ-loop
+unfolding before
+loop-holds c = (reading-start _ _ _ _ _, last-none _ (c .no-part .ensures))
+
+inspect-part-requires : tie.Need-inspect-part-requires Inv-loop μ-loop
+inspect-part-requires c κs = ((c .before .before .before .before .before .before .before .before .pre), (c .before .before .loop .inv .1))
+
+returns : tie.Need-returns Inv-loop μ-loop
+returns c = reading-stop (c .before .before .before .before .before .before .loop .inv .0) (c .before .before .before .before .before .loop-test .taken) (part-refused _ _ _ _ _ _ (c .before .before .before .before .before .before .before .before .before .before .before .before .args .b .now) (c .before .before .before .before .before .before .loop .here) (c .before .before .before .before .behind .ensures) (c .before .before .before .inspect-part .ensures) (c .before .k .given .1))
+
+abbrev turn-call : tie.After-known-told2 Inv-loop μ-loop → tie.Start Inv-loop μ-loop
+turn-call c = c .before .before .before .before .before .before .before .before .before .before .before .before
+
+abbrev turn-loop : tie.After-known-told2 Inv-loop μ-loop → tie.At-loop Inv-loop μ-loop
+turn-loop c = c .before .before .before .before .before .before
+
+-- the part that this turn read
+turn : (c : tie.After-known-told2 Inv-loop μ-loop) → PartRead (turn-call c .args .area) (turn-call c .args .h .interval) (checkpointsIn (turn-call c .args .h .checkpoints) (turn-call c .args .checkpoints .now)) (framesRead (turn-call c .args .h .frames) (turn-call c .args .frames .now)) (before (eqb (turn-loop c .loop .j) 0) (turn-loop c .loop .last .part)) (turn-call c .args .frames .now) (turn-call c .args .b .now) (turn-loop c .loop .here) (c .before .next .given .0 .0)
+turn c = part-read _ _ _ _ _ _ _ _ (c .before .before .before .before .behind .ensures) (c .before .before .before .inspect-part .ensures) (c .before .next .given .1)
+
+add-here : tie.Need-add-here Inv-loop μ-loop
+add-here c = let y = turn c in search needs
+
+add-j : tie.Need-add-j Inv-loop μ-loop
+add-j c = record { fits = omega (arith, (c .before .before .before .before .before .loop-test .taken), (c .before .before .before .before .before .before .before .before .struct-known .given)) }
+
+loop-again : tie.Need-loop-again Inv-loop μ-loop
+loop-again c = let y = turn c in (reading-on (c .before .before .before .before .before .before .loop .inv .0) (c .before .before .before .before .before .loop-test .taken) (y .is) (y .inside) (before-next (c .before .before .before .before .before .before .loop .j) _), last-next (c .before .before .before .before .before .before .loop .j) (y .place))
+
+returns-2 : tie.Need-returns-2 Inv-loop μ-loop
+returns-2 c = reading-end (c .before .loop .inv .0) (c .loop-test .left)
+
+pub inspect-parts-spec : {M : Type 1} → statement M
+inspect-parts-spec =
+    tie.close
+    (tie.spec
+    Inv-loop
+    μ-loop
+    (λ c. search needs)
+    (λ c κs. search needs)
+    loop-holds
+    (λ c κs. search needs)
+    inspect-part-requires
+    (λ c. search needs)
+    returns
+    (λ c. search needs)
+    add-here
+    add-j
+    (λ c. search needs)
+    loop-again
+    returns-2)
