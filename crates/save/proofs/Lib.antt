@@ -1,4 +1,3 @@
 pub mod Sections
-pub mod Frames
 pub mod Numbers
 pub mod Saving

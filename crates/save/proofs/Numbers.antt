@@ -1,127 +1,31 @@
--- What the numbers of an index say of its value: version, headers and length. Assumes nothing.
+-- The sections of an index, and the room that they need. Assumes nothing.
 use mathlib.Core.Path.{_≡_, refl, sym, _∙_}
-use mathlib.Core.Bool.{Bool, true, false, _&&_, _||_, not, cond}
+use mathlib.Core.Bool.{cond}
 use mathlib.Core.List.{List, [], _++_, append-assoc}
-use Prim.Native.Nat.{ℕ, _+_, _*_, _≤_}
+use Prim.Native.Nat.{ℕ, _+_, _*_, _≤_, _<_}
 use native.Mathlib.Omega.{arith}
-use lib.Dec.{eqb, leb}
+use borrow.Author.Tests.{le-leb, lt-leb}
+use lib.Dec.{leb}
 use lib.ListN.{length}
-use Rattle.field.specs.Number.{decode}
 use Rattle.field.proofs.Records.{records-length}
 use Rattle.rules.specs.declared.AreaIndex.{AreaIndex}
-use Rattle.rules.specs.declared.EndState.{EndState}
-use Rattle.rules.specs.declared.Header.{Header}
-use Rattle.rules.specs.declared.HintHeader.{HintHeader}
-use Rattle.rules.specs.Tests.{isSome}
-use Rattle.rules.specs.Values.{stated, used}
-use Rattle.rules.specs.Sections.{framesOk}
-use Rattle.rules.specs.File.{decodeCheckpoint, decodeHeld, decodeLsn, decodeHint, decodeConfirmation, bit, endOrZero, hasHinting, versionOf, headerBytes, headerOf, hintSection, confirmedSection, bodyOf, savedLength}
-use Rattle.table.specs.Tables.{Checked, decodeHeader, headersIn, checkpointsIn, framesIn, partsIn, lsnsIn, hintsIn, confirmationsIn}
-use Rattle.table.proofs.Frames.{frames-length, frames-by}
-use Rattle.scanlaws.proofs.Parts.{frames-used}
-use Rattle.index.specs.Index.{Tables, endIn, indexIn}
-use Rattle.index.specs.Calls.{tables}
-use Rattle.save.specs.Save.{Put, Framed, hintHeaderOf, hintBytes, confirmedBytes, hintIndex, hintingSize, scanBytes, scanSize}
+use Rattle.rules.specs.Values.{used}
+use Rattle.rules.specs.File.{decodeHint, decodeConfirmation, hasHinting, versionOf, headerBytes, headerOf, hintSection, confirmedSection, bodyOf, savedLength}
+use Rattle.table.specs.Tables.{framesIn}
+use Rattle.index.specs.Index.{Tables, indexIn, tables}
+use Rattle.write.specs.Write.{Put}
+use Rattle.write.proofs.Sections.{put-both}
+use Rattle.layout.specs.Layout.{hintHeaderOf}
+use Rattle.layout.proofs.Numbers.{length-is, version-any}
+use Rattle.save.specs.Steps.{hintBytes, confirmedBytes, hintIndex, hintingSize, scanBytes, scanSize}
 
--- ---- the counts
+-- the length by its parts
 module _ (x : AreaIndex) (t : Tables) where
-  pub count-checkpoints : length (checkpointsIn (x .checkpoints) (t .checkpoints)) ≡ x .checkpoints
-  count-checkpoints = records-length 24 decodeCheckpoint (x .checkpoints) (t .checkpoints)
-
-  pub count-frames : length (framesIn (x .frames) (t .frames) (t .store)) ≡ x .frames
-  count-frames = frames-length (headersIn (x .frames) (t .frames)) (t .store) ∙ records-length 8 decodeHeader (x .frames) (t .frames)
-
-  pub count-parts : length (partsIn (x .parts) (t .parts)) ≡ x .parts
-  count-parts = records-length 24 decodeHeld (x .parts) (t .parts)
-
-  pub count-malformed : length (lsnsIn (x .malformed) (t .malformed)) ≡ x .malformed
-  count-malformed = records-length 4 decodeLsn (x .malformed) (t .malformed)
-
-  pub count-hints : length (hintsIn (x .hints) (t .hints)) ≡ x .hints
-  count-hints = records-length 8 decodeHint (x .hints) (t .hints)
-
-  pub count-confirmed : length (confirmationsIn (x .confirmed) (t .confirmed)) ≡ x .confirmed
-  count-confirmed = records-length 16 decodeConfirmation (x .confirmed) (t .confirmed)
-
--- ---- the version
-abbrev moreIn : AreaIndex → Bool
-moreIn x = isSome (stated (x .fingerprint)) || (not (eqb (x .hints) 0) || not (eqb (x .spacing) 8 && eqb (x .most) 2048))
-
-module _ (x : AreaIndex) (t : Tables) where
-  pub version-is : versionOf (indexIn x t) ≡ cond (not (eqb (x .confirmed) 0)) 3 (cond (moreIn x) 2 1)
-  unfolding versionOf hasHinting
-  version-is = rw (count-confirmed x t, count-hints x t)
-
-  pub version-three : {p : Bool} → p ≡ not (eqb (x .confirmed) 0) → p ≡ true → 3 ≡ versionOf (indexIn x t)
-  version-three e h = rw (version-is, ← e, h)
-
-  pub version-two : {p q : Bool} → p ≡ not (eqb (x .confirmed) 0) → p ≡ false → q ≡ moreIn x → q ≡ true → 2 ≡ versionOf (indexIn x t)
-  version-two e h f g = rw (version-is, ← e, h, ← f, g)
-
-  pub version-one : {p q : Bool} → p ≡ not (eqb (x .confirmed) 0) → p ≡ false → q ≡ moreIn x → q ≡ false → 1 ≡ versionOf (indexIn x t)
-  version-one e h f g = rw (version-is, ← e, h, ← f, g)
-
--- it does not depend on the tables
-pub version-any : (x : AreaIndex) (s t : Tables) → versionOf (indexIn x s) ≡ versionOf (indexIn x t)
-version-any x s t = version-is x s ∙ sym (version-is x t)
-
--- ---- the header
-pub header-is : (x : AreaIndex) (t : Tables) (v a b : ℕ) (e : EndState) → v ≡ versionOf (indexIn x t) → a ≡ bit (isSome (endIn (x .ending)))
-    → b ≡ bit (isSome (stated (x .fingerprint))) → e ≡ endOrZero (endIn (x .ending))
-    → _≡_ {A = Header} (record {
-      magic = 6361698709525447251;
-      version = v;
-      slot = x .area .key .slot;
-      channels = x .area .key .channels;
-      flags = a + 2 * b;
-      zero15 = 0;
-      start = x .area .key .start;
-      end = x .area .key .end;
-      sectors = x .area .key .sectors;
-      interval = x .interval;
-      checkpoints = x .checkpoints;
-      frames = x .frames;
-      parts = x .parts;
-      malformed = x .malformed;
-      zero52 = 0;
-      budget = x .budget;
-      threshold = e .threshold;
-      zero68 = 0;
-      counted = e .malformed;
-    }) (headerOf (indexIn x t))
-unfolding headerOf decode
-header-is x t v a b e p q r s =
-    rw (p, q, r, s, count-checkpoints x t, count-frames x t, count-parts x t, count-malformed x t)
-
--- ---- the frames' bytes
-pub frames-counted : (x : AreaIndex) (frames : List ℕ) {ok : Bool} {u : ℕ} → Framed x frames
-    → ((store : List ℕ) → Checked (framesOk (x .area) (x .budget)) (framesIn (x .frames) frames store) ok u)
-    → (store : List ℕ) → (u ≡ used (framesIn (x .frames) frames store)) × (u ≤ 4294967295)
-frames-counted x frames f c store =
-    let hs = headersIn (x .frames) frames in
-    let g : framesOk (x .area) (x .budget) (framesIn (x .frames) frames store) ≡ true =
-    frames-by (x .area) (x .budget) hs store ∙ sym (frames-by (x .area) (x .budget) hs []) ∙ f .rule in
-    let k = c store in
-    let e = k .bytes-are (k .answer ∙ g) in
-    (e, omega (arith, frames-used (x .area) (x .budget) (framesIn (x .frames) frames store) g, f .budgeted))
-
--- ---- the length
-module _ (x : AreaIndex) (t : Tables) where
-  pub length-is : {u v s h k : ℕ} → u ≡ used (framesIn (x .frames) (t .frames) (t .store)) → v ≡ versionOf (indexIn x t)
-      → s ≡ 24 * x .checkpoints + (8 * x .frames + u) + 24 * x .parts + 4 * x .malformed
-      → h ≡ cond (leb 2 v) (24 + 8 * x .hints) 0 → k ≡ cond (leb 3 v) (8 + 16 * x .confirmed) 0
-      → 80 + s + h + k + 8 ≡ savedLength (indexIn x t)
-  unfolding savedLength
-  length-is p q o r s =
-      rw (o, r, s, q, p, count-checkpoints x t, count-frames x t, count-parts x t, count-malformed x t, count-hints x t, count-confirmed x t) (omega arith)
-
-  -- by its parts
   pub sizes-are : 80 + (scanSize x (used (framesIn (x .frames) (t .frames) (t .store))) + hintingSize x) + 8 ≡ savedLength (indexIn x t)
   sizes-are =
-      let e = length-is refl (version-any x (tables [] [] [] [] [] [] []) t) refl refl refl in
+      let e = length-is x t refl (version-any x (tables [] [] [] [] [] [] []) t) refl refl refl in
       omega arith
 
--- ---- sections
 module _ (x : AreaIndex) (hints confirmed : List ℕ) where
   hints-are : cond (leb 2 (versionOf (hintIndex x hints confirmed))) (hintBytes (hintHeaderOf x) hints) [] ≡ hintSection (hintIndex x hints confirmed)
   unfolding hintSection
@@ -131,18 +35,43 @@ module _ (x : AreaIndex) (hints confirmed : List ℕ) where
   unfolding confirmedSection
   confirmed-are = rw (records-length 16 decodeConfirmation (x .confirmed) confirmed)
 
-  pub hinting-put : {v : ℕ} {h : HintHeader} {o : List ℕ} {at n : ℕ} {o' : List ℕ} → ((t : Tables) → v ≡ versionOf (indexIn x t)) → h ≡ hintHeaderOf x
-      → Put (cond (leb 2 v) (hintBytes h hints) [] ++ cond (leb 3 v) (confirmedBytes (x .confirmed) confirmed) [])
-      (cond (leb 2 v) (24 + 8 * h .count) 0 + cond (leb 3 v) (8 + 16 * x .confirmed) 0) o at n o'
-      → Put (hintSection (hintIndex x hints confirmed) ++ confirmedSection (hintIndex x hints confirmed)) (hintingSize x) o at n o'
-  hinting-put e g p =
-      let i = tables [] [] [] [] [] hints confirmed in
-      let q = rw (g, e i) at p in
-      rw (← hints-are, ← confirmed-are, version-any x (tables [] [] [] [] [] [] []) i) q
+  module _ {v : ℕ} (e : (t : Tables) → v ≡ versionOf (indexIn x t)) where
+    sections-are : cond (leb 2 v) (hintBytes (hintHeaderOf x) hints) [] ++ cond (leb 3 v) (confirmedBytes (x .confirmed) confirmed) []
+        ≡ hintSection (hintIndex x hints confirmed) ++ confirmedSection (hintIndex x hints confirmed)
+    sections-are = rw (e (tables [] [] [] [] [] hints confirmed), hints-are, confirmed-are)
 
-pub hinting-room : (x : AreaIndex) {v : ℕ} {h : HintHeader} (at n : ℕ) → v ≡ versionOf (hintIndex x [] []) → h ≡ hintHeaderOf x → at + hintingSize x ≤ n
-    → at + (cond (leb 2 v) (24 + 8 * h .count) 0 + cond (leb 3 v) (8 + 16 * x .confirmed) 0) ≤ n
-hinting-room x at n e g r = rw (e, g) r
+    size-is : cond (leb 2 v) (24 + 8 * x .hints) 0 + cond (leb 3 v) (8 + 16 * x .confirmed) 0 ≡ hintingSize x
+    size-is = rw (e (tables [] [] [] [] [] [] []))
+
+    -- version 1 has neither section
+    pub hinting-none : (o : List ℕ) (at : ℕ) → v < 2
+        → Put (hintSection (hintIndex x hints confirmed) ++ confirmedSection (hintIndex x hints confirmed)) (hintingSize x) o at at o
+    hinting-none o at h =
+        let l : v < 3 = omega arith in
+        rw (← sections-are, ← size-is, lt-leb 2 v h, lt-leb 3 v l) (record { size = refl; ends = omega arith; bytes = refl })
+
+    -- version 2 has the first
+    pub hinting-first : {o : List ℕ} {at n : ℕ} {o' : List ℕ} → 2 ≤ v → v < 3 → Put (hintBytes (hintHeaderOf x) hints) (24 + 8 * x .hints) o at n o'
+        → Put (hintSection (hintIndex x hints confirmed) ++ confirmedSection (hintIndex x hints confirmed)) (hintingSize x) o at n o'
+    hinting-first h l p =
+        rw (← sections-are, ← size-is, le-leb 2 v h, lt-leb 3 v l) (put-both {r = []} {m = 0} p (record { size = refl; ends = omega arith; bytes = refl }))
+
+    -- version 3 has both
+    pub hinting-both : {o : List ℕ} {at k n : ℕ} {o' o2 : List ℕ} → 3 ≤ v → Put (hintBytes (hintHeaderOf x) hints) (24 + 8 * x .hints) o at k o'
+        → Put (confirmedBytes (x .confirmed) confirmed) (8 + 16 * x .confirmed) o' k n o2
+        → Put (hintSection (hintIndex x hints confirmed) ++ confirmedSection (hintIndex x hints confirmed)) (hintingSize x) o at n o2
+    hinting-both h p q =
+        let l : 2 ≤ v = omega arith in
+        rw (← sections-are, ← size-is, le-leb 2 v l, le-leb 3 v h) (put-both p q)
+
+    -- their room
+    pub hint-room : 2 ≤ v → 24 + 8 * x .hints ≤ hintingSize x
+    hint-room h = rw (← size-is, le-leb 2 v h) (omega arith)
+
+    pub both-room : 3 ≤ v → 24 + 8 * x .hints + (8 + 16 * x .confirmed) ≤ hintingSize x
+    both-room h =
+        let l : 2 ≤ v = omega arith in
+        rw (← size-is, le-leb 2 v l, le-leb 3 v h) (omega arith)
 
 -- the sections end to end
 pub body-is : (x : AreaIndex) (t : Tables) → headerBytes (headerOf (indexIn x t))

@@ -5,24 +5,27 @@ use mathlib.Core.List.{List, [], _∷_}
 use Prim.Native.Nat.{ℕ, _≤_, _<_}
 use native.Mathlib.Omega.{arith}
 use borrow.Author.Tests.{leb-true, ne-eqb, eq-eqb, le-leb, lt-leb}
-use lib.Dec.{eqb, leb}
+use lib.Dec.{leb}
 use lib.ListN.{length}
 use Rattle.rules.specs.declared.AreaIndex.{AreaIndex}
-use Rattle.rules.specs.Tests.{ask, firstNo, Accepted, after}
+use Rattle.rules.specs.Tests.{each, ask, firstNo, Accepted, after}
 use Rattle.rules.specs.Sections.{framesOk}
 use Rattle.rules.specs.Questions.{question3, scanRoom}
-use Rattle.rules.specs.File.{saved, savedLength}
+use Rattle.rules.specs.File.{saved, savedLength, save}
 use Rattle.table.specs.Tables.{headersIn, framesIn}
 use Rattle.table.proofs.Frames.{frames-by}
 use Rattle.scanlaws.proofs.Parts.{frames-used}
 use Rattle.rules.proofs.Tests.{and-left, and-right, all→}
 use Rattle.filelaws.proofs.Facts.{numbersOk→, scanOk→}
 use Rattle.filelaws.proofs.Length.{savedLength-is}
-use Rattle.index.specs.Calls.{Passes, refusal, roomIn, scanIn, hintingIn, hintCounts}
-use Rattle.index.proofs.Questions.{passes, passes-long, held-is, hinting-is, hints-long, hint-space, four-more}
-use Rattle.index.specs.Index.{Tables, indexIn, kindsOk, over}
+use Rattle.index.specs.Needs.{Passes, scanIn, hintingIn, hintCounts}
+use Rattle.index.proofs.Four.{kinded-index}
+use Rattle.index.proofs.Questions.{passes, passes-long, held-is, hinting-is, hints-long, hint-space}
+use Rattle.index.specs.Index.{Tables, indexIn, kindsOk, over, refusal, roomIn}
 use Rattle.save.specs.declared.Saved.the-variants.{Refused, Length}
-use Rattle.save.specs.Save.{Framed, Scanned, Hinted, made, saveOut, saveIn}
+use Rattle.layout.specs.Layout.{Framed}
+use Rattle.save.specs.Save.{made, saveOut, saveIn}
+use Rattle.save.specs.Steps.{Scanned, Hinted}
 
 -- ---- where 1 to 4 hold
 module _ (x : AreaIndex) (t : Tables) {n : ℕ} (e : n ≡ refusal x t) (z : n ≡ 0) where
@@ -70,9 +73,9 @@ module _ (x : AreaIndex) (t : Tables) {n : ℕ} (e : n ≡ refusal x t) (z : n �
 
 -- ---- the answers
 module _ (x : AreaIndex) (t : Tables) (o : List ℕ) {n : ℕ} (e : n ≡ refusal x t) where
-  save-is : saveIn x t o ≡ saveOut (after (cond (eqb n 0) (cond (leb (savedLength (indexIn x t)) (length o)) 0 40) n) (Accepted (saved (indexIn x t)))) o
-  unfolding saveIn firstNo
-  save-is = rw (four-more x t (ask (leb (savedLength (indexIn x t)) (length o)) 40 ∷ []), ← e)
+  pub save-is : saveIn x t o ≡ saveOut (after n (after (cond (leb (savedLength (indexIn x t)) (length o)) 0 40) (Accepted (saved (indexIn x t))))) o
+  unfolding saveIn save each firstNo
+  save-is = rw (kinded-index x t (ask (leb (savedLength (indexIn x t)) (length o)) 40 ∷ []) refl e (saved (indexIn x t)))
 
   pub save-refused : (n ≡ 0 → ⊥) → made (Refused n) o ≡ saveIn x t o
   unfolding saveOut after

@@ -1,31 +1,65 @@
-use Rattle.save.proofs.Sections.{put-both}
-use Rattle.save.proofs.Numbers.{hinting-room, hinting-put}
+use Rattle.save.proofs.Numbers.{hinting-none, hinting-first, hinting-both, hint-room, both-room}
 use native.Mathlib.Omega.{arith}
-use mathlib.Core.Path.{ap}
-use mathlib.Core.List.{[]}
-use lib.ListN.{length}
-use Rattle.rules.specs.declared.HintHeader.{HintHeader}
-use Rattle.index.specs.Calls.{tables}
 use borrow.Author.Needs.{needs}
 use Rattle.save.proofs.put_hinting.Statement.{statement}
 use Rattle.save.proofs.put_hinting.Tie as tie
 
+returns : tie.Need-returns
+returns c =
+    let start : tie.Start = search in
+    let version : tie.After-version-of = search in
+    hinting-none (start .args .x) _ _ (version .version-of .ensures) _ _ (c .if1 .taken)
+
 put-hint-section-requires : tie.Need-put-hint-section-requires
-put-hint-section-requires c κs = let r = hinting-room (c .before .before .before .before .before .before .args .x) (c .before .before .before .before .before .before .args .at) (length (c .before .before .before .before .before .before .args .out .now)) (c .before .before .version-of .ensures (tables [] [] [] [] [] [] [])) (c .hint-header-of .ensures) (c .before .before .before .before .before .before .pre .1) in (omega (arith, ap (λ (h : HintHeader). h .count) (c .hint-header-of .ensures), c .before .before .before .before .before .before .pre .0 .hints), omega (arith, r))
+put-hint-section-requires c κs =
+    let start : tie.Start = search in
+    let version : tie.After-version-of = search in
+    let two : tie.Else1 = search in
+    let header : tie.After-hint-header-of = search in
+    let r = hint-room (start .args .x) (start .args .hints .now) (start .args .confirmed .now) (version .version-of .ensures) (two .if1 .left) in
+    rw (header .hint-header-of .ensures) (start .pre .0 .hints, omega (arith, r, start .pre .1))
+
+returns-2 : tie.Need-returns-2
+returns-2 c =
+    let start : tie.Start = search in
+    let version : tie.After-version-of = search in
+    let two : tie.Else1 = search in
+    let header : tie.After-hint-header-of = search in
+    let hints : tie.After-put-hint-section = search in
+    hinting-first (start .args .x) _ _ (version .version-of .ensures) (two .if1 .left) (c .if2 .taken) (rw (header .hint-header-of .ensures) at (hints .put-hint-section .ensures))
 
 put-confirmed-section-requires : tie.Need-put-confirmed-section-requires
-put-confirmed-section-requires c κs = let r = hinting-room (c .before .before .before .before .before .before .before .before .before .before .args .x) (c .before .before .before .before .before .before .before .before .before .before .args .at) (length (c .before .before .before .before .before .before .before .before .before .before .args .out .now)) (c .before .before .before .before .before .before .version-of .ensures (tables [] [] [] [] [] [] [])) (c .before .before .before .before .hint-header-of .ensures) (c .before .before .before .before .before .before .before .before .before .before .pre .1) in (c .before .before .before .before .before .before .before .before .before .before .pre .0 .confirmed, omega (arith, r, c .before .before .before .put-hint-section .ensures .ends, c .before .before .before .put-hint-section .kept .0))
+put-confirmed-section-requires c κs =
+    let start : tie.Start = search in
+    let version : tie.After-version-of = search in
+    let header : tie.After-hint-header-of = search in
+    let hints : tie.After-put-hint-section = search in
+    let three : tie.Else2 = search in
+    let r = both-room (start .args .x) (start .args .hints .now) (start .args .confirmed .now) (version .version-of .ensures) (three .if2 .left) in
+    let e = (rw (header .hint-header-of .ensures) at (hints .put-hint-section .ensures)) .ends in
+    (start .pre .0 .confirmed, omega (arith, r, e, start .pre .1, hints .put-hint-section .kept .0))
 
-returns : tie.Need-returns
-returns c = hinting-put (c .before .before .before .before .before .before .before .before .before .before .before .before .before .args .x) (c .before .before .before .before .before .before .before .before .before .before .before .before .before .args .hints .now) (c .before .before .before .before .before .before .before .before .before .before .before .before .before .args .confirmed .now) (c .before .before .before .before .before .before .before .before .before .version-of .ensures) (c .before .before .before .before .before .before .before .hint-header-of .ensures) (put-both (c .before .before .before .before .before .before .put-hint-section .ensures) (c .before .before .put-confirmed-section .ensures))
+returns-3 : tie.Need-returns-3
+returns-3 c =
+    let start : tie.Start = search in
+    let version : tie.After-version-of = search in
+    let header : tie.After-hint-header-of = search in
+    let hints : tie.After-put-hint-section = search in
+    let three : tie.Else2 = search in
+    let confirmed : tie.After-put-confirmed-section = search in
+    hinting-both (start .args .x) _ _ (version .version-of .ensures) (three .if2 .left) (rw (header .hint-header-of .ensures) at (hints .put-hint-section .ensures))
+    (confirmed .put-confirmed-section .ensures)
 
 pub put-hinting-spec : {M : Type 1} → statement M
 put-hinting-spec =
     tie.close
     (tie.spec
     (λ c κs. search needs)
+    returns
     (λ c κs. search needs)
     put-hint-section-requires
+    (λ c. search needs)
+    returns-2
     put-confirmed-section-requires
     (λ c. search needs)
-    returns)
+    returns-3)

@@ -1,22 +1,54 @@
-use Rattle.save.proofs.Sections.{put-both, put-same, put-header}
+use Rattle.write.proofs.Sections.{put-both}
+use Rattle.save.proofs.Sections.{put-same, put-header}
 use Rattle.save.proofs.Numbers.{sizes-are, body-is}
 use native.Mathlib.Omega.{arith}
-use Rattle.index.specs.Calls.{tables}
+use Rattle.index.specs.Index.{Tables, tables}
 use borrow.Author.Needs.{needs}
 use Rattle.save.proofs.write_body.Statement.{statement}
 use Rattle.save.proofs.write_body.Tie as tie
 
+-- the tables as they are lent
+abbrev lent : tie.Start → Tables
+lent s =
+    let a = s .args in
+    tables (a .checkpoints .now) (a .frames .now) (a .store .now) (a .parts .now) (a .malformed .now) (a .hints .now) (a .confirmed .now)
+
+-- where the header is written
+abbrev header-at : tie.After-put-scan → tie.After-write-header
+header-at p = search
+
 write-header-requires : tie.Need-write-header-requires
-write-header-requires c κs = let s = sizes-are (c .before .before .before .before .before .before .before .before .before .before .args .x) (tables (c .before .before .before .before .before .before .before .before .before .before .args .checkpoints .now) (c .before .before .before .before .before .before .before .before .before .before .args .frames .now) (c .before .before .before .before .before .before .before .before .before .before .args .store .now) (c .before .before .before .before .before .before .before .before .before .before .args .parts .now) (c .before .before .before .before .before .before .before .before .before .before .args .malformed .now) (c .before .before .before .before .before .before .before .before .before .before .args .hints .now) (c .before .before .before .before .before .before .before .before .before .before .args .confirmed .now)) in omega (arith, c .before .before .before .before .before .before .before .before .before .before .pre .2)
+write-header-requires c κs =
+    let start : tie.Start = search in
+    let sizes = sizes-are (start .args .x) (lent start) in
+    omega (arith, start .pre .2)
 
 put-scan-requires : tie.Need-put-scan-requires
-put-scan-requires c κs = let s = sizes-are (c .before .before .before .before .before .before .before .before .before .before .before .before .before .before .args .x) (tables (c .before .before .before .before .before .before .before .before .before .before .before .before .before .before .args .checkpoints .now) (c .before .before .before .before .before .before .before .before .before .before .before .before .before .before .args .frames .now) (c .before .before .before .before .before .before .before .before .before .before .before .before .before .before .args .store .now) (c .before .before .before .before .before .before .before .before .before .before .before .before .before .before .args .parts .now) (c .before .before .before .before .before .before .before .before .before .before .before .before .before .before .args .malformed .now) (c .before .before .before .before .before .before .before .before .before .before .before .before .before .before .args .hints .now) (c .before .before .before .before .before .before .before .before .before .before .before .before .before .before .args .confirmed .now)) in (c .before .before .before .before .before .before .before .before .before .before .before .before .before .before .pre .0, omega (arith, c .before .before .before .before .before .before .before .before .before .before .before .before .before .before .pre .2, c .before .before .before .write-header .kept .0))
+put-scan-requires c κs =
+    let start : tie.Start = search in
+    let header : tie.After-write-header = search in
+    let sizes = sizes-are (start .args .x) (lent start) in
+    (start .pre .0, omega (arith, start .pre .2, header .write-header .kept .0))
 
 put-hinting-requires : tie.Need-put-hinting-requires
-put-hinting-requires c κs = let s = sizes-are (c .before .before .before .before .before .before .before .before .before .before .before .before .before .before .before .before .before .before .args .x) (tables (c .before .before .before .before .before .before .before .before .before .before .before .before .before .before .before .before .before .before .args .checkpoints .now) (c .before .before .before .before .before .before .before .before .before .before .before .before .before .before .before .before .before .before .args .frames .now) (c .before .before .before .before .before .before .before .before .before .before .before .before .before .before .before .before .before .before .args .store .now) (c .before .before .before .before .before .before .before .before .before .before .before .before .before .before .before .before .before .before .args .parts .now) (c .before .before .before .before .before .before .before .before .before .before .before .before .before .before .before .before .before .before .args .malformed .now) (c .before .before .before .before .before .before .before .before .before .before .before .before .before .before .before .before .before .before .args .hints .now) (c .before .before .before .before .before .before .before .before .before .before .before .before .before .before .before .before .before .before .args .confirmed .now)) in (c .before .before .before .before .before .before .before .before .before .before .before .before .before .before .before .before .before .before .pre .1, omega (arith, c .before .before .before .before .before .before .before .before .before .before .before .before .before .before .before .before .before .before .pre .2, c .before .before .before .before .before .before .before .write-header .kept .0, c .before .before .before .put-scan .ensures .ends, c .before .before .before .put-scan .kept .0))
+put-hinting-requires c κs =
+    let start : tie.Start = search in
+    let scan : tie.After-put-scan = search in
+    let header = header-at scan in
+    let sizes = sizes-are (start .args .x) (lent start) in
+    (start .pre .1, omega (arith, start .pre .2, header .write-header .kept .0, scan .put-scan .ensures .ends, scan .put-scan .kept .0))
 
 returns : tie.Need-returns
-returns c = let s = sizes-are (c .before .before .before .before .before .before .before .before .before .before .before .before .before .before .before .before .before .before .before .before .before .args .x) (tables (c .before .before .before .before .before .before .before .before .before .before .before .before .before .before .before .before .before .before .before .before .before .args .checkpoints .now) (c .before .before .before .before .before .before .before .before .before .before .before .before .before .before .before .before .before .before .before .before .before .args .frames .now) (c .before .before .before .before .before .before .before .before .before .before .before .before .before .before .before .before .before .before .before .before .before .args .store .now) (c .before .before .before .before .before .before .before .before .before .before .before .before .before .before .before .before .before .before .before .before .before .args .parts .now) (c .before .before .before .before .before .before .before .before .before .before .before .before .before .before .before .before .before .before .before .before .before .args .malformed .now) (c .before .before .before .before .before .before .before .before .before .before .before .before .before .before .before .before .before .before .before .before .before .args .hints .now) (c .before .before .before .before .before .before .before .before .before .before .before .before .before .before .before .before .before .before .before .before .before .args .confirmed .now)) in put-same (body-is (c .before .before .before .before .before .before .before .before .before .before .before .before .before .before .before .before .before .before .before .before .before .args .x) (tables (c .before .before .before .before .before .before .before .before .before .before .before .before .before .before .before .before .before .before .before .before .before .args .checkpoints .now) (c .before .before .before .before .before .before .before .before .before .before .before .before .before .before .before .before .before .before .before .before .before .args .frames .now) (c .before .before .before .before .before .before .before .before .before .before .before .before .before .before .before .before .before .before .before .before .before .args .store .now) (c .before .before .before .before .before .before .before .before .before .before .before .before .before .before .before .before .before .before .before .before .before .args .parts .now) (c .before .before .before .before .before .before .before .before .before .before .before .before .before .before .before .before .before .before .before .before .before .args .malformed .now) (c .before .before .before .before .before .before .before .before .before .before .before .before .before .before .before .before .before .before .before .before .before .args .hints .now) (c .before .before .before .before .before .before .before .before .before .before .before .before .before .before .before .before .before .before .before .before .before .args .confirmed .now))) (put-both (put-header (c .before .before .before .before .before .before .before .before .before .before .before .header-of .ensures (tables (c .before .before .before .before .before .before .before .before .before .before .before .before .before .before .before .before .before .before .before .before .before .args .checkpoints .now) (c .before .before .before .before .before .before .before .before .before .before .before .before .before .before .before .before .before .before .before .before .before .args .frames .now) (c .before .before .before .before .before .before .before .before .before .before .before .before .before .before .before .before .before .before .before .before .before .args .store .now) (c .before .before .before .before .before .before .before .before .before .before .before .before .before .before .before .before .before .before .before .before .before .args .parts .now) (c .before .before .before .before .before .before .before .before .before .before .before .before .before .before .before .before .before .before .before .before .before .args .malformed .now) (c .before .before .before .before .before .before .before .before .before .before .before .before .before .before .before .before .before .before .before .before .before .args .hints .now) (c .before .before .before .before .before .before .before .before .before .before .before .before .before .before .before .before .before .before .before .before .before .args .confirmed .now))) (omega (arith, c .before .before .before .before .before .before .before .before .before .before .before .before .before .before .before .before .before .before .before .before .before .pre .2)) (c .before .before .before .before .before .before .before .before .before .before .write-header .ensures)) (put-both (c .before .before .before .before .before .before .put-scan .ensures) (c .before .before .put-hinting .ensures)))
+returns c =
+    let start : tie.Start = search in
+    let says : tie.After-header-of = search in
+    let scan : tie.After-put-scan = search in
+    let hinting : tie.After-put-hinting = search in
+    let header = header-at scan in
+    let sizes = sizes-are (start .args .x) (lent start) in
+    put-same (body-is (start .args .x) (lent start))
+    (put-both (put-header (says .header-of .ensures (lent start)) (omega (arith, start .pre .2)) (header .write-header .ensures))
+    (put-both (scan .put-scan .ensures) (hinting .put-hinting .ensures)))
 
 pub write-body-spec : {M : Type 1} → statement M
 write-body-spec =

@@ -1,11 +1,16 @@
-use Rattle.save.proofs.Sections.{put-both, put-one, put-over}
+use Rattle.write.proofs.Sections.{put-both, put-one, put-over}
 use native.Mathlib.Omega.{arith}
 use borrow.Author.Needs.{needs}
 use Rattle.save.proofs.write_confirmed_section.Statement.{statement}
 use Rattle.save.proofs.write_confirmed_section.Tie as tie
 
 returns : tie.Need-returns
-returns c = put-over (put-both (put-one 4 _ 0 _ (c .before .before .before .before .before .before .before .before .before .before .write-u32 .ensures)) (put-both (put-one 4 _ 4 _ (c .before .before .before .before .before .before .write-u322 .ensures)) (c .before .before .put-confirmations .ensures))) (omega (arith, c .before .before .before .before .before .before .before .before .before .before .before .before .before .before .pre .1))
+returns c =
+    let after-write-u32 : tie.After-write-u32 = search in
+    let after-write-u322 : tie.After-write-u322 = search in
+    let after-put-confirmations : tie.After-put-confirmations = search in
+    let start : tie.Start = search in
+    put-over (put-both (put-one 4 _ 0 _ (after-write-u32 .write-u32 .ensures)) (put-both (put-one 4 _ 4 _ (after-write-u322 .write-u322 .ensures)) (after-put-confirmations .put-confirmations .ensures))) (omega (arith, start .pre .1))
 
 pub write-confirmed-section-spec : {M : Type 1} → statement M
 write-confirmed-section-spec =

@@ -1,10 +1,16 @@
-use Rattle.save.proofs.Sections.{put-both, put-one}
+use Rattle.write.proofs.Sections.{put-both, put-one}
 use borrow.Author.Needs.{needs}
 use Rattle.save.proofs.write_hint_header.Statement.{statement}
 use Rattle.save.proofs.write_hint_header.Tie as tie
 
 returns : tie.Need-returns
-returns c = put-both (put-one 8 _ 0 _ (c .before .before .before .before .before .before .before .before .before .before .before .before .before .before .before .before .before .before .write-u64 .ensures)) (put-both (put-one 4 _ 8 _ (c .before .before .before .before .before .before .before .before .before .before .before .before .before .before .write-u32 .ensures)) (put-both (put-one 4 _ 12 _ (c .before .before .before .before .before .before .before .before .before .before .write-u322 .ensures)) (put-both (put-one 4 _ 16 _ (c .before .before .before .before .before .before .write-u323 .ensures)) (put-one 4 _ 20 _ (c .before .before .write-u324 .ensures)))))
+returns c =
+    let after-write-u64 : tie.After-write-u64 = search in
+    let after-write-u32 : tie.After-write-u32 = search in
+    let after-write-u322 : tie.After-write-u322 = search in
+    let after-write-u323 : tie.After-write-u323 = search in
+    let after-write-u324 : tie.After-write-u324 = search in
+    put-both (put-one 8 _ 0 _ (after-write-u64 .write-u64 .ensures)) (put-both (put-one 4 _ 8 _ (after-write-u32 .write-u32 .ensures)) (put-both (put-one 4 _ 12 _ (after-write-u322 .write-u322 .ensures)) (put-both (put-one 4 _ 16 _ (after-write-u323 .write-u323 .ensures)) (put-one 4 _ 20 _ (after-write-u324 .write-u324 .ensures)))))
 
 pub write-hint-header-spec : {M : Type 1} → statement M
 write-hint-header-spec =

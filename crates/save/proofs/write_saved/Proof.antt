@@ -2,18 +2,33 @@ use Rattle.filelaws.proofs.Length.{length-body, savedLength-is}
 use Rattle.save.proofs.Sections.{summed}
 use native.Mathlib.Omega.{arith}
 use Rattle.rules.specs.File.{saved}
-use Rattle.index.specs.Index.{indexIn}
-use Rattle.index.specs.Calls.{tables}
+use Rattle.rules.specs.Values.{Index}
+use Rattle.index.specs.Index.{indexIn, tables}
 use borrow.Author.Needs.{needs}
 use Rattle.save.proofs.write_saved.Statement.{statement}
 use Rattle.save.proofs.write_saved.Tie as tie
 
+-- the index that is saved
+abbrev index : tie.Start → Index
+index s =
+    let a = s .args in
+    indexIn (a .x) (tables (a .checkpoints .now) (a .frames .now) (a .store .now) (a .parts .now) (a .malformed .now) (a .hints .now) (a .confirmed .now))
+
 write-sum-requires : tie.Need-write-sum-requires
-write-sum-requires c κs = let l = length-body (indexIn (c .before .before .before .before .before .before .before .before .before .before .before .before .before .args .x) (tables (c .before .before .before .before .before .before .before .before .before .before .before .before .before .args .checkpoints .now) (c .before .before .before .before .before .before .before .before .before .before .before .before .before .args .frames .now) (c .before .before .before .before .before .before .before .before .before .before .before .before .before .args .store .now) (c .before .before .before .before .before .before .before .before .before .before .before .before .before .args .parts .now) (c .before .before .before .before .before .before .before .before .before .before .before .before .before .args .malformed .now) (c .before .before .before .before .before .before .before .before .before .before .before .before .before .args .hints .now) (c .before .before .before .before .before .before .before .before .before .before .before .before .before .args .confirmed .now))) in (omega (arith, savedLength-is (indexIn (c .before .before .before .before .before .before .before .before .before .before .before .before .before .args .x) (tables (c .before .before .before .before .before .before .before .before .before .before .before .before .before .args .checkpoints .now) (c .before .before .before .before .before .before .before .before .before .before .before .before .before .args .frames .now) (c .before .before .before .before .before .before .before .before .before .before .before .before .before .args .store .now) (c .before .before .before .before .before .before .before .before .before .before .before .before .before .args .parts .now) (c .before .before .before .before .before .before .before .before .before .before .before .before .before .args .malformed .now) (c .before .before .before .before .before .before .before .before .before .before .before .before .before .args .hints .now) (c .before .before .before .before .before .before .before .before .before .before .before .before .before .args .confirmed .now))) .1, c .before .before .before .write-body .ensures .ends), omega (arith, c .before .before .before .before .before .before .before .before .before .before .before .before .before .pre .2, c .before .before .before .write-body .ensures .ends, c .before .before .before .write-body .kept .0))
+write-sum-requires c κs =
+    let start : tie.Start = search in
+    let body : tie.After-write-body = search in
+    let l = length-body (index start) in
+    let n = savedLength-is (index start) in
+    (omega (arith, n .1, body .write-body .ensures .ends), omega (arith, start .pre .2, body .write-body .ensures .ends, body .write-body .kept .0))
 
 returns : tie.Need-returns
 unfolding saved
-returns c = summed (c .before .before .before .before .before .before .write-body .ensures) (omega (arith, c .before .before .before .before .before .before .before .before .before .before .before .before .before .before .before .before .pre .2, length-body (indexIn (c .before .before .before .before .before .before .before .before .before .before .before .before .before .before .before .before .args .x) (tables (c .before .before .before .before .before .before .before .before .before .before .before .before .before .before .before .before .args .checkpoints .now) (c .before .before .before .before .before .before .before .before .before .before .before .before .before .before .before .before .args .frames .now) (c .before .before .before .before .before .before .before .before .before .before .before .before .before .before .before .before .args .store .now) (c .before .before .before .before .before .before .before .before .before .before .before .before .before .before .before .before .args .parts .now) (c .before .before .before .before .before .before .before .before .before .before .before .before .before .before .before .before .args .malformed .now) (c .before .before .before .before .before .before .before .before .before .before .before .before .before .before .before .before .args .hints .now) (c .before .before .before .before .before .before .before .before .before .before .before .before .before .before .before .before .args .confirmed .now))))) (c .before .before .write-sum .ensures)
+returns c =
+    let start : tie.Start = search in
+    let body : tie.After-write-body = search in
+    let sum : tie.After-write-sum = search in
+    summed (body .write-body .ensures) (omega (arith, start .pre .2, length-body (index start))) (sum .write-sum .ensures)
 
 pub write-saved-spec : {M : Type 1} → statement M
 write-saved-spec = tie.close (tie.spec (λ c κs. search needs) write-sum-requires (λ c. search needs) returns)

@@ -5,7 +5,10 @@ use Rattle.save.proofs.write_sum.Statement.{statement}
 use Rattle.save.proofs.write_sum.Tie as tie
 
 returns : tie.Need-returns
-returns c = c .before .before .write-u64 .ensures ∙ rw (c .before .before .before .before .fnv .ensures, sub-zero)
+returns c =
+    let after-write-u64 : tie.After-write-u64 = search in
+    let after-fnv : tie.After-fnv = search in
+    after-write-u64 .write-u64 .ensures ∙ rw (after-fnv .fnv .ensures, sub-zero)
 
 pub write-sum-spec : {M : Type 1} → statement M
 write-sum-spec =
