@@ -11,6 +11,7 @@ use lib.Dec.{leb, ltb}
 use lib.ListN.{length, take, drop, length-take}
 use Rattle.field.specs.Records.{bytesOf, Bytes}
 use Rattle.rules.specs.declared.Area.{Area}
+use Rattle.rules.specs.declared.AreaIndex.{AreaIndex}
 use Rattle.rules.specs.declared.Held.{Held}
 use Rattle.rules.specs.Values.{Frame, Index, used, boundaries}
 use Rattle.rules.specs.Questions.{scanRoom, hintingRoom, question3}
@@ -27,14 +28,13 @@ use Rattle.hintlaws.proofs.Lists.{last-length}
 use Rattle.table.specs.Tables.{hintsIn}
 use Rattle.table.specs.Files.{placeAt, listed, frameHere, frameFollows, framesRead}
 use Rattle.table.proofs.Files.{place-inside}
-use Rattle.index.specs.Index.{Tables, roomOf, over, storeOf, tablesFrom}
-use Rattle.index.specs.Calls.{tables}
+use Rattle.index.specs.Index.{Tables, tables, roomOf, over, storeOf, tablesFrom}
 use Rattle.inspect.specs.declared.Found.{Found}
-use Rattle.load.specs.declared.Kept.{Kept}
-use Rattle.load.specs.declared.Places.{Places}
-use Rattle.load.specs.Load.{listIn, limitedIn, Accepts, Ready, Inside, placesIn, framesAt, partsAt, malformedAt, confirmedSize, hintsAt, confirmedAt}
-use Rattle.load.proofs.Sections.{each-length, Laid}
-use Rattle.load.proofs.Limit.{accepted}
+use Rattle.limit.specs.declared.Places.{Places}
+use Rattle.limit.specs.Limit.{listIn, limitedIn, Inside, placesIn, framesAt, partsAt, malformedAt, confirmedSize, hintsAt, confirmedAt}
+use Rattle.limit.proofs.Sections.{each-length, Laid}
+use Rattle.limit.proofs.Limit.{accepted}
+use Rattle.load.specs.Steps.{Ready}
 
 -- ---- what stays is the first
 fit-first : (b : ℕ) (fs : List Frame) → fitting b fs ≡ take (length (fitting b fs)) fs
@@ -211,25 +211,25 @@ module _ (b : List ℕ) (limit : ℕ) (x : Index) (l : Laid b x) where
       )
 
 -- ---- a file that is ready to be committed
-abbrev placesBy : List ℕ → Found → Kept → Places
-placesBy b found kept =
+abbrev placesBy : List ℕ → Found → AreaIndex → Places
+placesBy b found y =
     placesIn (length b) (found .index .checkpoints) (found .index .frames) (found .used) (found .index .parts) (found .index .malformed)
-    (found .index .hints) (found .index .confirmed) (kept .index .frames) (kept .index .parts) (kept .index .most) (kept .index .confirmed)
+    (found .index .hints) (found .index .confirmed) (y .frames) (y .parts) (y .most) (y .confirmed)
 
-module _ {a : Area} {b : List ℕ} {limit : ℕ} {found : Found} {kept : Kept} {t : Tables} (y : Bytes b) (r : Ready a b limit found kept t) where
+module _ {a : Area} {b : List ℕ} {limit : ℕ} {found : Found} {y : AreaIndex} {t : Tables} (g : Bytes b) (r : Ready a b limit found y t) where
   ready-room : Room (listIn a b) limit t
-  ready-room = room-of (listIn a b) limit t (facts (listIn a b) (loaded-valid a b (listIn a b) y (r .accepts .area) (r .accepts .file))) (r .room)
+  ready-room = room-of (listIn a b) limit t (facts (listIn a b) (loaded-valid a b (listIn a b) g (r .accepts .area) (r .accepts .file))) (r .room)
 
   pub ready-inside : Inside (length b) (found .index .checkpoints) (found .index .frames) (found .used) (found .index .parts) (found .index .malformed)
-      (found .index .hints) (found .index .confirmed) (kept .index .confirmed)
-  ready-inside = rw (r .accepts .is, r .numbers) (inside-of b limit (listIn a b) (accepted y (r .accepts)))
+      (found .index .hints) (found .index .confirmed) (y .confirmed)
+  ready-inside = rw (r .accepts .is, r .numbers) (inside-of b limit (listIn a b) (accepted g (r .accepts)))
 
-  module _ {p : Places} (e : p ≡ placesBy b found kept) where
+  module _ {p : Places} (e : p ≡ placesBy b found y) where
     located : p ≡ placesOf b limit (listIn a b)
     located = rw (r .accepts .is, r .numbers) at e
 
     pub ready-fits : Fits b p t
-    ready-fits = rw located (fits-of b limit (listIn a b) (accepted y (r .accepts)) t ready-room)
+    ready-fits = rw located (fits-of b limit (listIn a b) (accepted g (r .accepts)) t ready-room)
 
     pub ready-filled : {t0 t1 t2 t3 t4 t5 t6 : List ℕ} → t0 ≡ take (p .checkpoints) (drop 80 b) ++ drop (p .checkpoints) (t .checkpoints)
         → (t1 ≡ over (bytesOf encodeFrameHeader (framesRead (p .frames) (drop (p .«frames_at») b))) (t .frames))
@@ -240,4 +240,4 @@ module _ {a : Area} {b : List ℕ} {limit : ℕ} {found : Found} {kept : Kept} {
         → t6 ≡ take (p .confirmed) (drop (p .«confirmed_at») b) ++ drop (p .confirmed) (t .confirmed)
         → tables t0 t1 t2 t3 t4 t5 t6 ≡ tablesFrom (limitedIn a b limit) t
     ready-filled e0 e1 e3 e4 e5 e6 =
-        filled-of b limit (listIn a b) (accepted y (r .accepts)) t (rw located at e0) (rw located at e1) (rw located at e3) (rw located at e4) (rw located at e5) (rw located at e6)
+        filled-of b limit (listIn a b) (accepted g (r .accepts)) t (rw located at e0) (rw located at e1) (rw located at e3) (rw located at e4) (rw located at e5) (rw located at e6)

@@ -10,7 +10,7 @@ use Rattle.rules.specs.Hints.{thin}
 use Rattle.filelaws.proofs.Length.{length-each}
 use Rattle.filelaws.proofs.Layouts.{hint-layout}
 use Rattle.table.specs.Tables.{hintsIn}
-use Rattle.thin.specs.Thin.{Starts}
+use Rattle.hints.specs.Thin.{Starts}
 use Rattle.index.specs.Index.{over}
 
 pub hints-room : {t : List ℕ} (b : List ℕ) (at n : ℕ) → t ≡ drop at b → at + n * 8 ≤ length b → n * 8 ≤ length t

@@ -8,7 +8,7 @@ use Rattle.rules.specs.Values.{used}
 use Rattle.rules.specs.File.{encodeFrameHeader}
 use Rattle.table.specs.Files.{framesRead}
 use Rattle.index.specs.Index.{storeOf}
-use Rattle.load.proofs.Frames.{Moving, move-start, move-room, move-on, move-end, moved-all}
+use Rattle.limit.proofs.Frames.{Moving, move-start, move-room, move-on, move-end, moved-all}
 use borrow.Author.Needs.{needs}
 use Rattle.load.proofs.commit_frames.Statement.{statement}
 use Rattle.load.proofs.commit_frames.Tie as tie
@@ -23,22 +23,43 @@ abbrev μ-loop : tie.MeasureT-loop
 μ-loop frames₀ store₀ b at f here₀ used₀ i₀ frames store here used i = f - i
 
 loop-holds : tie.Need-loop-holds Inv-loop μ-loop
-loop-holds c = (move-start _ _ _ _ _ (c .before .before .before .pre .0) (c .before .before .before .pre .1) (c .before .before .before .pre .2), refl, refl)
+loop-holds c =
+    let start : tie.Start Inv-loop μ-loop = search in
+    (move-start _ _ _ _ _ (start .pre .0) (start .pre .1) (start .pre .2), refl, refl)
 
 move-frame-requires : tie.Need-move-frame-requires Inv-loop μ-loop
-move-frame-requires c κs = move-room (c .before .before .before .loop .inv .0) (c .before .before .loop-test .taken)
+move-frame-requires c κs =
+    let at-loop : tie.At-loop Inv-loop μ-loop = search in
+    let in-loop : tie.In-loop Inv-loop μ-loop = search in
+    move-room (at-loop .loop .inv .0) (in-loop .loop-test .taken)
 
 add-here : tie.Need-add-here Inv-loop μ-loop
-add-here c = let r = move-room (c .before .before .before .before .before .before .before .before .loop .inv .0) (c .before .before .before .before .before .before .before .loop-test .taken) in omega arith
+add-here c =
+    let at-loop : tie.At-loop Inv-loop μ-loop = search in
+    let in-loop : tie.In-loop Inv-loop μ-loop = search in
+    let r = move-room (at-loop .loop .inv .0) (in-loop .loop-test .taken) in omega arith
 
 add-here-2 : tie.Need-add-here-2 Inv-loop μ-loop
-add-here-2 c = let r = move-room (c .before .before .before .before .before .before .before .before .loop .inv .0) (c .before .before .before .before .before .before .before .loop-test .taken) in omega (arith, (c .before .before .before .before .move-frame .ensures .count))
+add-here-2 c =
+    let at-loop : tie.At-loop Inv-loop μ-loop = search in
+    let in-loop : tie.In-loop Inv-loop μ-loop = search in
+    let after-move-frame : tie.After-move-frame Inv-loop μ-loop = search in
+    let r = move-room (at-loop .loop .inv .0) (in-loop .loop-test .taken) in omega (arith, (after-move-frame .move-frame .ensures .count))
 
 add-used : tie.Need-add-used Inv-loop μ-loop
-add-used c = let r = move-room (c .before .before .before .before .before .before .before .before .loop .inv .0) (c .before .before .before .before .before .before .before .loop-test .taken) in omega (arith, (c .before .before .before .before .move-frame .ensures .count))
+add-used c =
+    let at-loop : tie.At-loop Inv-loop μ-loop = search in
+    let in-loop : tie.In-loop Inv-loop μ-loop = search in
+    let after-move-frame : tie.After-move-frame Inv-loop μ-loop = search in
+    let r = move-room (at-loop .loop .inv .0) (in-loop .loop-test .taken) in omega (arith, (after-move-frame .move-frame .ensures .count))
 
 loop-again : tie.Need-loop-again Inv-loop μ-loop
-loop-again c = (move-on (c .before .before .before .before .before .before .before .before .loop .inv .0) (c .before .before .before .before .before .before .before .loop-test .taken) (λ i. (c .before .before .before .before .before .before .before .before .before .shared-slice-known .given) i .fits) (c .before .before .before .before .move-frame .ensures), search needs, search needs)
+loop-again c =
+    let at-loop : tie.At-loop Inv-loop μ-loop = search in
+    let in-loop : tie.In-loop Inv-loop μ-loop = search in
+    let after-shared-slice-known : tie.After-shared-slice-known Inv-loop μ-loop = search in
+    let after-move-frame : tie.After-move-frame Inv-loop μ-loop = search in
+    (move-on (at-loop .loop .inv .0) (in-loop .loop-test .taken) (λ i. (after-shared-slice-known .shared-slice-known .given) i .fits) (after-move-frame .move-frame .ensures), search needs, search needs)
 
 returns : tie.Need-returns Inv-loop μ-loop
 returns c = moved-all _ _ _ _ (move-end (c .before .loop .inv .0) (c .loop-test .left))

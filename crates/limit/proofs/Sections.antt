@@ -1,47 +1,43 @@
 -- Where the sections of an accepted file lie, and what they are. Assumes nothing.
 use mathlib.Core.Path.{_≡_, refl, sym, ap, _∙_}
-use mathlib.Core.Bool.{Bool, true, false, _||_, not, cond}
-use mathlib.Core.List.{List, [], _∷_, _++_, append-assoc, append-nil}
-use mathlib.Core.Option.{none}
+use mathlib.Core.Bool.{true, not, cond}
+use mathlib.Core.List.{List, [], _∷_, _++_, append-assoc}
 use Prim.Native.Nat.{ℕ, zero, suc, _+_, _-_, _*_, _<_, _≤_}
 use native.Mathlib.Omega.{arith}
-use borrow.Author.Tests.{ltb-true, eqb-true, eq-eqb, not-true, not-false}
+use borrow.Author.Tests.{eqb-true, not-false}
 use lib.Dec.{eqb, leb}
-use lib.ListN.{length, take, drop, length-append, length-take, length-drop, take-append-drop}
+use lib.ListN.{length, take, drop, length-append, length-drop, take-append-drop}
 use lib.Seq.{drop-drop, take-at, drop-at, length-take-le}
 use Rattle.field.specs.Number.{encode}
 use Rattle.field.specs.Records.{records, bytesOf, Bytes}
 use Rattle.field.specs.Fields.{fieldBytes}
 use Rattle.field.proofs.Number.{encode-length}
 use Rattle.field.proofs.Fields.{fieldBytes-length}
-use Rattle.field.proofs.Format as format
-use Rattle.field.proofs.Format.{Each, one, bytesOf-append, records-bytes}
+use Rattle.field.proofs.Format.{one, bytesOf-append, records-bytes}
 use Rattle.fnv.specs.Fnv.{fnv64}
 use Rattle.rules.specs.declared.Area.{Area}
-use Rattle.rules.specs.declared.Held.{Held}
 use Rattle.rules.specs.Tests.{isSome, Accepted, numberOf}
-use Rattle.rules.specs.Values.{Frame, Index, lim, used, stated}
-use Rattle.rules.specs.Sections.{unfilled, framesOk, partsOk, hintsOk, rising, hintLsn, hintOk}
+use Rattle.rules.specs.Values.{Frame, Index, used, stated}
+use Rattle.rules.specs.Sections.{unfilled, framesOk}
 use Rattle.rules.specs.Questions.{areaOk}
-use Rattle.rules.specs.File.{headerBytes, encodeCheckpoint, encodeFrame, encodeHeld, decodeHeld, encodeLsn, encodeHint, encodeConfirmation, hasConfirmed, hasHinting, versionOf, headerOf, hintSection, confirmedSection, bodyOf, saved}
+use Rattle.rules.specs.File.{headerBytes, encodeCheckpoint, encodeFrame, encodeHeld, encodeLsn, encodeHint, encodeConfirmation, hasConfirmed, hasHinting, versionOf, headerOf, hintSection, confirmedSection, bodyOf, saved}
 use Rattle.rules.specs.Load.{Read, read, readFrame, readEach, fromBytes}
-use Rattle.rules.proofs.Tests.{nil-of, or-none, test, all→, accepted-eq, each-map}
-use Rattle.rules.proofs.Walk.{rising-each}
+use Rattle.rules.proofs.Tests.{nil-of, or-none, test, accepted-eq}
 use Rattle.filelaws.proofs.Reading.{each-back}
-use Rattle.filelaws.proofs.Layouts.{HeldFits, HintFits, checkpoint-layout, lsn-layout, hint-layout, confirmation-layout, header-length, held-length, held-back, hintWidths, hintValues, hintBytes}
-use Rattle.filelaws.proofs.Readers.{FrameFits, frame-reader, frame-length}
+use Rattle.filelaws.proofs.Layouts.{checkpoint-layout, lsn-layout, hint-layout, confirmation-layout, header-length, held-length, hintBytes}
+use Rattle.filelaws.proofs.Readers.{frame-reader, frame-length}
 use Rattle.filelaws.proofs.Length.{length-each}
-use Rattle.filelaws.proofs.Ranges.{Placed, frames-placed, frames-fit, parts-fit}
 use Rattle.filelaws.proofs.Facts.{Facts, facts}
-use Rattle.filelaws.proofs.Header.{version-two, version-three, scan-counts, few-boundaries}
+use Rattle.filelaws.proofs.Header.{version-two, version-three}
 use Rattle.filelaws.proofs.Saved.{hintHeaderOf, hint-bytes, confirmed-bytes}
 use Rattle.filelaws.proofs.Loaded.{loaded-valid, own-bytes}
 use Rattle.table.specs.Tables.{partsIn, hintsIn}
 use Rattle.table.specs.Files.{placeAt, behindEach, frameFollows, frameNext, framesRead}
 use Rattle.table.proofs.Files.{place-first, place-shift}
 use Rattle.table.proofs.Reading.{read-each, steady-frame}
-use Rattle.load.specs.Load.{lengthHere, framesAt, partsAt, malformedAt, confirmedSize, hintsAt, confirmedAt}
-use Rattle.load.proofs.Frames.{follows-on}
+use Rattle.index.proofs.Standing.{frames-fits, held-records, parts-fits, hints-fits}
+use Rattle.limit.specs.Limit.{lengthHere, framesAt, partsAt, malformedAt, confirmedSize, hintsAt, confirmedAt}
+use Rattle.limit.proofs.Frames.{follows-on}
 
 -- ---- stretches
 -- behind s, which begins at k
@@ -231,13 +227,6 @@ unfolding behindEach
 place-behind b zero at = rw (← place-first b at)
 place-behind b (suc n) at = rw (follows-on b at, place-shift b at n) (place-behind b n (at + 8 + lengthHere b at))
 
-frames-in : (x : Index) → Facts x → Each (Placed (x .scan .area)) (x .scan .frames)
-unfolding framesOk
-frames-in x f = frames-placed (x .scan .area) (x .scan .budget) (unfilled (x .scan .area)) (x .scan .frames) (f .scan .frames)
-
-pub frames-fits : (x : Index) → Facts x → Each FrameFits (x .scan .frames)
-frames-fits x f = frames-fit (x .scan .area) (x .scan .frames) (f .area) (frames-in x f) (f .sizes .frames)
-
 module _ (b : List ℕ) (x : Index) (f : Facts x) (at : ℕ) (r : List ℕ) (e : drop at b ≡ bytesOf encodeFrame (x .scan .frames) ++ r) where
   frames-both : read (framesRead (length (x .scan .frames)) (drop at b)) (drop (placeAt b at (length (x .scan .frames))) b) ≡ read (x .scan .frames) r
   unfolding framesOk numberOf
@@ -248,27 +237,6 @@ module _ (b : List ℕ) (x : Index) (f : Facts x) (at : ℕ) (r : List ℕ) (e :
       rw e (each-back (frame-reader (x .scan .area) (x .scan .budget)) frameNext s r
       (frames-fits x f) (f .scan .frames)) in
       rw (← place-behind b n at) (sym (read-each (steady-frame (x .scan .area) (x .scan .budget)) frameNext n s (drop at b) (ap numberOf g)) ∙ g)
-
-pub held-records : {ps : List Held} (r : List ℕ) → Each HeldFits ps → partsIn (length ps) (bytesOf encodeHeld ps ++ r) ≡ ps
-unfolding records bytesOf
-held-records r format.none = refl
-held-records r (one {x = p} {xs = ps} f g) =
-    rw (append-assoc, held-back p f (bytesOf encodeHeld ps ++ r), drop-at (encodeHeld p) (bytesOf encodeHeld ps ++ r) 24 (held-length p), held-records r g)
-
-module _ (x : Index) (f : Facts x) where
-  pub parts-fits : Each HeldFits (x .scan .parts)
-  unfolding partsOk
-  parts-fits =
-      let c = scan-counts x f in
-      let n = few-boundaries x f in
-      parts-fit (x .scan .area) (x .scan .interval) (x .scan .checkpoints) (x .scan .frames) none (x .scan .parts) (f .area) (omega arith) (omega arith)
-      (frames-in x f) (all→ _ (f .scan .parts) .0) (f .sizes .parts)
-
-  pub hints-fits : Each HintFits (x .hinting .hints)
-  unfolding hintsOk rising
-  hints-fits =
-      each-map (λ h p. let n = ltb-true (h .number) lim (p .1) in omega arith)
-      (rising-each hintLsn hintOk (x .scan .area .end) (x .scan .area .start) (x .hinting .hints) (f .hinting .hints))
 
 -- ---- the file b of the list x
 pub record Laid (b : List ℕ) (x : Index) : Type 0 where

@@ -5,9 +5,8 @@ use Prim.Native.Nat.{ℕ, zero, suc, _+_, _-_, _*_, _<_, _≤_}
 use native.Mathlib.Nat.{add-zero, zero-add, sub-zero}
 use native.Mathlib.Omega.{arith}
 use borrow.Author.Tests.{le-leb, lt-leb}
-use lib.ListN.{length, take, drop, length-append, length-take, length-drop, take-append-drop, drop-of-length-le}
-use lib.Seq.{drop-drop, take-at, drop-at, length-take-le, drop-append-add}
-use Rattle.field.specs.Number.{numberAt}
+use lib.ListN.{length, take, drop, length-append, length-take, length-drop, take-append-drop}
+use lib.Seq.{drop-drop, take-at, length-take-le, drop-append-add}
 use Rattle.field.specs.Records.{bytesOf, Bytes}
 use Rattle.field.proofs.Number.{encode-length, number-drop, encode-number}
 use Rattle.field.proofs.Bytes.{stretch-join}
@@ -18,8 +17,8 @@ use Rattle.filelaws.proofs.Length.{length-each}
 use Rattle.table.specs.Files.{placeAt, listed, frameHere, frameFollows, framesRead}
 use Rattle.table.proofs.Files.{place-first, place-shift, place-inside}
 use Rattle.index.specs.Index.{over, storeOf}
-use Rattle.load.specs.declared.Fit.{Fit}
-use Rattle.load.specs.Load.{fitIn, lengthHere, putPart, Moved}
+use Rattle.index.proofs.Store.{store-length}
+use Rattle.limit.specs.Limit.{lengthHere, Moved}
 
 -- ---- the next of suc n frames
 pub follows-on : (b : List ℕ) (here : ℕ) → frameFollows (drop here b) ≡ drop (here + 8 + lengthHere b here) b
@@ -52,32 +51,17 @@ module _ (b : List ℕ) (here n : ℕ) where
     next-inside = rw (← place-shift b here n) l
 
 -- ---- the first ones that fit
--- i frames with u bytes, and those of k
-abbrev joined : ℕ → ℕ → Fit → Fit
-joined i u k = record { count = i + k .count; used = u + k .used }
-
-joined-next : (i u len : ℕ) (f : Frame) (fs : List Frame) → length (f .bytes) ≡ len → joined (i + 1) (u + len) (fitIn fs) ≡ joined i u (fitIn (f ∷ fs))
-unfolding used
-joined-next i u len f fs e =
-    let p : i + 1 + length fs ≡ i + suc (length fs) = omega arith in
-    let q : u + len + used fs ≡ u + (length (f .bytes) + used fs) = omega arith in
-    rw (p, q)
-
-joined-none : (i u : ℕ) → joined i u (fitIn []) ≡ record { count = i; used = u }
-unfolding used
-joined-none i u = rw (add-zero, add-zero)
-
 -- i of f frames fit, with u bytes; the next begins at here, and the answer is to be r
-pub record Fitting (b : List ℕ) (budget f : ℕ) (r : Fit) (i here u : ℕ) : Type 0 where
+pub record Fitting (b : List ℕ) (budget f r i here u : ℕ) : Type 0 where
   pub within : i ≤ f
   pub inside : placeAt b here (f - i) ≤ length b
   pub low : u ≤ budget
-  pub rest : joined i u (fitIn (fitting (budget - u) (framesRead (f - i) (drop here b)))) ≡ r
+  pub rest : i + length (fitting (budget - u) (framesRead (f - i) (drop here b))) ≡ r
 
-pub fit-start : (b : List ℕ) (budget f at : ℕ) → placeAt b at f ≤ length b → Fitting b budget f (fitIn (fitting budget (framesRead f (drop at b)))) 0 at 0
+pub fit-start : (b : List ℕ) (budget f at : ℕ) → placeAt b at f ≤ length b → Fitting b budget f (length (fitting budget (framesRead f (drop at b)))) 0 at 0
 fit-start b budget f at l = record { within = omega arith; inside = rw sub-zero l; low = omega arith; rest = simp (sub-zero, zero-add) }
 
-module _ {b : List ℕ} {budget f : ℕ} {r : Fit} {i here u : ℕ} (k : Fitting b budget f r i here u) where
+module _ {b : List ℕ} {budget f r i here u : ℕ} (k : Fitting b budget f r i here u) where
   module _ (h : i < f) where
     left : f - i ≡ suc (f - (i + 1))
     left = omega arith
@@ -88,7 +72,7 @@ module _ {b : List ℕ} {budget f : ℕ} {r : Fit} {i here u : ℕ} (k : Fitting
     pub fit-room : here + 8 + lengthHere b here ≤ length b
     fit-room = next-room b here (f - (i + 1)) there
 
-    turn : joined i u (fitIn (fitting (budget - u) (frameHere (drop here b) ∷ framesRead (f - (i + 1)) (drop (here + 8 + lengthHere b here) b)))) ≡ r
+    turn : i + length (fitting (budget - u) (frameHere (drop here b) ∷ framesRead (f - (i + 1)) (drop (here + 8 + lengthHere b here) b))) ≡ r
     turn = rw (left, frames-next b here (f - (i + 1))) at (k .rest)
 
     pub fit-on : {len : ℕ} → len ≡ lengthHere b here → len ≤ budget - u → Fitting b budget f r (i + 1) (here + 8 + len) (u + len)
@@ -96,23 +80,24 @@ module _ {b : List ℕ} {budget f : ℕ} {r : Fit} {i here u : ℕ} (k : Fitting
     fit-on {len} e g =
         let s : length (frameHere (drop here b) .bytes) ≡ len = next-size b here (f - (i + 1)) there ∙ sym e in
         let q : budget - u - len ≡ budget - (u + len) = omega arith in
-        let t = (rw (s, le-leb len (budget - u) g, q, ← e) at turn) in
+        let t : i + suc (length (fitting (budget - (u + len)) (framesRead (f - (i + 1)) (drop (here + 8 + len) b)))) ≡ r =
+        (rw (s, le-leb len (budget - u) g, q, ← e) at turn) in
         record {
           within = omega arith;
           inside = rw e (next-inside b here (f - (i + 1)) there);
           low = let l = k .low in omega arith;
-          rest = joined-next i u len (frameHere (drop here b)) (fitting (budget - (u + len)) (framesRead (f - (i + 1)) (drop (here + 8 + len) b))) s ∙ t;
+          rest = omega (arith, t);
         }
 
-    pub fit-stop : {len : ℕ} → len ≡ lengthHere b here → budget - u < len → record { count = i; used = u } ≡ r
+    pub fit-stop : {len : ℕ} → len ≡ lengthHere b here → budget - u < len → i ≡ r
     unfolding fitting
     fit-stop {len} e g =
         let s : length (frameHere (drop here b) .bytes) ≡ len = next-size b here (f - (i + 1)) there ∙ sym e in
-        sym (joined-none i u) ∙ (rw (s, lt-leb len (budget - u) g) at turn)
+        sym (add-zero i) ∙ (rw (s, lt-leb len (budget - u) g) at turn)
 
-  pub fit-end : f ≤ i → record { count = i; used = u } ≡ r
+  pub fit-end : f ≤ i → i ≡ r
   unfolding fitting listed
-  fit-end h = let e : f - i ≡ 0 = omega arith in sym (joined-none i u) ∙ (rw e at (k .rest))
+  fit-end h = let e : f - i ≡ 0 = omega arith in sym (add-zero i) ∙ (rw e at (k .rest))
 
 -- ---- into the tables
 -- w bytes h put at k, and then r behind them up to m
@@ -216,11 +201,6 @@ header-size f = simp (length-append, encode-length)
 
 headers-length : (fs : List Frame) → length (bytesOf encodeFrameHeader fs) ≡ 8 * length fs
 headers-length fs = length-each encodeFrameHeader 8 header-size fs
-
-pub store-length : (fs : List Frame) → length (storeOf fs) ≡ used fs
-unfolding storeOf bytesOf used
-store-length [] = refl
-store-length (f ∷ fs) = length-append (f .bytes) _ ∙ ap (λ (n : ℕ). length (f .bytes) + n) (store-length fs)
 
 -- the tables as they are asked for
 pub moved-all : {frames' store' : List ℕ} (frames store : List ℕ) (f : ℕ) (b : List ℕ)

@@ -1,8 +1,8 @@
 use borrow.Author.Tests.{eq-eqb, ne-eqb}
-use Rattle.load.specs.Load.{confirmedSize}
+use Rattle.limit.specs.Limit.{confirmedSize}
 use borrow.Author.Needs.{needs}
-use Rattle.load.proofs.confirmed_size.Statement.{statement}
-use Rattle.load.proofs.confirmed_size.Tie as tie
+use Rattle.limit.proofs.confirmed_size.Statement.{statement}
+use Rattle.limit.proofs.confirmed_size.Tie as tie
 
 returns : tie.Need-returns
 unfolding confirmedSize

@@ -29,13 +29,12 @@ use Rattle.hintlaws.proofs.Thinning.{thin-length}
 use Rattle.hintlaws.proofs.Lists.{last-length}
 use Rattle.table.specs.Tables.{partsIn}
 use Rattle.table.specs.Files.{placeAt, framesRead}
-use Rattle.index.specs.Index.{numbersFrom, idFrom}
+use Rattle.index.specs.Index.{numbersFrom}
+use Rattle.sections.specs.Numbers.{idFrom}
 use Rattle.inspect.specs.declared.Found.{Found}
 use Rattle.inspect.specs.Inspect.{foundIn}
-use Rattle.load.specs.declared.Fit.{Fit}
-use Rattle.load.specs.declared.Kept.{Kept}
-use Rattle.load.specs.Load.{listIn, keptIn, Accepts, fitIn, framesAt, partsAt}
-use Rattle.load.proofs.Sections.{Laid, laid}
+use Rattle.limit.specs.Limit.{listIn, limitedIn, Accepts, framesAt, partsAt}
+use Rattle.limit.proofs.Sections.{Laid, laid}
 
 -- a file has no checked mark and no image id
 pub record Plain (x : Index) : Type 0 where
@@ -69,48 +68,43 @@ module _ {a : Area} {b : List ℕ} {found : Found} (y : Bytes b) (k : Accepts a 
   parts-inside = rw (k .is) (let r = accepted .malformed-room in omega arith)
 
 -- ---- the kept numbers
-abbrev keptWith : AreaIndex → ℕ → Fit → (parts most hints confirmed : ℕ) → Kept
-keptWith i budget fit parts most hints confirmed =
+abbrev keptWith : AreaIndex → (budget frames parts most hints confirmed : ℕ) → AreaIndex
+keptWith i budget frames parts most hints confirmed =
     record {
-      index =
-          record {
-            area = i .area;
-            interval = i .interval;
-            budget = budget;
-            spacing = i .spacing;
-            most = most;
-            checkpoints = i .checkpoints;
-            frames = fit .count;
-            parts = parts;
-            malformed = i .malformed;
-            hints = hints;
-            confirmed = confirmed;
-            ending = i .ending;
-            fingerprint = i .fingerprint;
-            image = i .image;
-          };
-      used = fit .used;
+      area = i .area;
+      interval = i .interval;
+      budget = budget;
+      spacing = i .spacing;
+      most = most;
+      checkpoints = i .checkpoints;
+      frames = frames;
+      parts = parts;
+      malformed = i .malformed;
+      hints = hints;
+      confirmed = confirmed;
+      ending = i .ending;
+      fingerprint = i .fingerprint;
+      image = i .image;
     }
 
 module _ {b : List ℕ} {x : Index} (l : Laid b x) (p : Plain x) (limit : ℕ) where
-  numbers-of : {fit : Fit} {budget parts most hints confirmed : ℕ} → budget ≡ min (x .scan .budget) limit
-      → fit ≡ fitIn (fitting budget (framesRead (length (x .scan .frames)) (drop (framesAt x) b)))
-      → parts ≡ length (within (fit .count) (partsIn (length (x .scan .parts)) (drop (partsAt x) b)))
+  numbers-of : {budget frames parts most hints confirmed : ℕ} → budget ≡ min (x .scan .budget) limit
+      → frames ≡ length (fitting budget (framesRead (length (x .scan .frames)) (drop (framesAt x) b)))
+      → parts ≡ length (within frames (partsIn (length (x .scan .parts)) (drop (partsAt x) b)))
       → most ≡ min (x .hinting .most) (limit / 8) → hints ≡ min (length (x .hinting .hints)) most
       → confirmed ≡ min (length (x .hinting .confirmed)) (min most (limit / 16))
-      → keptWith (numbersFrom x) budget fit parts most hints confirmed
-      ≡ record { index = numbersFrom (limited limit x); used = used (limited limit x .scan .frames) }
+      → keptWith (numbersFrom x) budget frames parts most hints confirmed ≡ numbersFrom (limited limit x)
   unfolding limited
   numbers-of eb ef ep em eh ec =
       rw (ep, eh, ec, em, ef, eb, l .frames, l .parts, p .mark, p .image, thin-length (min (x .hinting .most) (limit / 8)) (x .hinting .hints), last-length (min (min (x .hinting .most) (limit / 8)) (limit / 16)) (x .hinting .confirmed))
 
-pub kept-is : {a : Area} {b : List ℕ} {found : Found} {fit : Fit} {budget at parts-at parts most hints confirmed : ℕ} (limit : ℕ) → Bytes b → Accepts a b found
+pub kept-is : {a : Area} {b : List ℕ} {found : Found} {budget at frames parts-at parts most hints confirmed : ℕ} (limit : ℕ) → Bytes b → Accepts a b found
     → budget ≡ min (found .index .budget) limit → at ≡ 80 + found .index .checkpoints * 24
-    → fit ≡ fitIn (fitting budget (framesRead (found .index .frames) (drop at b)))
+    → frames ≡ length (fitting budget (framesRead (found .index .frames) (drop at b)))
     → parts-at ≡ 80 + found .index .checkpoints * 24 + found .index .frames * 8 + found .used
-    → parts ≡ length (within (fit .count) (partsIn (found .index .parts) (drop parts-at b)))
+    → parts ≡ length (within frames (partsIn (found .index .parts) (drop parts-at b)))
     → most ≡ min (found .index .most) (limit / 8) → hints ≡ min (found .index .hints) most
     → confirmed ≡ min (found .index .confirmed) (min most (limit / 16))
-    → keptWith (found .index) budget fit parts most hints confirmed ≡ keptIn a b limit
+    → keptWith (found .index) budget frames parts most hints confirmed ≡ numbersFrom (limitedIn a b limit)
 kept-is {a} {b} limit y k eb ea ef eq ep em eh ec =
     rw (k .is) (numbers-of (accepted y k) (plain a b (listIn a b) y (k .file)) limit (rw (k .is) at eb) (rw (ea, k .is) at ef) (rw (eq, k .is) at ep) (rw (k .is) at em) (rw (k .is) at eh) (rw (k .is) at ec))

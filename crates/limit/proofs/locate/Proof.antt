@@ -1,11 +1,14 @@
-use Rattle.load.specs.Load.{placesIn}
+use Rattle.limit.specs.Limit.{placesIn}
 use borrow.Author.Needs.{needs}
-use Rattle.load.proofs.locate.Statement.{statement}
-use Rattle.load.proofs.locate.Tie as tie
+use Rattle.limit.proofs.locate.Statement.{statement}
+use Rattle.limit.proofs.locate.Tie as tie
 
 returns : tie.Need-returns
 unfolding placesIn
-returns c = cc ((c .before .before .parts-from .ensures), (c .before .frames-from .ensures), (c .confirmed-size .ensures))
+returns c =
+    let after-parts-from : tie.After-parts-from = search in
+    let after-frames-from : tie.After-frames-from = search in
+    cc ((after-parts-from .parts-from .ensures), (after-frames-from .frames-from .ensures), (c .confirmed-size .ensures))
 
 pub locate-spec : {M : Type 1} → statement M
 locate-spec =
