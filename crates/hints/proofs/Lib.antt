@@ -1,2 +1,3 @@
--- What the proof of first_record uses.
 mod Record
+pub mod Ranks
+pub mod Steps
