@@ -1,0 +1,116 @@
+-- How the numbers of a hint recorder and its lent table stand for its value, and what its calls answer.
+use mathlib.Core.Path.{_≡_}
+use Prim.Native.Nat.{ℕ, _*_, _/_, _≤_}
+use mathlib.Core.Bool.{cond, _&&_}
+use mathlib.Core.List.{List, []}
+use lib.Dec.{ltb}
+use mathlib.Core.Option.{Option, none, some}
+use lib.ListN.{length}
+use Rattle.field.specs.Records.{bytesOf}
+use Rattle.rules.specs.declared.AreaIndex.{AreaIndex}
+use Rattle.rules.specs.declared.Hint.{Hint}
+use Rattle.rules.specs.declared.HintRecorder.{HintRecorder}
+use Rattle.rules.specs.declared.LastListed.{LastListed}
+use Rattle.rules.specs.declared.LastListed.the-variants.{Never, Number}
+use Rattle.rules.specs.declared.Tail.{Tail}
+use Rattle.rules.specs.declared.Tail.the-variants as tail
+use Rattle.rules.specs.Tests.{Answer, Refused, Accepted, firstNo}
+use Rattle.rules.specs.Values as values
+use Rattle.rules.specs.Values.{maxList}
+use Rattle.rules.specs.Questions.{hintRecorderFour}
+use Rattle.rules.specs.Create.{hintRecorder}
+use Rattle.rules.specs.File.{encodeHint}
+use Rattle.rules.specs.Hints.{spaced, listed, tailed, see, flush, flushedList, takeList}
+use Rattle.rules.specs.Hints as rules
+use Rattle.table.specs.Tables.{hintsIn}
+use Rattle.index.specs.Index.{Tables, roomOf, indexIn, kindsIn, kinded, over}
+use Rattle.hinting.specs.declared.Seen.{Seen}
+use Rattle.hinting.specs.declared.Seen.the-variants as seen
+use Rattle.hinting.specs.declared.Taken.{Taken}
+use Rattle.hinting.specs.declared.Taken.the-variants as taken
+use Rattle.hinting.specs.declared.Created.{Created}
+use Rattle.hinting.specs.declared.Created.the-variants as created
+
+-- ---- the value that numbers and the table stand for
+unfoldable pub lastIn : LastListed → Option ℕ
+lastIn Never = none
+lastIn (Number n) = some n
+
+unfoldable pub tailIn : Tail → Option Hint
+tailIn tail.Empty = none
+tailIn (tail.Hint h) = some h
+
+abbrev pub recorderIn : HintRecorder → List ℕ → values.HintRecorder
+recorderIn r t = record { spacing = r .spacing; last = lastIn (r .last); tail = tailIn (r .tail); list = hintsIn (r .count) t }
+
+-- ---- the numbers of a value
+unfoldable pub lastFrom : Option ℕ → LastListed
+lastFrom none = Never
+lastFrom (some n) = Number n
+
+unfoldable pub tailFrom : Option Hint → Tail
+tailFrom none = tail.Empty
+tailFrom (some h) = tail.Hint h
+
+abbrev pub numbersFrom : values.HintRecorder → HintRecorder
+numbersFrom r = record { spacing = r .spacing; last = lastFrom (r .last); tail = tailFrom (r .tail); count = length (r .list) }
+
+-- ---- answers, and the list's table afterwards
+pub record Out : Type 0 where
+  pub answer : Seen
+  pub list : List ℕ
+
+abbrev pub out : Seen → List ℕ → Out
+out r t = record { answer = r; list = t }
+
+-- a refusal changes nothing; an accepted recorder's list is put into the table
+unfoldable pub outOf : List ℕ → Answer values.HintRecorder → Out
+outOf t (Refused n) = out (seen.Refused n) t
+outOf t (Accepted r) = out (seen.Recorder (numbersFrom r)) (over (bytesOf encodeHint (r .list)) t)
+
+unfoldable pub seeIn : HintRecorder → List ℕ → ℕ → List ℕ → Out
+seeIn r t lsn sector = outOf t (see (length t / 8) (recorderIn r t) lsn sector)
+
+unfoldable pub flushIn : HintRecorder → List ℕ → Out
+flushIn r t = outOf t (flush (length t / 8) (recorderIn r t))
+
+unfoldable pub takenOf : Answer rules.Taken → Taken
+takenOf (Refused n) = taken.Refused n
+takenOf (Accepted k) = taken.List (record { count = length (k .list); recorder = numbersFrom (k .recorder) })
+
+unfoldable pub takeIn : HintRecorder → List ℕ → Taken
+takeIn r t = takenOf (takeList (length t / 8) (recorderIn r t))
+
+unfoldable pub createdOf : Answer (Option values.HintRecorder) → Created
+createdOf (Refused n) = created.Refused n
+createdOf (Accepted none) = created.Nothing
+createdOf (Accepted (some r)) = created.Recorder (numbersFrom r)
+
+unfoldable pub hintRecorderIn : AreaIndex → Tables → Created
+hintRecorderIn x t = createdOf (kinded (kindsIn x t) (hintRecorder (roomOf t) (indexIn x t)))
+
+-- ---- what functions need of each other
+-- 3 and 4: the number of the first answered no, 0 for none
+unfoldable pub refusalOf : HintRecorder → List ℕ → ℕ
+refusalOf r t = firstNo (hintRecorderFour (length t / 8) (recorderIn r t) [])
+
+-- 3 and 4 hold
+pub record Roomy (r : HintRecorder) (t : List ℕ) : Type 0 where
+  pub room : maxList * 8 ≤ length t
+  pub few : r .count ≤ maxList
+
+-- the recorder v, and its list put into the table
+pub record Steps (r : HintRecorder) (v : values.HintRecorder) (old new : List ℕ) : Type 0 where
+  pub numbers : r ≡ numbersFrom v
+  pub list : new ≡ over (bytesOf encodeHint (v .list)) old
+
+-- the tail listed under the bound, and cleared
+abbrev pub flushedRecord : values.HintRecorder → values.HintRecorder
+flushedRecord r = record { spacing = r .spacing; last = r .last; tail = none; list = flushedList (r .tail) (r .list) }
+
+abbrev pub tailless : ℕ → LastListed → ℕ → HintRecorder
+tailless spacing last count = record { spacing = spacing; last = last; tail = tail.Empty; count = count }
+
+-- a record listed, under the bound, or made the tail
+abbrev pub hintSeen : values.HintRecorder → Hint → values.HintRecorder
+hintSeen r h = cond (spaced (r .last) (r .spacing) (h .number) && ltb (length (r .list)) maxList) (listed r h) (tailed r h)
