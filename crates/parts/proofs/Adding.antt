@@ -1,0 +1,255 @@
+-- The parts of another list, added one after another. Assumes nothing.
+use mathlib.Core.Path.{_≡_, refl, sym, ap, _∙_}
+use mathlib.Core.Bool.{Bool, true, false, cond}
+use mathlib.Core.List.{List, [], _∷_, _++_}
+use Prim.Native.Nat.{ℕ, zero, suc, _+_, _-_, _*_, _<_, _≤_}
+use native.Mathlib.Nat.{zero-add}
+use native.Mathlib.Omega.{arith}
+use borrow.Author.Tests.{ltb-true, ltb-false, lt-ltb, le-ltb, le-leb}
+use lib.Dec.{ltb}
+use lib.IntN.{ℤ}
+use lib.ListN.{length, take, drop, length-drop, drop-of-length-le, take-append-drop}
+use lib.Seq.{length-take-le}
+use Rattle.field.specs.Number.{numberAt}
+use Rattle.field.specs.Records.{records, recordAt, Bytes}
+use Rattle.field.proofs.Bytes.{bytes-take, bytes-drop, bytes-part}
+use Rattle.field.proofs.Number.{number-below}
+use Rattle.field.proofs.Records.{records-length, records-at}
+use Rattle.field.proofs.Format as format
+use Rattle.field.proofs.Format.{Each, each-at, records-fit}
+use Rattle.rules.specs.declared.Held as declared
+use Rattle.rules.specs.Values.{Frame, noFrame, frameAt, partBytes, used}
+use Rattle.rules.specs.PartRule.{Stored, Piece, piece, addPart, addParts}
+use Rattle.rules.specs.Plan.{offsetOf, bytesAt}
+use Rattle.rules.specs.File.{decodeHeld}
+use Rattle.rules.proofs.Tests.{test}
+use Rattle.scanlaws.proofs.PartRule.{addParts-skip, addParts-add}
+use Rattle.filelaws.proofs.Layouts.{HeldFits, signed-forth}
+use Rattle.table.specs.declared.FrameHeader.{FrameHeader}
+use Rattle.table.specs.Tables.{decodeHeader, headersIn, headerAt, frameOf, framesOf, framesIn, partsIn}
+use Rattle.table.proofs.Frames.{stretch-length, frame-start, frames-used}
+use Rattle.table.proofs.Walk.{records-turn}
+use Rattle.index.specs.Index.{kindsOk, storeOf}
+use Rattle.index.proofs.Back.{HeaderFits, FrameFits, header-layout}
+use Rattle.plan.proofs.Held.{weight-next, weight-offset}
+use Rattle.index.proofs.Lent.{store-back}
+use Rattle.index.proofs.Store.{store-part}
+use Rattle.parts.specs.declared.Counts.{Counts}
+use Rattle.parts.specs.declared.Source.{Source}
+use Rattle.parts.specs.Parts.{PartTables, partTables, storedIn, countsOf, storedOver, Held, held, heldFrom}
+use Rattle.parts.specs.Needs.{Ready, Room, wanted, InOrder, Lent, offsetTo, heldPiece, addedBy}
+use Rattle.parts.proofs.Frames.{count}
+use Rattle.parts.proofs.Stored.{stays}
+use Rattle.parts.proofs.Steps.{Typed, Fits, Step, step-part, stored-again, stands-there, next-room}
+
+-- ---- what is read fits
+pub held-fits : (b : List ℕ) → Bytes b → HeldFits (decodeHeld b)
+unfolding decodeHeld
+held-fits b h = record {
+  numbers = (number-below 4 b 0 h, (number-below 4 b 4 h, (number-below 4 b 8 h, (number-below 4 b 12 h, tt))));
+  signed = signed-forth (numberAt 4 b 16) (let f = number-below 4 b 16 h in omega arith) .1;
+}
+
+parts-fit : (h : ℕ) (t : List ℕ) → Bytes t → Each HeldFits (partsIn h t)
+unfolding records
+parts-fit zero t b = format.none
+parts-fit (suc h) t b = format.one (held-fits (take 24 t) (bytes-take t 24 b)) (parts-fit h (drop 24 t) (bytes-drop t 24 b))
+
+frames-fit : {hs : List FrameHeader} (store : List ℕ) → Each HeaderFits hs → Each FrameFits (framesOf hs store)
+unfolding framesOf
+frames-fit store format.none = format.none
+frames-fit store (format.one {x = g} p ps) = format.one {x = frameOf g store} (p .0, (rw stretch-length (p .1 .0), tt)) (frames-fit (drop (g .len) store) ps)
+
+pub fits-in : (f h : ℕ) (t : PartTables) → Bytes (t .frames) → Bytes (t .parts) → Fits (storedIn f h t)
+fits-in f h t bf bp = record { frames = frames-fit (t .store) (records-fit header-layout f (t .frames) bf); parts = parts-fit h (t .parts) bp }
+
+-- ---- where a frame's bytes lie
+used-at : (fs : List Frame) (i : ℕ) → i < length fs → used (take i fs) + length (frameAt fs i .bytes) ≤ used fs
+unfolding used
+used-at [] i l = let z : ⊥ = omega arith in absurd z
+used-at (f ∷ fs) zero l = omega arith
+used-at (f ∷ fs) (suc i) l = let r = used-at fs i (omega arith) in omega arith
+
+module _ (f : ℕ) (headers store : List ℕ) (room : used (framesIn f headers store) ≤ length store) where
+  store-split : store ≡ storeOf (framesIn f headers store) ++ drop (used (framesIn f headers store)) store
+  store-split =
+      let e = frames-used (headersIn f headers) [] store in
+      let w = store-back (headersIn f headers) store (omega arith) in
+      sym (rw (w, e) (take-append-drop (used (framesIn f headers store)) store))
+
+  offset-is : (g : ℕ) → offsetTo f headers g ≡ offsetOf (framesIn f headers store) g
+  offset-is g = weight-offset g g (headersIn f headers) store (omega arith) (omega arith) refl
+
+  module _ (p : declared.Held) {off : ℕ} (is : off ≡ offsetTo f headers (p .frame)) (l : p .frame < length (framesIn f headers store)) (b : p .len ≤ length (frameAt (framesIn f headers store) (p .frame) .bytes)) where
+    pub bytes-inside : off + p .len ≤ length store
+    bytes-inside = let e = is ∙ offset-is (p .frame) in let u = used-at (framesIn f headers store) (p .frame) l in omega arith
+
+    pub bytes-there : take (p .len) (drop off store) ≡ partBytes (framesIn f headers store) p
+    unfolding bytesAt
+    bytes-there =
+        let e = is ∙ offset-is (p .frame) in
+        let q = store-part (framesIn f headers store) (drop (used (framesIn f headers store)) store) p l b in
+        let i : offsetOf (framesIn f headers store) (p .frame) + p .len ≤ length store = rw e at bytes-inside in
+        rw e (rw (← store-split, le-leb (offsetOf (framesIn f headers store) (p .frame) + p .len) (length store) i) at q)
+
+-- from one frame to the next
+pub source-next : {off : ℕ} {x : FrameHeader} (f : ℕ) (headers : List ℕ) (i g : ℕ) → off ≡ offsetTo f headers i → x ≡ headerAt (headersIn f headers) i → i ≤ g → g ≤ i + 1 → (g ≡ i → ⊥)
+    → off + x .len ≡ offsetTo f headers g
+source-next f headers i g e h a b z = let q : g ≡ i + 1 = omega arith in weight-next i (headersIn f headers) e h ∙ rw q
+
+-- ---- one part
+module _ (budget n : ℕ) (c : Counts) (p : Piece) (t : PartTables) where
+  pub added-no : p .at < n → held c t ≡ addedBy budget n c p t
+  unfolding addedBy
+  added-no l = rw (lt-ltb (p .at) n l)
+
+  added-yes : n ≤ p .at → heldFrom (addPart budget (storedIn (c .frames) (c .parts) t) p) t ≡ addedBy budget n c p t
+  unfolding addedBy
+  added-yes l = rw (le-ltb (p .at) n l)
+
+-- its bytes are cut from the other store
+pub added-part : {x : Held} {z : ℤ} (budget n : ℕ) (c : Counts) (t : PartTables) (p : declared.Held) (start from e : ℕ) (other : List ℕ) → z ≡ p .remaining → e ≡ from + p .len → n ≤ p .at
+    → x ≡ heldFrom (addPart budget (storedIn (c .frames) (c .parts) t)
+    (record { at = p .at; start = start; bytes = take (e - from) (drop from other); number = p .number; kind = p .kind; remaining = z })) t
+    → x ≡ addedBy budget n c (heldPiece p start (take (p .len) (drop from other))) t
+added-part budget n c t p start from e other r q l h =
+    let k : e - from ≡ p .len = omega arith in
+    (rw (r, k) at h) ∙ added-yes budget n c (heldPiece p start (take (p .len) (drop from other))) t l
+
+-- ---- the loop
+module _ (budget n f h : ℕ) (o t0 : PartTables) where
+  abbrev others : List Frame
+  others = framesIn f (o .frames) (o .store)
+
+  abbrev parts : List declared.Held
+  parts = partsIn h (o .parts)
+
+  -- j parts are looked at, and what is to be stored is given
+  pub record Adding (given : Stored) (j : ℕ) (at : Source) (c : Counts) (t : PartTables) : Type 0 where
+    pub within : j ≤ h
+    pub source : at .offset ≡ offsetTo f (o .frames) (at .frame)
+    pub order : InOrder (at .frame) others (drop j parts)
+    pub room : Room (wanted n (drop j parts)) budget c t
+    pub fits : Fits (storedIn (c .frames) (c .parts) t)
+    pub front : storedOver (storedIn (c .frames) (c .parts) t) t0 ≡ t
+    pub rest : addParts budget others n (drop j parts) (storedIn (c .frames) (c .parts) t) ≡ given
+
+  -- one at least
+  space-one : {w : ℕ} {c : Counts} {t : PartTables} → Room (suc w) budget c t → Room 1 budget c t
+  space-one r = let f' = r .frames in let p' = r .parts in let e = r .few in
+      record { ready = r .ready; kinds = r .kinds; frames = omega arith; parts = omega arith; few = (omega arith, omega arith) }
+
+  -- as `add_one` counts: the tables are those of c
+  counted : {c : Counts} {t : PartTables} → Ready budget c t → c ≡ countsOf (storedIn (c .frames) (c .parts) t)
+  counted {c} {t} r = rw (count (c .frames) (t .frames) (t .store), records-length 24 decodeHeld (c .parts) (t .parts), ← r .bytes)
+
+  pub adding-start : {c : Counts} → Lent f h o → Room (wanted n parts) budget c t0 → Bytes (t0 .frames) → Bytes (t0 .parts)
+      → Adding (addParts budget others n parts (storedIn (c .frames) (c .parts) t0)) 0 (record { frame = 0; offset = 0 }) c t0
+  unfolding framesOf used
+  adding-start {c} l r bf bp = record {
+    within = omega arith;
+    source = refl;
+    order = l .order;
+    room = r;
+    fits = fits-in (c .frames) (c .parts) t0 bf bp;
+    front = sym (ap (λ (x : Held). x .tables) (stays (r .ready) (r .kinds) bf bp));
+    rest = refl;
+  }
+
+  module _ (l : Lent f h o) {given : Stored} {j : ℕ} {at : Source} {c : Counts} {t : PartTables} (k : Adding given j at c t) where
+    pub adding-end : h ≤ j → held c t ≡ heldFrom given t0
+    unfolding addParts
+    adding-end g =
+        let e : drop j parts ≡ [] = drop-of-length-le parts {i = j} (rw records-length g) in
+        let q : storedIn (c .frames) (c .parts) t ≡ given = (rw e at (k .rest)) in
+        let a : countsOf (storedIn (c .frames) (c .parts) t) ≡ c = sym (counted (k .room .ready)) in
+        rw (← q, a, k .front)
+
+    module _ (i : j < h) {p : declared.Held} (is : p ≡ recordAt 24 decodeHeld (o .parts) j) where
+      turn : drop j parts ≡ p ∷ drop (j + 1) parts
+      turn = records-turn 24 decodeHeld h (o .parts) j i ∙ rw is
+
+      wanted-yes : n ≤ p .at → wanted n (drop j parts) ≡ suc (wanted n (drop (j + 1) parts))
+      unfolding wanted
+      wanted-yes z = rw (turn, le-ltb (p .at) n z)
+
+      wanted-no : p .at < n → wanted n (drop j parts) ≡ wanted n (drop (j + 1) parts)
+      unfolding wanted
+      wanted-no z = rw (turn, lt-ltb (p .at) n z)
+
+      pub in-order : InOrder (at .frame) others (p ∷ drop (j + 1) parts)
+      in-order = rw turn at (k .order)
+
+      pub source-ready : (at .offset ≡ offsetTo f (o .frames) (at .frame)) × (at .frame ≤ p .frame) × (p .frame ≤ at .frame + 1) × (p .frame < f) × (f * 8 ≤ length (o .frames))
+          × (at .offset ≤ length (o .store))
+      source-ready =
+          let q = in-order in
+          let a = q .0 in let b = q .2 in
+          let u = used-at others (at .frame) (omega arith) in let s = l .store in
+          let e = k .source ∙ offset-is f (o .frames) (o .store) (l .store) (at .frame) in
+          (k .source, q .0, q .1, rw (count f (o .frames) (o .store)) at (q .2), l .frames, omega arith)
+
+      module _ {at' : Source} (there : (at' .frame ≡ p .frame) × (at' .offset ≡ offsetTo f (o .frames) (p .frame))) {g : FrameHeader} (header : g ≡ recordAt 8 decodeHeader (o .frames) (p .frame)) where
+        pub one-ready : (n ≤ p .at → Room 1 budget c t) × (at' .offset + p .len ≤ length (o .store))
+        one-ready = (
+          (λ z. let e : wanted n (drop j parts) ≡ suc (wanted n (drop (j + 1) parts)) = wanted-yes z in space-one (rw e at (k .room))),
+          (let q = in-order in bytes-inside f (o .frames) (o .store) (l .store) p (there .1) (q .2) (q .3)),
+        )
+
+        piece-is : heldPiece p (g .start) (take (p .len) (drop (at' .offset) (o .store))) ≡ piece others p
+        piece-is =
+            let q = in-order in
+            let u : p .frame < f = rw (count f (o .frames) (o .store)) at (q .2) in
+            let e : frameAt others (p .frame) .start ≡ g .start =
+            frame-start (headersIn f (o .frames)) (o .store) (p .frame) ∙ rw (records-at 8 decodeHeader f (o .frames) (p .frame) (record { start = 0; len = 0 }) u, header) in
+            rw (e, bytes-there f (o .frames) (o .store) (l .store) p (there .1) (q .2) (q .3))
+
+        typed : Bytes (o .frames) → Bytes (o .parts) → Typed (piece others p)
+        typed bf bp =
+            let x : HeldFits p = rw is (held-fits _ (bytes-part (o .parts) (j * 24) 24 bp)) in
+            let y = each-at (p .frame) noFrame (frames-fit (o .store) (records-fit header-layout f (o .frames) bf)) (omega arith, (omega arith, tt)) in
+            record { at = x .numbers .0; start = y .0; number = x .numbers .1 .1 .1 .0; remaining = x .signed }
+
+        module _ {c' : Counts} {t' : PartTables} (added : held c' t' ≡ addedBy budget n c (heldPiece p (g .start) (take (p .len) (drop (at' .offset) (o .store)))) t) where
+          skipped : p .at < n → Adding given (j + 1) at' c' t'
+          unfolding addedBy
+          skipped z =
+              let e : held c' t' ≡ held c t = rw (lt-ltb (p .at) n z) at added in
+              let ec : c' ≡ c = ap (λ (x : Held). x .counts) e in
+              let et : t' ≡ t = ap (λ (x : Held). x .tables) e in
+              rw (ec, et) (record {
+                within = omega arith;
+                source = rw (there .0) (there .1);
+                order = rw (there .0) (in-order .4);
+                room = rw (wanted-no z) at (k .room);
+                fits = k .fits;
+                front = k .front;
+                rest = sym (addParts-skip budget others n p (drop (j + 1) parts) _ (lt-ltb (p .at) n z)) ∙ (rw turn at (k .rest));
+              })
+
+          stored-on : Bytes (o .frames) → Bytes (o .parts) → n ≤ p .at → Adding given (j + 1) at' c' t'
+          unfolding addedBy
+          stored-on bf bp z =
+              let s = storedIn (c .frames) (c .parts) t in
+              let s' = addPart budget s (piece others p) in
+              let e : held c' t' ≡ heldFrom s' t = rw (le-ltb (p .at) n z, piece-is) at added in
+              let ec : c' ≡ countsOf s' = ap (λ (x : Held). x .counts) e in
+              let et : t' ≡ storedOver s' t = ap (λ (x : Held). x .tables) e in
+              let r : Room (suc (wanted n (drop (j + 1) parts))) budget c t = rw (wanted-yes z) at (k .room) in
+              let cf = count (c .frames) (t .frames) (t .store) in let cp = records-length 24 decodeHeld (c .parts) (t .parts) in
+              let rb = r .ready .bytes in let rf = r .ready .fits in let few = r .few in
+              let st : Step budget s s' =
+              step-part budget s (piece others p) (rw cf (omega arith)) (omega arith) (rw (cf, cp) (r .ready .some)) (k .fits) (typed bf bp) in
+              let here = stands-there st t in
+              rw (ec, et) (record {
+                within = omega arith;
+                source = rw (there .0) (there .1);
+                order = rw (there .0) (in-order .4);
+                room = next-room st t (counted (r .ready)) r;
+                fits = rw here (st .fits);
+                front = ap (λ (x : Stored). storedOver x t0) here ∙ sym (stored-again st t0) ∙ ap (storedOver s') (k .front);
+                rest = rw here (sym (addParts-add budget others n p (drop (j + 1) parts) s (le-ltb (p .at) n z)) ∙ (rw turn at (k .rest)));
+              })
+
+          pub adding-on : Bytes (o .frames) → Bytes (o .parts) → Adding given (j + 1) at' c' t'
+          adding-on bf bp = test (ltb (p .at) n) (λ e. skipped (ltb-true (p .at) n e)) (λ e. stored-on bf bp (ltb-false (p .at) n e))

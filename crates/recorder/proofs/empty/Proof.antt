@@ -1,0 +1,11 @@
+use Rattle.recorder.specs.Needs.{emptyOf}
+use borrow.Author.Needs.{needs}
+use Rattle.recorder.proofs.empty.Statement.{statement}
+use Rattle.recorder.proofs.empty.Tie as tie
+
+returns : tie.Need-returns
+unfolding emptyOf
+returns c = cc
+
+pub empty-spec : {M : Type 1} → statement M
+empty-spec = tie.close (tie.spec (λ c κs. search needs) returns)

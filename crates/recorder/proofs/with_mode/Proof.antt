@@ -1,0 +1,12 @@
+use mathlib.Core.Path.{refl}
+use Rattle.recorder.specs.Needs.{modeOf}
+use borrow.Author.Needs.{needs}
+use Rattle.recorder.proofs.with_mode.Statement.{statement}
+use Rattle.recorder.proofs.with_mode.Tie as tie
+
+returns : tie.Need-returns
+unfolding modeOf
+returns c = refl
+
+pub with-mode-spec : {M : Type 1} → statement M
+with-mode-spec = tie.close (tie.spec returns)
