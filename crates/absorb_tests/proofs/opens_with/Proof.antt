@@ -1,0 +1,26 @@
+use Rattle.absorb_tests.proofs.Common.{opens-no, opens-yes}
+use mathlib.Core.Path.{refl}
+use borrow.Author.Needs.{needs}
+use Rattle.absorb_tests.proofs.opens_with.Statement.{statement}
+use Rattle.absorb_tests.proofs.opens_with.Tie as tie
+
+returns : tie.Need-returns
+returns c = opens-no _ _ _ _ (c .if1 .taken)
+
+returns-2 : tie.Need-returns-2
+returns-2 c = opens-yes _ _ _ _ (c .before .before .before .if1 .left) (c .same .ensures) refl (λ i. (c .before .before .before .before .before .shared-slice-known .given) i .fits) (λ i. (c .before .before .before .before .shared-slice-known2 .given) i .fits) (c .before .before .before .before .before .before .pre .0) (c .before .before .before .before .before .before .pre .1)
+
+pub opens-with-spec : {M : Type 1} → statement M
+opens-with-spec =
+    tie.close
+    (tie.spec
+    returns
+    (λ c. search needs)
+    (λ c. search needs)
+    (λ c. search needs)
+    (λ c. search needs)
+    (λ c. search needs)
+    (λ c. search needs)
+    (λ c. search needs)
+    (λ c κs. search needs)
+    returns-2)
