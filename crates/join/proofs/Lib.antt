@@ -1,0 +1,5 @@
+pub mod Common
+pub mod Questions
+pub mod Refusal
+pub mod Ready
+pub mod Held

@@ -1,0 +1,26 @@
+use mathlib.Core.Path.{refl}
+use Rattle.join.proofs.Common.{common-by}
+use Rattle.filelaws.proofs.Layouts.{checkpoint-layout}
+use Rattle.rules.specs.Values.{sameCheckpoint}
+use Rattle.rules.proofs.Same.{sameCheckpoint-eq, sameCheckpoint-self}
+use borrow.Author.Needs.{needs}
+use Rattle.join.proofs.same_checkpoints.Statement.{statement}
+use Rattle.join.proofs.same_checkpoints.Tie as tie
+
+returns : tie.Need-returns
+returns c = common-by checkpoint-layout sameCheckpoint sameCheckpoint-eq sameCheckpoint-self _ _ _ _ _ (c .same .ensures) refl (λ i. (c .before .before .before .before .before .shared-slice-known .given) i .fits) (λ i. (c .before .before .before .before .shared-slice-known2 .given) i .fits) (c .before .before .before .before .before .before .pre .0) (c .before .before .before .before .before .before .pre .1) (c .before .before .before .min-u64 .ensures)
+
+pub same-checkpoints-spec : {M : Type 1} → statement M
+same-checkpoints-spec =
+    tie.close
+    (tie.spec
+    (λ c κs. search needs)
+    (λ c. search needs)
+    (λ c. search needs)
+    (λ c. search needs)
+    (λ c. search needs)
+    (λ c. search needs)
+    (λ c. search needs)
+    (λ c. search needs)
+    (λ c κs. search needs)
+    returns)

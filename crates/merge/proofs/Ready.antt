@@ -1,0 +1,63 @@
+-- What each step of a merge needs of the tables, where nothing refuses. Assumes nothing.
+use mathlib.Core.Path.{_≡_, refl, sym, ap, _∙_}
+use mathlib.Core.Bool.{Bool, true, false, cond}
+use Prim.Native.Nat.{ℕ, _+_, _*_, _/_, _<_, _≤_}
+use native.Mathlib.Omega.{arith}
+use lib.ListN.{length}
+use Rattle.field.proofs.Records.{records-length}
+use Rattle.rules.specs.declared.AreaIndex.{AreaIndex}
+use Rattle.rules.specs.Sections.{confirmationsOk, confirmedLsn, confirmationOk}
+use Rattle.rules.specs.File.{decodeLsn, decodeHint, decodeConfirmation}
+use Rattle.scanlaws.proofs.Scans.{malformed-length}
+use Rattle.hintlaws.proofs.Rising.{rising→, rises-from}
+use Rattle.table.specs.Tables.{confirmationsIn}
+use Rattle.index.specs.Index.{Tables}
+use Rattle.index.specs.Needs.{Passes}
+use Rattle.index.proofs.Questions.{space, passes-long, passes-hints}
+use Rattle.confirm.specs.Kept.{Rising}
+use Rattle.join.specs.Needs.{furtherIn, Joins}
+use Rattle.join.proofs.Ready.{scan-is, hinting-is, hint-room, confirmed-room, areas, other-few, further-fewer}
+use Rattle.join.proofs.Held.{lent, room}
+use Rattle.parts.specs.Parts.{partTables}
+use Rattle.take.specs.Needs.{Appends, Takes, PartsReady, HintsReady}
+
+few-malformed : {y : AreaIndex} {u : Tables} → Passes y u → y .malformed ≤ 4096
+few-malformed {y} {u} p =
+    let m = malformed-length _ _ _ _ (scan-is p .malformed) in let n = records-length 4 decodeLsn (y .malformed) (u .malformed) in omega arith
+
+module _ {x y : AreaIndex} {t u : Tables} {go : Bool} (j : Joins x t y u) (g : go ≡ furtherIn x y) where
+  pub appends : Appends go (x .checkpoints) (y .checkpoints) (t .checkpoints) (u .checkpoints)
+  appends =
+      let l = passes-long (j .own) in let k = passes-long (j .other) in
+      let s = space (j .own .roomy) .checkpoints in let o = other-few j in
+      record { own = l .checkpoints; other = k .checkpoints; room = λ e. (further-fewer j (sym g ∙ e), omega arith) }
+
+  pub takes : Takes (x .malformed) (y .malformed) (t .malformed) (u .malformed)
+  takes =
+      let l = passes-long (j .own) in let k = passes-long (j .other) in
+      let s = space (j .own .roomy) .malformed in let m = few-malformed (j .other) in
+      record { own = l .malformed; other = k .malformed; room = omega arith }
+
+  pub parts-ready : PartsReady go x y (partTables (t .frames) (t .store) (t .parts)) (partTables (u .frames) (u .store) (u .parts))
+  parts-ready = record { own = passes-long (j .own) .frames; lent = lent j g; room = room j g }
+
+  pub hints-ready : HintsReady (x .area) (x .hints) (y .hints) (t .hints) (u .hints)
+  hints-ready =
+      let h = hinting-is (j .own) in let k = hinting-is (j .other) in
+      let hf = h .few in let kf = k .few in let km = k .most in let r = hint-room (j .own) in let l = passes-hints (j .other) in
+      let n = records-length 8 decodeHint (x .hints) (t .hints) in let m = records-length 8 decodeHint (y .hints) (u .hints) in
+      record { room = omega arith; there = l .hints; rising = rw (areas j) (k .hints) }
+
+  pub confirmed-ready : Rising (x .most) (x .confirmed) (y .confirmed) (t .confirmed) (u .confirmed)
+  unfolding confirmationsOk
+  confirmed-ready =
+      let h = hinting-is (j .own) in let k = hinting-is (j .other) in
+      let hf = h .fewer in let r = confirmed-room (j .own) in let l = passes-hints (j .other) in
+      let n = records-length 16 decodeConfirmation (x .confirmed) (t .confirmed) in
+      record {
+        few = omega arith;
+        room = omega arith;
+        there = l .confirmed;
+        own = rises-from confirmedLsn 0 (x .area .start) (confirmationsIn (x .confirmed) (t .confirmed)) (omega arith) (rising→ confirmedLsn confirmationOk (x .area .start) (x .area .end) _ (h .confirmed) .order);
+        other = rises-from confirmedLsn 0 (y .area .start) (confirmationsIn (y .confirmed) (u .confirmed)) (omega arith) (rising→ confirmedLsn confirmationOk (y .area .start) (y .area .end) _ (k .confirmed) .order);
+      }

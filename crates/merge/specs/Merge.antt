@@ -1,0 +1,17 @@
+-- merge of two lists in their tables.
+use Prim.Native.Nat.{ℕ, _+_}
+use mathlib.Core.Bool.{_&&_, cond}
+use lib.Dec.{eqb}
+use Rattle.rules.specs.declared.AreaIndex.{AreaIndex}
+use Rattle.rules.specs.Merge.{merge}
+use Rattle.index.specs.Index.{Tables, roomOf, indexIn, kindsIn, kinded, tablesCleared, Out, outOf}
+
+-- up to which record number the hint table is written: both lists' hints, before they are thinned; at M = 0 the own ones stay
+unfoldable pub hintsWritten : AreaIndex → AreaIndex → ℕ
+hintsWritten x y = cond (eqb (x .most) 0) (x .hints) (x .hints + y .hints)
+
+-- the answer, and the own tables afterwards
+abbrev pub mergeIn : AreaIndex → Tables → AreaIndex → Tables → Out
+mergeIn x t y u =
+    outOf (λ z. tablesCleared (hintsWritten x y) z t) t
+    (kinded (kindsIn x t && kindsIn y u) (merge (roomOf t) (indexIn x t) (roomOf u) (indexIn y u)))

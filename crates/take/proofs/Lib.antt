@@ -1,0 +1,4 @@
+pub mod Copies
+pub mod Images
+pub mod Hints
+pub mod Held

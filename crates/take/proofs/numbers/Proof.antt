@@ -1,0 +1,12 @@
+use Rattle.take.specs.Needs.{numbersBy}
+use borrow.Author.Needs.{needs}
+use Rattle.take.proofs.numbers.Statement.{statement}
+use Rattle.take.proofs.numbers.Tie as tie
+
+returns : tie.Need-returns
+unfolding numbersBy
+returns c = rw (c .before .before .ending-of .ensures, c .before .fingerprint-of .ensures, c .image-of .ensures)
+
+pub numbers-spec : {M : Type 1} → statement M
+numbers-spec =
+    tie.close (tie.spec (λ c κs. search needs) (λ c κs. search needs) (λ c κs. search needs) returns)

@@ -1,0 +1,109 @@
+-- What the steps of a merge need of the tables, and what they leave.
+use mathlib.Core.Path.{_≡_}
+use Prim.Native.Nat.{ℕ, _+_, _-_, _*_, _/_, _≤_, _<_}
+use mathlib.Core.Bool.{Bool, true, cond}
+use mathlib.Core.List.{List, _++_}
+use lib.Dec.{eqb}
+use lib.ListN.{length, drop, replicate}
+use Rattle.field.specs.Records.{bytesOf}
+use Rattle.rules.specs.declared.Area.{Area}
+use Rattle.rules.specs.declared.AreaIndex.{AreaIndex}
+use Rattle.rules.specs.declared.Checkpoint.{Checkpoint}
+use Rattle.rules.specs.declared.Hint.{Hint}
+use Rattle.rules.specs.Tests.{orElse}
+use Rattle.rules.specs.Values.{used}
+use Rattle.rules.specs.Sections.{hintsOk}
+use Rattle.rules.specs.PartRule.{addParts}
+use Rattle.rules.specs.Hints.{joinedHints}
+use Rattle.rules.specs.File.{encodeCheckpoint, encodeLsn, encodeHint}
+use Rattle.rules.specs.Merge.{mergedFingerprint}
+use Rattle.table.specs.Tables.{checkpointsIn, lsnsIn, framesIn, partsIn, hintsIn}
+use Rattle.index.specs.Index.{over}
+use Rattle.sections.specs.Numbers.{idIn, idFrom}
+use Rattle.parts.specs.declared.Counts.{Counts}
+use Rattle.parts.specs.Parts.{PartTables, storedIn, Held, heldFrom}
+use Rattle.parts.specs.Needs.{Lent, Room, wanted}
+
+-- the r records xs stand at the start of the table new, which is old past them
+pub record Put {A : Type 0} (e : A → List ℕ) (xs : List A) (r : ℕ) (old new : List ℕ) : Type 0 where
+  pub count : r ≡ length xs
+  pub bytes : new ≡ over (bytesOf e xs) old
+
+-- ---- checkpoints
+-- the own ones, and where go holds the rest of the other's
+unfoldable pub withRest : Bool → List Checkpoint → List Checkpoint → List Checkpoint
+withRest go own other = cond go (own ++ drop (length own) other) own
+
+pub record Appends (go : Bool) (n m : ℕ) (t u : List ℕ) : Type 0 where
+  pub own : n * 24 ≤ length t
+  pub other : m * 24 ≤ length u
+  pub room : go ≡ true → (n ≤ m) × (m * 24 ≤ length t)
+
+abbrev pub Appended : Bool → ℕ → ℕ → List ℕ → List ℕ → ℕ → List ℕ → Type 0
+Appended go n m t u r t' = Put encodeCheckpoint (withRest go (checkpointsIn n t) (checkpointsIn m u)) r t t'
+
+-- ---- malformed LSNs
+pub record Takes (n m : ℕ) (t u : List ℕ) : Type 0 where
+  pub own : n * 4 ≤ length t
+  pub other : m * 4 ≤ length u
+  pub room : m * 4 ≤ length t
+
+abbrev pub Taken : Bool → ℕ → ℕ → List ℕ → List ℕ → ℕ → List ℕ → Type 0
+Taken go n m t u r t' = Put encodeLsn (cond go (lsnsIn m u) (lsnsIn n t)) r t t'
+
+-- ---- frames and parts
+pub record PartsReady (go : Bool) (x y : AreaIndex) (t u : PartTables) : Type 0 where
+  pub own : x .frames * 8 ≤ length (t .frames)
+  pub lent : Lent (y .frames) (cond go (y .parts) 0) u
+  pub room : (c : Counts) → c .frames ≡ x .frames → c .parts ≡ x .parts → c .used ≡ used (framesIn (x .frames) (t .frames) (t .store))
+      → Room (wanted (x .checkpoints) (partsIn (cond go (y .parts) 0) (u .parts))) (x .budget) c t
+
+unfoldable pub partsTaken : Bool → AreaIndex → AreaIndex → PartTables → PartTables → Held
+partsTaken go x y t u =
+    heldFrom
+    (addParts (x .budget) (framesIn (y .frames) (u .frames) (u .store)) (x .checkpoints) (partsIn (cond go (y .parts) 0) (u .parts)) (storedIn (x .frames) (x .parts) t))
+    t
+
+-- ---- hints
+pub record HintsReady (a : Area) (n m : ℕ) (t u : List ℕ) : Type 0 where
+  pub room : n + m ≤ length t / 8
+  pub there : m * 8 ≤ length u
+  pub rising : hintsOk a (hintsIn m u) ≡ true
+
+-- a count, and a table
+pub record Listed : Type 0 where
+  pub count : ℕ
+  pub table : List ℕ
+
+abbrev pub listed : ℕ → List ℕ → Listed
+listed n t = record { count = n; table = t }
+
+-- hints hs at the start of a table, which is cleared behind them up to record number w
+abbrev pub clearedUpTo : ℕ → List Hint → List ℕ → Listed
+clearedUpTo w hs t = listed (length hs) (over (bytesOf encodeHint hs ++ replicate ((w - length hs) * 8) 0) t)
+
+abbrev pub writtenTo : ℕ → ℕ → ℕ → ℕ
+writtenTo most n m = cond (eqb most 0) n (n + m)
+
+unfoldable pub hintsJoined : Area → ℕ → ℕ → ℕ → List ℕ → List ℕ → Listed
+hintsJoined a most n m t u = clearedUpTo (writtenTo most n m) (joinedHints a most (hintsIn n t) (hintsIn m u)) t
+
+-- ---- the numbers
+unfoldable pub numbersBy : AreaIndex → AreaIndex → Bool → ℕ → Counts → ℕ → ℕ → ℕ → AreaIndex
+numbersBy x y go n c m s d =
+    record {
+      area = x .area;
+      interval = x .interval;
+      budget = x .budget;
+      spacing = x .spacing;
+      most = x .most;
+      checkpoints = n;
+      frames = c .frames;
+      parts = c .parts;
+      malformed = m;
+      hints = s;
+      confirmed = d;
+      ending = cond go (y .ending) (x .ending);
+      fingerprint = mergedFingerprint (x .fingerprint) (y .fingerprint);
+      image = idFrom (orElse (idIn (x .image)) (idIn (y .image)));
+    }
