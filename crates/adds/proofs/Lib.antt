@@ -1,0 +1,5 @@
+pub mod Same
+pub mod Fields
+pub mod Parts
+pub mod Seeking
+pub mod Answers

@@ -1,0 +1,16 @@
+use Rattle.sections.specs.Numbers.{idIn}
+use Rattle.rules.specs.Tests.{isSome}
+use borrow.Author.Needs.{needs}
+use Rattle.adds.proofs.has_id.Statement.{statement}
+use Rattle.adds.proofs.has_id.Tie as tie
+
+returns : tie.Need-returns
+unfolding isSome idIn
+returns c = cc
+
+returns-2 : tie.Need-returns-2
+unfolding isSome idIn
+returns-2 c = cc
+
+pub has-id-spec : {M : Type 1} → statement M
+has-id-spec = tie.close (tie.spec (λ c. search needs) (λ c. search needs) returns returns-2)

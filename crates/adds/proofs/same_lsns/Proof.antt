@@ -1,0 +1,23 @@
+use Rattle.adds.proofs.Fields.{lsns-by}
+use mathlib.Core.Path.{refl}
+use borrow.Author.Needs.{needs}
+use Rattle.adds.proofs.same_lsns.Statement.{statement}
+use Rattle.adds.proofs.same_lsns.Tie as tie
+
+returns : tie.Need-returns
+returns c = lsns-by _ _ _ _ (λ i. (c .before .before .before .before .shared-slice-known .given) i .fits) (λ i. (c .before .before .before .shared-slice-known2 .given) i .fits) (c .before .before .before .before .before .pre .0) (c .before .before .before .before .before .pre .1) (c .same .ensures) refl refl
+
+pub same-lsns-spec : {M : Type 1} → statement M
+same-lsns-spec =
+    tie.close
+    (tie.spec
+    (λ c. search needs)
+    (λ c. search needs)
+    (λ c. search needs)
+    (λ c. search needs)
+    (λ c. search needs)
+    (λ c. search needs)
+    (λ c. search needs)
+    (λ c. search needs)
+    (λ c κs. search needs)
+    returns)

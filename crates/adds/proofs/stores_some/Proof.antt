@@ -1,0 +1,58 @@
+use Rattle.adds.proofs.Seeking.{Seeking, seek-start, seek-end, source-ready, part-inside, seek-found, seek-on}
+use Rattle.adds.specs.Needs.{someStored}
+use Rattle.parts.specs.Parts.{partTables, storedIn}
+use Rattle.table.specs.Tables.{framesIn, partsIn}
+use native.Mathlib.Omega.{arith}
+use Prim.Native.Nat.{_-_}
+use borrow.Author.Needs.{needs}
+use Rattle.adds.proofs.stores_some.Statement.{statement}
+use Rattle.adds.proofs.stores_some.Tie as tie
+
+abbrev Inv-loop : tie.InvT-loop
+Inv-loop budget n c f h headers other theirs frames store parts at₀ j₀ at j = Seeking budget n f h (partTables headers other theirs) (storedIn (c .frames) (c .parts) (partTables frames store parts)) (someStored budget (framesIn f headers other) n (partsIn h theirs) (storedIn (c .frames) (c .parts) (partTables frames store parts))) j at
+
+abbrev μ-loop : tie.MeasureT-loop
+μ-loop budget n c f h headers other theirs frames store parts at₀ j₀ at j = h - j
+
+loop-holds : tie.Need-loop-holds Inv-loop μ-loop
+loop-holds c = seek-start _ _ _ _ _ _ (c .before .before .before .before .before .before .pre .0)
+
+source-at-requires : tie.Need-source-at-requires Inv-loop μ-loop
+source-at-requires c κs = let s = source-ready _ _ _ _ _ _ (c .before .before .before .before .before .before .before .before .before .pre .0) (c .before .before .loop .inv) (c .before .loop-test .taken) (c .read-held .ensures) in (s .0, s .1, s .2, s .3, s .4, (let z = s .5 in omega arith))
+
+read-header-requires : tie.Need-read-header-requires Inv-loop μ-loop
+read-header-requires c κs = let s = source-ready _ _ _ _ _ _ (c .before .before .before .before .before .before .before .before .before .before .before .pre .0) (c .before .before .before .before .loop .inv) (c .before .before .before .loop-test .taken) (c .before .before .read-held .ensures) in let a = s .3 in let b = s .4 in omega arith
+
+stores-one-requires : tie.Need-stores-one-requires Inv-loop μ-loop
+stores-one-requires c κs = (c .before .before .before .before .before .before .before .before .before .before .before .before .pre .1, part-inside _ _ _ _ _ _ (c .before .before .before .before .before .before .before .before .before .before .before .before .pre .0) (c .before .before .before .before .before .loop .inv) (c .before .before .before .before .loop-test .taken) (c .before .before .before .read-held .ensures) (c .before .before .source-at .ensures))
+
+returns : tie.Need-returns Inv-loop μ-loop
+returns c = seek-found _ _ _ _ _ _ (c .before .before .before .before .before .before .before .before .before .before .before .before .before .before .pre .0) (c .before .before .before .before .before .before .before .loop .inv) (c .before .before .before .before .before .before .loop-test .taken) (c .before .before .before .before .before .read-held .ensures) (c .before .before .before .before .source-at .ensures) (c .before .before .read-header .ensures) (c .before .stores-one .ensures) (c .if1 .taken)
+
+add-j : tie.Need-add-j Inv-loop μ-loop
+add-j c = let a = c .before .before .before .before .before .before .loop-test .taken in let b = c .before .before .before .before .before .before .before .before .before .before .before .before .before .before .fits .h .fits in omega arith
+
+loop-again : tie.Need-loop-again Inv-loop μ-loop
+loop-again c = seek-on _ _ _ _ _ _ (c .before .before .before .before .before .before .before .before .before .before .before .before .before .before .pre .0) (c .before .before .before .before .before .before .before .loop .inv) (c .before .before .before .before .before .before .loop-test .taken) (c .before .before .before .before .before .read-held .ensures) (c .before .before .before .before .source-at .ensures) (c .before .before .read-header .ensures) (c .before .stores-one .ensures) (c .if1 .left)
+
+returns-2 : tie.Need-returns-2 Inv-loop μ-loop
+returns-2 c = seek-end _ _ _ _ _ _ (c .before .before .before .before .before .before .before .before .pre .0) (c .before .loop .inv) (c .loop-test .left)
+
+pub stores-some-spec : {M : Type 1} → statement M
+stores-some-spec =
+    tie.close
+    (tie.spec
+    Inv-loop
+    μ-loop
+    loop-holds
+    (λ c. search needs)
+    (λ c κs. search needs)
+    source-at-requires
+    (λ c. search needs)
+    read-header-requires
+    stores-one-requires
+    returns
+    add-j
+    (λ c. search needs)
+    loop-again
+    returns-2)

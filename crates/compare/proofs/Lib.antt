@@ -1,0 +1,7 @@
+pub mod Same
+pub mod Counts
+pub mod Marks
+pub mod Weighing
+pub mod Hints
+pub mod Confirmed
+pub mod Passing

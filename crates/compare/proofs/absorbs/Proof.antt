@@ -1,0 +1,52 @@
+use Rattle.compare.proofs.Passing.{Absorbing, read-turn, absorb-end, absorb-short, absorb-moved, absorb-on}
+use Rattle.compare.specs.Confirmed.{absorbed}
+use Rattle.table.proofs.Walk.{records-turn}
+use Rattle.table.specs.Tables.{confirmationsIn}
+use Rattle.rules.specs.File.{decodeConfirmation}
+use Rattle.field.proofs.Records.{records-length}
+use lib.ListN.{drop}
+use native.Mathlib.Omega.{arith}
+use mathlib.Core.Path.{refl}
+use Prim.Native.Nat.{_-_}
+use borrow.Author.Needs.{needs}
+use Rattle.compare.proofs.absorbs.Statement.{statement}
+use Rattle.compare.proofs.absorbs.Tie as tie
+
+abbrev Inv-loop : tie.InvT-loop
+Inv-loop own n other m first i₀ j₀ i j = Absorbing (confirmationsIn n own) (confirmationsIn m other) (absorbed (confirmationsIn n own) (drop first (confirmationsIn m other))) n m i j
+
+abbrev μ-loop : tie.MeasureT-loop
+μ-loop own n other m first i₀ j₀ i j = n - i
+
+loop-holds : tie.Need-loop-holds Inv-loop μ-loop
+loop-holds c = record { own = omega arith; other = omega arith; rest = refl }
+
+returns : tie.Need-returns Inv-loop μ-loop
+returns c = absorb-short (c .before .before .loop .inv) (records-turn 16 decodeConfirmation _ _ _ (c .before .loop-test .taken)) (records-length 16 decodeConfirmation _ _) (c .if1 .taken)
+
+returns-2 : tie.Need-returns-2 Inv-loop μ-loop
+returns-2 c = absorb-moved (c .before .before .before .before .before .before .loop .inv) (read-turn 16 decodeConfirmation _ _ _ (c .before .before .before .before .before .loop-test .taken) (c .before .before .read-confirmation2 .ensures)) (read-turn 16 decodeConfirmation _ _ _ (c .before .before .before .before .if1 .left) (c .before .before .before .read-confirmation .ensures)) (c .before .unmoved .ensures) (c .if2 .taken)
+
+loop-again : tie.Need-loop-again Inv-loop μ-loop
+loop-again c = absorb-on (c .before .before .before .before .before .before .before .loop .inv) (read-turn 16 decodeConfirmation _ _ _ (c .before .before .before .before .before .before .loop-test .taken) (c .before .before .before .read-confirmation2 .ensures)) (read-turn 16 decodeConfirmation _ _ _ (c .before .before .before .before .before .if1 .left) (c .before .before .before .before .read-confirmation .ensures)) (c .before .before .before .before .before .if1 .left) (c .before .before .before .before .before .before .loop-test .taken) (c .before .before .unmoved .ensures) (c .before .if2 .left) (c .met .ensures)
+
+returns-3 : tie.Need-returns-3 Inv-loop μ-loop
+returns-3 c = absorb-end (c .before .loop .inv) (records-length 16 decodeConfirmation _ _) (c .loop-test .left)
+
+pub absorbs-spec : {M : Type 1} → statement M
+absorbs-spec =
+    tie.close
+    (tie.spec
+    Inv-loop
+    μ-loop
+    loop-holds
+    returns
+    (λ c κs. search needs)
+    (λ c κs. search needs)
+    (λ c κs. search needs)
+    returns-2
+    (λ c κs. search needs)
+    (λ c. search needs)
+    (λ c. search needs)
+    loop-again
+    returns-3)

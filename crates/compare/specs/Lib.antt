@@ -1,0 +1,4 @@
+pub mod Same
+pub mod Marks
+pub mod Confirmed
+pub mod Answers
