@@ -1,2 +1,0 @@
-pub mod Demand3
-pub mod Useful

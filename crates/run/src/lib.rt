@@ -1,1 +1,0 @@
-// Demand 3 is about values: it needs no code.

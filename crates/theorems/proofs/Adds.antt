@@ -1,0 +1,129 @@
+-- Nothing is named exactly where a merge leaves the own list as it is. Assumes nothing.
+use mathlib.Core.Path.{_≡_, refl, sym, ap, _∙_}
+use mathlib.Core.Bool.{Bool, true, false, _&&_, not, cond}
+use Prim.Native.Nat.{ℕ}
+use borrow.Author.Tests.{eqb-true, not-true}
+use lib.Dec.{eqb}
+use Rattle.rules.specs.Tests.{all, Accepted, after, firstNo}
+use Rattle.rules.specs.Values.{Scan, Hinting, Index, Lengths, sameCheckpoint, sameEnd}
+use Rattle.rules.specs.Questions.{question1, question2, question3, question4}
+use Rattle.rules.specs.Plan.{plan}
+use Rattle.rules.specs.Hints.{hint}
+use Rattle.rules.specs.Merge.{further, takenScan, mergedScan, merged, mergeNumber, merge}
+use Rattle.rules.proofs.Tests.{test, and-left, and-right, all→, →all, accepted→, →after}
+use Rattle.rules.proofs.Same.{eqb-self, sameCheckpoint-self, sameCheckpoint-eq, sameEnd-self, sameEnd-eq}
+use Rattle.compare.specs.Same.{sameList, sameHint, sameConfirmation}
+use Rattle.compare.proofs.Same.{sameList-self, sameList-eq, sameHint-self, sameHint-eq, sameConfirmation-self, sameConfirmation-eq}
+use Rattle.adds.specs.declared.Brings.{Brings}
+use Rattle.adds.specs.Brings.{sameKnown, sameFrame, sameHeld, sameFingerprint, bringsOf, brings}
+use Rattle.theorems.specs.Adds.{noneButImage, noneNamed, NothingNamed, SameAnswers, OnlyImageNamed}
+use Rattle.adds.proofs.Same.{sameKnown-self, sameKnown-eq, sameFrame-self, sameFrame-eq, sameHeld-self, sameHeld-eq, sameFingerprint-self, sameFingerprint-eq}
+
+same-of : {a : Bool} → not (not a) ≡ true → a ≡ true
+same-of {a} e = twice a e
+  where
+    twice : (a : Bool) → not (not a) ≡ true → a ≡ true
+    twice true e = refl
+    twice false e = e
+
+-- ---- what a merge never changes
+module _ (own other : Scan) where
+  pub area-kept : mergedScan own other .area ≡ own .area
+  unfolding mergedScan
+  area-kept = test (further own other) (λ e. rw e) (λ e. rw e)
+
+  pub interval-kept : mergedScan own other .interval ≡ own .interval
+  unfolding mergedScan
+  interval-kept = test (further own other) (λ e. rw e) (λ e. rw e)
+
+  pub budget-kept : mergedScan own other .budget ≡ own .budget
+  unfolding mergedScan
+  budget-kept = test (further own other) (λ e. rw e) (λ e. rw e)
+
+-- ---- nothing but the image id
+module _ (own other : Index) (e : noneButImage (bringsOf own (merged own other)) ≡ true) where
+  pub scan-same : merged own other .scan ≡ own .scan
+  unfolding noneButImage bringsOf merged
+  scan-same =
+      let x = mergedScan (own .scan) (other .scan) in
+      let t = all→ _ e in
+      let e0 : x .area ≡ own .scan .area = area-kept (own .scan) (other .scan) in
+      let e1 : x .interval ≡ own .scan .interval = interval-kept (own .scan) (other .scan) in
+      let e2 : x .budget ≡ own .scan .budget = budget-kept (own .scan) (other .scan) in
+      let e3 : own .scan .checkpoints ≡ x .checkpoints = sameList-eq sameCheckpoint sameCheckpoint-eq _ _ (same-of (t .0)) in
+      let e4 : own .scan .ending ≡ x .ending = sameKnown-eq sameEnd sameEnd-eq _ _ (same-of (t .1 .0)) in
+      let p : (sameList sameFrame (own .scan .frames) (x .frames) && sameList sameHeld (own .scan .parts) (x .parts)) ≡ true = same-of (t .1 .1 .0) in
+      let e5 : own .scan .frames ≡ x .frames = sameList-eq sameFrame sameFrame-eq _ _ (and-left _ (sameList sameHeld (own .scan .parts) (x .parts)) p) in
+      let e6 : own .scan .parts ≡ x .parts = sameList-eq sameHeld sameHeld-eq _ _ (and-right (sameList sameFrame (own .scan .frames) (x .frames)) _ p) in
+      let e7 : own .scan .malformed ≡ x .malformed = sameList-eq eqb eqb-true _ _ (same-of (t .1 .1 .1 .0)) in
+      let f3 = sym e3 in let f4 = sym e4 in let f5 = sym e5 in let f6 = sym e6 in let f7 = sym e7 in
+      λ i. record { area = e0 i; interval = e1 i; budget = e2 i; checkpoints = f3 i; frames = f5 i; parts = f6 i; ending = f4 i; malformed = f7 i }
+
+  pub hinting-same : merged own other .hinting ≡ own .hinting
+  unfolding noneButImage bringsOf merged
+  hinting-same =
+      let x = merged own other .hinting in
+      let t = all→ _ e in
+      let e0 : own .hinting .hints ≡ x .hints = sameList-eq sameHint sameHint-eq _ _ (same-of (t .1 .1 .1 .1 .0)) in
+      let e1 : own .hinting .confirmed ≡ x .confirmed = sameList-eq sameConfirmation sameConfirmation-eq _ _ (same-of (t .1 .1 .1 .1 .1 .0)) in
+      let f0 = sym e0 in let f1 = sym e1 in
+      λ i. record { spacing = own .hinting .spacing; most = own .hinting .most; hints = f0 i; confirmed = f1 i }
+
+  pub fingerprint-same : merged own other .fingerprint ≡ own .fingerprint
+  unfolding noneButImage bringsOf merged
+  fingerprint-same = let t = all→ _ e in sym (sameFingerprint-eq _ _ (same-of (t .1 .1 .1 .1 .1 .1 .0)))
+
+-- ---- nothing at all
+module _ (own other : Index) where
+  none-same : noneNamed (bringsOf own (merged own other)) ≡ true → merged own other ≡ own
+  unfolding noneNamed bringsOf
+  none-same e =
+      let t = all→ _ e in
+      let e0 = scan-same own other (t .0) in
+      let e1 = hinting-same own other (t .0) in
+      let e2 = fingerprint-same own other (t .0) in
+      let e3 = image-same (t .1 .0) in
+      λ i. record { scan = e0 i; hinting = e1 i; fingerprint = e2 i; image = e3 i }
+    where
+      image-same : not (bringsOf own (merged own other) .image) ≡ true → merged own other .image ≡ own .image
+      image-same h = sym (sameKnown-eq eqb eqb-true _ _ (same-of h))
+
+  same-none : merged own other ≡ own → noneNamed (bringsOf own (merged own other)) ≡ true
+  unfolding noneNamed noneButImage bringsOf
+  same-none e =
+      rw (
+        e,
+        sameList-self sameCheckpoint sameCheckpoint-self (own .scan .checkpoints),
+        sameKnown-self sameEnd sameEnd-self (own .scan .ending),
+        sameList-self sameFrame sameFrame-self (own .scan .frames),
+        sameList-self sameHeld sameHeld-self (own .scan .parts),
+        sameList-self eqb eqb-self (own .scan .malformed),
+        sameList-self sameHint sameHint-self (own .hinting .hints),
+        sameList-self sameConfirmation sameConfirmation-self (own .hinting .confirmed),
+        sameFingerprint-self (own .fingerprint),
+        sameKnown-self eqb eqb-self (own .image),
+      ) (→all _ (→all _ (refl, (refl, (refl, (refl, (refl, (refl, (refl, tt))))))), (refl, tt)))
+
+pub nothing-named : NothingNamed
+unfolding brings merge
+nothing-named l m own other b e =
+    let r = accepted→ (mergeNumber l own m other) (bringsOf own (merged own other)) b e in (
+      λ h. →after (r .0) (ap Accepted (none-same own other (rw (r .1) h))),
+      λ h. rw (← r .1) (same-none own other (accepted→ (mergeNumber l own m other) (merged own other) own h .1)),
+    )
+
+pub only-image-named : OnlyImageNamed
+unfolding brings merge plan hint question1 question2 question3 question4
+only-image-named l m own other x b e h g =
+    let r = accepted→ (mergeNumber l own m other) (bringsOf own (merged own other)) b e in
+    let z = accepted→ (mergeNumber l own m other) (merged own other) x g .1 in
+    let k : noneButImage (bringsOf own (merged own other)) ≡ true = rw (r .1) h in
+    let s : x .scan ≡ own .scan = rw (← z) (scan-same own other k) in
+    let t : x .hinting ≡ own .hinting = rw (← z) (hinting-same own other k) in
+    let f : x .fingerprint ≡ own .fingerprint = rw (← z) (fingerprint-same own other k) in
+    record {
+      plans = λ first. rw (s, t, f);
+      starts = λ first. rw s;
+      parts = λ p. rw s;
+      hints = λ first end playtime. rw (s, t, f);
+    }

@@ -1,0 +1,135 @@
+-- Lists cut from a reading exist: one of 1000..1250 by 100, a list with one checkpoint and a complete one.
+use mathlib.Core.Path.{_≡_, refl}
+use mathlib.Core.Bool.{true, cond}
+use mathlib.Core.Logic.{inl, inr}
+use mathlib.Core.List.{List, [], _∷_}
+use mathlib.Core.Option.{Option, none, some}
+use Prim.Native.Nat.{ℕ, zero, suc}
+use native.Mathlib.Omega.{arith}
+use lib.Dec.{eqb}
+use lib.IntN.{pos, negsuc}
+use Rattle.rules.specs.declared.Area.{Area}
+use Rattle.rules.specs.declared.Fingerprint.the-variants.{Unknown}
+use Rattle.rules.specs.declared.FrameKind.the-variants.{Dst, Dsd}
+use Rattle.rules.specs.Tests.{all, each, walk, lastOr, isSome, agree}
+use Rattle.rules.specs.Values.{Scan, Index, boundaries, frontierOf, counted, stated, sameKind}
+use Rattle.rules.specs.Sections.{countsOk, checkpointOk, checkpointsOk, frameOk, framesOk, follows, belongs, partOk, reached, partsOk, endOk, endingOk, risingOk, rising, malformedOk, hintsOk, confirmationsOk}
+use Rattle.rules.specs.Questions.{areaOk, numbersOk, heldOk, scanOk, hintingOk, question1, question2, question3, question4, scanRoom, hintingRoom}
+use Rattle.rules.specs.Merge.{question42}
+use Rattle.rules.specs.Record.{below}
+use Rattle.rules.specs.Sizes.{keySized, frameSized, scanSized, knownSized, hintingSized, sized}
+use Rattle.rules.specs.Run.{Reading, Cut, Place, countedFrom, Call, mergeRefusal}
+use Rattle.theorems.specs.Terms.{AllCut, afterCalls}
+use Rattle.theorems.proofs.Demand3.{none-refused}
+use Rattle.rules.proofs.Tests.{test}
+
+abbrev area : Area
+area = record { key = record { slot = 0; start = 1; end = 2; channels = 2; sectors = 9 }; start = 1000; end = 1250 }
+
+abbrev reading : Reading
+reading =
+    record {
+      area = area;
+      interval = 100;
+      marks =
+          record { threshold = 0; back = 0; digest = 11 } ∷ record { threshold = 0; back = 50; digest = 12 }
+          ∷ record { threshold = 75; back = 60; digest = 13 } ∷ [];
+      part = λ j.
+          cond (eqb j 1) (record { bytes = 1 ∷ 2 ∷ 3 ∷ []; number = 7; kind = Dst; remaining = pos 5 })
+          (record { bytes = 4 ∷ 5 ∷ []; number = 8; kind = Dsd; remaining = negsuc 4 });
+      malformed = 1160 ∷ [];
+      threshold = 80;
+    }
+
+abbrev list : Scan → Option ℕ → Index
+list x image = record { scan = x; hinting = record { spacing = 8; most = 2048; hints = []; confirmed = [] }; fingerprint = Unknown; image = image }
+
+abbrev short : Index
+short =
+    list
+    (record {
+      area = area;
+      interval = 100;
+      budget = 4;
+      checkpoints = record { threshold = 0; back = 0; malformed = 0; digest = 11 } ∷ [];
+      frames = [];
+      parts = [];
+      ending = none;
+      malformed = [];
+    })
+    none
+
+abbrev whole : Index
+whole =
+    list
+    (record {
+      area = area;
+      interval = 100;
+      budget = 5;
+      checkpoints =
+          record { threshold = 0; back = 0; malformed = 0; digest = 11 } ∷ record { threshold = 0; back = 50; malformed = 0; digest = 12 }
+          ∷ record { threshold = 75; back = 60; malformed = 1; digest = 13 } ∷ [];
+      frames = record { start = 1050; bytes = 1 ∷ 2 ∷ 3 ∷ [] } ∷ record { start = 1140; bytes = 4 ∷ 5 ∷ [] } ∷ [];
+      parts =
+          record { at = 1; frame = 0; len = 3; number = 7; kind = Dst; remaining = pos 5 }
+          ∷ record { at = 2; frame = 1; len = 2; number = 8; kind = Dsd; remaining = negsuc 4 } ∷ [];
+      ending = some (record { threshold = 80; malformed = 1 });
+      malformed = 1160 ∷ [];
+    })
+    (some 1)
+
+short-cut : Cut reading short
+unfolding all each walk lastOr isSome boundaries frontierOf counted stated countsOk checkpointOk checkpointsOk framesOk reached partsOk endingOk rising malformedOk hintsOk confirmationsOk areaOk numbersOk heldOk scanOk hintingOk question1 question2 question4 below keySized scanSized knownSized hintingSized sized countedFrom
+short-cut =
+    record {
+      one = refl;
+      two = refl;
+      four = refl;
+      fits = refl;
+      area = refl;
+      interval = refl;
+      checkpoints = refl;
+      ending = inl refl;
+      malformed = refl;
+      parts = λ i l. let z : ⊥ = omega arith in absurd z;
+    }
+
+whole-cut : Cut reading whole
+unfolding all each walk lastOr isSome boundaries frontierOf counted stated sameKind countsOk checkpointOk checkpointsOk frameOk framesOk follows belongs partOk reached partsOk endOk endingOk risingOk rising malformedOk hintsOk confirmationsOk areaOk numbersOk heldOk scanOk hintingOk question1 question2 question4 below keySized frameSized scanSized knownSized hintingSized sized countedFrom
+whole-cut =
+    record {
+      one = refl;
+      two = refl;
+      four = refl;
+      fits = refl;
+      area = refl;
+      interval = refl;
+      checkpoints = refl;
+      ending = inr (refl, refl);
+      malformed = refl;
+      parts = elim [ zero ↦ λ l. refl | suc i ↦ elim i [ zero ↦ λ l. refl | suc j ↦ λ l. let z : ⊥ = omega arith in absurd z ] ];
+    }
+
+-- place 0 has the short list, every other place the whole one
+abbrev places : ℕ → Place
+places i =
+    record {
+      list = cond (eqb i 0) short whole;
+      room = record { checkpoints = 3; frames = 3; store = 5; parts = 3; malformed = 4096; hints = 67584; confirmed = 2049 };
+    }
+
+pub all-cut : AllCut reading places
+all-cut i = test (eqb i 0) (λ e. rw e short-cut) (λ e. rw e whole-cut)
+
+-- their tables are long enough, and no image ids or fingerprints differ: no merge among them is ever refused
+rooms : (i : ℕ) → question3 (places i .room) (places i .list) ≡ true
+unfolding all boundaries scanRoom hintingRoom question3
+rooms i = test (eqb i 0) (λ e. rw e refl) (λ e. rw e refl)
+
+ids : (i j : ℕ) → question42 (places i .list) (places j .list) ≡ true
+unfolding all agree stated question42
+ids i j =
+    test (eqb i 0) (λ e. rw e refl) (λ e. test (eqb j 0) (λ f. rw (e, f) refl) (λ f. rw (e, f) refl))
+
+pub merges : (calls : List Call) (i j : ℕ) → mergeRefusal (afterCalls reading places calls .now i) (afterCalls reading places calls .now j) ≡ 0
+merges = none-refused reading places all-cut rooms ids

@@ -1,0 +1,15 @@
+pub mod ScanLaws
+pub mod CutLaws
+pub mod PartRule
+pub mod Hints
+pub mod Demand3
+pub mod Example
+pub mod Jump
+pub mod Closure
+pub mod Accepts
+pub mod Useful
+pub mod RoundTrip
+pub mod TableRun
+pub mod Demand3InTables
+pub mod RoundTripInTables
+pub mod Adds

@@ -1,0 +1,13 @@
+pub mod Terms
+pub mod Questions
+pub mod RoundTrip
+pub mod Demand3
+pub mod Jump
+pub mod PartRule
+pub mod Useful
+pub mod Closure
+pub mod Hints
+pub mod TableRun
+pub mod Demand3InTables
+pub mod RoundTripInTables
+pub mod Adds

@@ -1,0 +1,127 @@
+-- Document 01, "Programs that do nothing useful": what shuts out each.
+use Prim.Native.Nat.{ℕ, _-_, _<_, _≤_}
+use mathlib.Core.Path.{_≡_}
+use mathlib.Core.Bool.{true, false}
+use mathlib.Core.List.{List, _++_}
+use mathlib.Core.Option.{Option, none, some}
+use lib.Dec.{eqb}
+use lib.ListN.{length, getD, drop}
+use Rattle.rules.specs.declared.Area.{Area}
+use Rattle.rules.specs.declared.Confirmation.{Confirmation}
+use Rattle.rules.specs.declared.EndState.{EndState}
+use Rattle.rules.specs.declared.Hint.{Hint}
+use Rattle.rules.specs.declared.Mode.the-variants.{Finished}
+use Rattle.rules.specs.declared.Plan.the-variants.{Start}
+use Rattle.rules.specs.FirstRecord.{firstRecord}
+use Rattle.rules.specs.Tests.{orElse, agree, Accepted, numberOf}
+use Rattle.rules.specs.Values.{Scan, Index, Recorder, HintRecorder, Lengths, noHint, checkpointAt, boundaries, count, complete, lastCheckpoint, stated}
+use Rattle.rules.specs.Sections.{endOk}
+use Rattle.rules.specs.Questions.{areaOk, question1, question2, question3, endOf}
+use Rattle.rules.specs.Create.{emptyIndex, new, bound, bindFingerprint, emptyRecorder, recorder, emptyHintRecorder, hintRecorder}
+use Rattle.rules.specs.Record.{Assembling, isRunning, nextNumber, question5, question6, question7, recorded, recordAt, withMode, finish, question8, question9, question10, question11, question12, absorbedIndex, emptied, isStopped, absorb}
+use Rattle.rules.specs.Hints.{seenRecord, see, flush, takeList, question13, withHints, withHinting, addHints, question14, keepConfirmation, near, hint}
+use Rattle.rules.specs.Merge.{question41, question42, question43, further, merged, merge}
+use Rattle.rules.specs.File.{savedLength, saved, save}
+use Rattle.rules.specs.Load.{fromBytes, limited, load}
+use Rattle.rules.specs.Plan.{planned, plan}
+use Rattle.rules.specs.Sizes.{sized}
+use Rattle.theorems.specs.Terms.{Valid, ValidRecorder, ValidHintRecorder, storedIn, SameRead}
+use Rattle.theorems.specs.PartRule.{Admits}
+
+-- ---- refuses every call
+-- each call is accepted where the questions that it asks are answered yes (for the merges of a run see NoneRefused)
+pub record RefusesNothing : Type 0 where
+  pub made :
+      (l : Lengths) (a : Area) (k budget spacing most : ℕ) → let x = emptyIndex a k budget spacing most in
+      question1 x ≡ true → question2 x ≡ true → question3 l x ≡ true → new l a k budget spacing most ≡ Accepted x
+  pub fingerprints :
+      (l : Lengths) (x : Index) (v : ℕ) → Valid l x → agree eqb (stated (x .fingerprint)) (some v) ≡ true → bindFingerprint l x v ≡ Accepted (bound x v)
+  pub recorders : (l : Lengths) (x : Index) (from : ℕ) → Valid l x → recorder l x from ≡ Accepted (emptyRecorder (x .scan) from)
+  pub records :
+      (l : Lengths) (r : Recorder) (lsn threshold malformed : ℕ) (f : Option Assembling) (sector : List ℕ) → ValidRecorder l r → question5 r lsn sector ≡ true
+      → question6 r threshold malformed ≡ true → question7 r lsn f ≡ true
+      → recordAt l r lsn threshold malformed f sector ≡ Accepted (recorded r lsn threshold malformed f sector)
+  pub finishes :
+      (l : Lengths) (r : Recorder) (e : EndState) → ValidRecorder l r → isRunning (r .mode) ≡ true → nextNumber r ≡ boundaries (r .area) (r .interval)
+      → endOk (r .area) (lastCheckpoint (r .checkpoints)) e ≡ true → finish l r e ≡ Accepted (withMode r (Finished e))
+  pub absorbs :
+      (l : Lengths) (x : Index) (m : Lengths) (r : Recorder) (image : Option ℕ) (ms : List ℕ) → Valid l x → ValidRecorder m r → isStopped (r .mode) ≡ false
+      → question8 x image ≡ true → question9 x r ≡ true → question10 x r ≡ true → question11 x r ≡ true → question12 x r image ms ≡ true
+      → absorb l x m r image ms ≡ record { number = 0; index = absorbedIndex x r image ms; recorder = emptied r }
+  -- a stopped recorder brings nothing and is no refusal after 4
+  pub stopped :
+      (l : Lengths) (x : Index) (m : Lengths) (r : Recorder) (image : Option ℕ) (ms : List ℕ) → Valid l x → ValidRecorder m r → isStopped (r .mode) ≡ true
+      → absorb l x m r image ms ≡ record { number = 0; index = x; recorder = r }
+  pub hintRecorders : (l : Lengths) (x : Index) → Valid l x → hintRecorder l x ≡ Accepted (emptyHintRecorder (x .hinting))
+  pub sees :
+      (n : ℕ) (r : HintRecorder) (lsn : ℕ) (sector : List ℕ) → ValidHintRecorder n r → see n r lsn sector ≡ Accepted (seenRecord r lsn (firstRecord sector))
+  pub flushes : (n : ℕ) (r : HintRecorder) → ValidHintRecorder n r → numberOf (flush n r) ≡ 0
+  pub takes : (n : ℕ) (r : HintRecorder) → ValidHintRecorder n r → numberOf (takeList n r) ≡ 0
+  pub addsHints :
+      (l : Lengths) (x : Index) (list : List Hint) → Valid l x → question13 list ≡ true
+      → addHints l x list ≡ Accepted (withHinting x (withHints (x .scan .area) (x .hinting) list))
+  pub confirms : (l : Lengths) (x : Index) (c : Confirmation) → Valid l x → question14 (x .scan .area) c ≡ true → numberOf (keepConfirmation l x c) ≡ 0
+  pub hints : (l : Lengths) (x : Index) (first end playtime : ℕ) → Valid l x → first ≤ end → numberOf (hint l x first end playtime) ≡ 0
+  pub plans : (l : Lengths) (x : Index) (t : ℕ) → Valid l x → plan l x t ≡ Accepted (planned (x .scan) t)
+  pub saves : (l : Lengths) (x : Index) (out : ℕ) → Valid l x → savedLength x ≤ out → save l x out ≡ Accepted (saved x)
+  pub loads :
+      (l : Lengths) (a : Area) (b : List ℕ) (limit : ℕ) (x : Index) → areaOk a ≡ true → fromBytes a b ≡ Accepted x → question3 l (limited limit x) ≡ true
+      → load l a b limit ≡ Accepted (limited limit x)
+  pub merges :
+      (l m : Lengths) (own other : Index) → Valid l own → Valid m other → question41 own other ≡ true → question42 own other ≡ true → question43 own other ≡ true
+      → merge l own m other ≡ Accepted (merged own other)
+
+-- ---- loads each file as an empty list
+-- what was saved loads, under any limit, as a list that has read the same
+abbrev pub LoadKeeps : Type 0
+LoadKeeps =
+    (l : Lengths) (x : Index) → Valid l x → sized x ≡ true → (limit : ℕ)
+    → (y : Index) × (load l (x .scan .area) (saved x) limit ≡ Accepted y) × SameRead (y .scan) (x .scan)
+
+-- ---- merge hands back the first list untouched
+-- what the own scan is afterwards, y
+pub record MergeOf (own other y : Scan) : Type 0 where
+  -- a longer list's checkpoints, and a complete list's end
+  pub longer : count own < count other → y .checkpoints ≡ other .checkpoints
+  pub complete : complete other ≡ true → complete y ≡ true
+  -- a further list: its rest is appended, and of its parts those that the part rule admits; no own part is lost
+  pub taken : further own other ≡ true → SameRead y other × (y .checkpoints ≡ own .checkpoints ++ drop (count own) (other .checkpoints))
+  pub parts : further own other ≡ true → Admits (own .budget) (other .frames) (count own) (other .parts) (storedIn own) (storedIn y)
+  -- any other list: nothing changes
+  pub same : further own other ≡ false → y ≡ own
+
+abbrev pub MergeTakes : Type 0
+MergeTakes = (l m : Lengths) (own other y : Index) → merge l own m other ≡ Accepted y → MergeOf (own .scan) (other .scan) (y .scan)
+
+-- ---- absorbs one recorder, then only empties the others
+-- what the scan x is after absorbing r, y
+pub record AbsorbOf (x : Scan) (r : Recorder) (y : Scan) : Type 0 where
+  -- the recorder's further checkpoints, so that it reaches as far as the recorder did
+  pub checkpoints : y .checkpoints ≡ x .checkpoints ++ drop (count x - r .first) (r .checkpoints)
+  pub reaches : nextNumber r ≤ count y
+  -- the end state of a finished one, else what was held
+  pub ending : y .ending ≡ orElse (endOf (r .mode)) (x .ending)
+  -- of its parts those that the part rule admits
+  pub parts : Admits (x .budget) (r .frames) (count x) (r .parts) (storedIn x) (storedIn y)
+
+abbrev pub AbsorbTakes : Type 0
+AbsorbTakes =
+    (l : Lengths) (x : Index) (m : Lengths) (r : Recorder) (image : Option ℕ) (ms : List ℕ) → absorb l x m r image ms .number ≡ 0 → isStopped (r .mode) ≡ false
+    → AbsorbOf (x .scan) r (absorb l x m r image ms .index .scan)
+
+-- ---- save tells an invented length
+-- what is saved has the length that is told, 88 bytes at least
+abbrev pub SaveTells : Type 0
+SaveTells = (l : Lengths) (x : Index) (out : ℕ) (b : List ℕ) → save l x out ≡ Accepted b → (length b ≡ savedLength x) × (88 ≤ savedLength x)
+
+-- ---- plan says Start, hint none, without looking
+-- where plan says Start, the frame lies before the first checkpoint's threshold, or there is none
+abbrev pub PlanLooks : Type 0
+PlanLooks =
+    (l : Lengths) (x : Index) (t : ℕ) → plan l x t ≡ Accepted Start → 0 < count (x .scan) → t < checkpointAt (x .scan .checkpoints) 0 .threshold
+
+-- where hint says none, no hint is near
+abbrev pub HintLooks : Type 0
+HintLooks =
+    (l : Lengths) (x : Index) (first end playtime i : ℕ) → hint l x first end playtime ≡ Accepted none → i < length (x .hinting .hints)
+    → near first (getD (x .hinting .hints) i noHint) ≡ false

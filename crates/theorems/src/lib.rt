@@ -1,0 +1,1 @@
+// Theorems about the definitions, on values; no function.
