@@ -1,7 +1,7 @@
-// Links the static library of the crate timing, which bench/run builds.
+// Links the static library of the crate player, which bench/run builds.
 fn main() {
     let dir = concat!(env!("CARGO_MANIFEST_DIR"), "/../target/staticlib");
     println!("cargo:rustc-link-search=native={dir}");
-    println!("cargo:rustc-link-lib=static=timing");
-    println!("cargo:rerun-if-changed={dir}/libtiming.a");
+    println!("cargo:rustc-link-lib=static=player");
+    println!("cargo:rerun-if-changed={dir}/libplayer.a");
 }

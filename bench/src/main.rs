@@ -31,15 +31,15 @@ fn list_calls(list: &lists::List) {
     let index = theirs();
     let tables = std::cell::RefCell::new(tables::Tables::new(list));
     assert_eq!(tables.borrow_mut().load(list), 0, "{}: refused", list.name);
-    assert_eq!(tables.borrow_mut().save(list), list.file.len() as u64, "{}: not saved", list.name);
+    assert_eq!(tables.borrow_mut().save(), list.file.len() as u64, "{}: not saved", list.name);
     assert_eq!(tables.borrow().out, list.file, "{}: saved bytes differ", list.name);
     assert_eq!(index.to_bytes(), list.file, "{}: the original's bytes differ", list.name);
     println!("{}, {} bytes", list.name, list.file.len());
     let calls = (4 << 20) / list.file.len() + 1;
     compare("from_bytes", calls, || tables.borrow_mut().load(black_box(list)), || { black_box(theirs()); 0 });
-    compare("to_bytes", calls, || tables.borrow_mut().save(black_box(list)) as usize, || black_box(index.to_bytes()).len());
+    compare("to_bytes", calls, || black_box(&tables).borrow_mut().save() as usize, || black_box(index.to_bytes()).len());
     let frame = list.checkpoints / 2;
-    compare("plan", calls, || tables.borrow().jump(list, black_box(frame)), || oracle::jump(&index, (a.start, a.end), black_box(frame)));
+    compare("plan", calls, || tables.borrow().jump(&a, black_box(frame)), || oracle::jump(&index, (a.start, a.end), black_box(frame)));
 }
 
 /// `n` bytes without a pattern, the same in every run.

@@ -1,0 +1,276 @@
+//! The seek index of Super Audio discs: a safe wrapper of the player's library (include/seek.h), which is proved.
+//!
+//! A [`List`] owns the memory of its head and its seven tables. Every call answers a result or an [`Error`]; an error changed nothing.
+
+mod error;
+mod raw;
+
+pub use error::Error;
+use error::answer;
+use raw::BLOCK;
+
+/// An area of a disc: its slot (0 two-channel, 1 multichannel), the key of the disc's table of contents, and the range of sectors, its end excluded.
+#[derive(Clone, Copy, Debug, PartialEq, Eq)]
+pub struct Area {
+    pub slot: u8,
+    pub channels: u8,
+    pub key_start: u32,
+    pub key_end: u32,
+    pub sectors: u64,
+    pub start: u64,
+    pub end: u64,
+}
+
+/// Where a jump starts.
+#[derive(Clone, Debug, PartialEq, Eq)]
+pub enum Plan<'a> {
+    /// The area's start.
+    Start,
+    /// A checkpoint.
+    At(Resume<'a>),
+    /// The area's end.
+    End { threshold: u32, malformed: u64 },
+}
+
+/// A checkpoint, and the part of a frame that is held for it.
+#[derive(Clone, Debug, PartialEq, Eq)]
+pub struct Resume<'a> {
+    pub number: u32,
+    pub lsn: u64,
+    pub threshold: u32,
+    pub back: u32,
+    pub malformed: u64,
+    pub digest: u64,
+    pub part: Option<Part<'a>>,
+}
+
+/// A held part of a frame.
+#[derive(Clone, Debug, PartialEq, Eq)]
+pub struct Part<'a> {
+    /// DSD, or else DST.
+    pub dsd: bool,
+    pub number: u32,
+    pub remaining: i32,
+    pub bytes: &'a [u8],
+}
+
+/// A list: the numbers in its head, and its seven tables one behind the other in one block of memory.
+#[derive(Clone)]
+pub struct List {
+    head: [u8; BLOCK],
+    memory: Vec<u8>,
+    sizes: [usize; 7],
+}
+
+fn word(block: &[u8; BLOCK], i: usize) -> u64 {
+    let mut bytes = [0; 8];
+    bytes.copy_from_slice(&block[8 * i..8 * i + 8]);
+    u64::from_le_bytes(bytes)
+}
+
+/// The sizes of a block, where this machine can address them.
+fn sizes_in(block: &[u8; BLOCK]) -> Result<[usize; 7], Error> {
+    let mut sizes = [0; 7];
+    for (i, s) in sizes.iter_mut().enumerate() {
+        *s = usize::try_from(word(block, i)).map_err(|_| Error::Room)?;
+    }
+    Ok(sizes)
+}
+
+/// 64-bit FNV-1a.
+pub fn sum(bytes: &[u8]) -> u64 {
+    // Safety: pointer and length are those of one slice.
+    unsafe { raw::seek_raw_sum(bytes.as_ptr(), bytes.len()) }
+}
+
+/// The frame number of a sector's first record.
+pub fn first_record(sector: &[u8]) -> Option<u32> {
+    let mut block = [0; BLOCK];
+    // Safety: pointers and lengths are those of two slices, and the block overlaps nothing.
+    unsafe { raw::seek_raw_first_record(sector.as_ptr(), sector.len(), block.as_mut_ptr(), BLOCK) };
+    (word(&block, 0) != 0).then(|| word(&block, 1) as u32)
+}
+
+impl Area {
+    /// The area that a list file says it is of, with the range that its key gives.
+    pub fn of_file(file: &[u8]) -> Result<Area, Error> {
+        let mut b = [0; BLOCK];
+        // Safety: pointers and lengths are those of two slices, and the block overlaps nothing.
+        answer(unsafe { raw::seek_raw_file_area(file.as_ptr(), file.len(), b.as_mut_ptr(), BLOCK) })?;
+        Ok(Area {
+            slot: word(&b, 0) as u8,
+            channels: word(&b, 1) as u8,
+            key_start: word(&b, 2) as u32,
+            key_end: word(&b, 3) as u32,
+            sectors: word(&b, 4),
+            start: word(&b, 5),
+            end: word(&b, 6),
+        })
+    }
+}
+
+impl List {
+    fn zeroed(sizes: [usize; 7]) -> Result<List, Error> {
+        let total = sizes.iter().try_fold(0usize, |a, &b| a.checked_add(b)).ok_or(Error::Room)?;
+        let mut memory = Vec::new();
+        memory.try_reserve_exact(total).map_err(|_| Error::Room)?;
+        memory.resize(total, 0);
+        Ok(List { head: [0; BLOCK], memory, sizes })
+    }
+
+    fn tables(&self) -> [&[u8]; 7] {
+        let mut rest = &self.memory[..];
+        self.sizes.map(|n| {
+            let (t, behind) = rest.split_at(n);
+            rest = behind;
+            t
+        })
+    }
+
+    fn tables_mut(&mut self) -> (&mut [u8; BLOCK], [&mut [u8]; 7]) {
+        let mut rest = &mut self.memory[..];
+        let tables = self.sizes.map(|n| {
+            let (t, behind) = std::mem::take(&mut rest).split_at_mut(n);
+            rest = behind;
+            t
+        });
+        (&mut self.head, tables)
+    }
+
+    /// An empty list. `most` is the hint limit M; above 65,536 it is lowered.
+    pub fn new(a: Area, interval: u32, budget: u64, spacing: u32, most: u32) -> Result<List, Error> {
+        let mut b = [0; BLOCK];
+        // Safety: the block is a slice of its own.
+        answer(unsafe {
+            raw::seek_raw_sizes(
+                a.slot, a.channels, a.key_start, a.key_end, a.sectors, a.start, a.end, interval, budget, most, b.as_mut_ptr(), BLOCK,
+            )
+        })?;
+        let mut list = List::zeroed(sizes_in(&b)?)?;
+        let mut head = list.head;
+        let [t0, t1, t2, t3, t4, t5, t6] = list.tables();
+        // Safety: each pointer is that of a slice of the length behind it, and the head is a copy of its own.
+        answer(unsafe {
+            raw::seek_raw_new(
+                head.as_mut_ptr(), BLOCK, a.slot, a.channels, a.key_start, a.key_end, a.sectors, a.start, a.end, interval, budget, spacing, most,
+                t0.as_ptr(), t0.len(), t1.as_ptr(), t1.len(), t2.as_ptr(), t2.len(), t3.as_ptr(), t3.len(), t4.as_ptr(), t4.len(), t5.as_ptr(),
+                t5.len(), t6.as_ptr(), t6.len(),
+            )
+        })?;
+        list.head = head;
+        Ok(list)
+    }
+
+    /// The list of a file, under an area, with a limit in bytes for frame bytes, hints and confirmations (`u64::MAX`: all of it).
+    pub fn load(a: Area, file: &[u8], limit: u64) -> Result<List, Error> {
+        let mut b = [0; BLOCK];
+        // Safety: pointers and lengths are those of two slices, and the block overlaps nothing.
+        answer(unsafe {
+            raw::seek_raw_file_sizes(
+                a.slot, a.channels, a.key_start, a.key_end, a.sectors, a.start, a.end, file.as_ptr(), file.len(), limit, b.as_mut_ptr(), BLOCK,
+            )
+        })?;
+        let mut list = List::zeroed(sizes_in(&b)?)?;
+        let (head, [t0, t1, t2, t3, t4, t5, t6]) = list.tables_mut();
+        // Safety: each pointer is that of a slice of the length behind it, and no two overlap.
+        answer(unsafe {
+            raw::seek_raw_load(
+                head.as_mut_ptr(), BLOCK, a.slot, a.channels, a.key_start, a.key_end, a.sectors, a.start, a.end, file.as_ptr(), file.len(), limit,
+                t0.as_mut_ptr(), t0.len(), t1.as_mut_ptr(), t1.len(), t2.as_mut_ptr(), t2.len(), t3.as_mut_ptr(), t3.len(), t4.as_mut_ptr(),
+                t4.len(), t5.as_mut_ptr(), t5.len(), t6.as_mut_ptr(), t6.len(),
+            )
+        })?;
+        Ok(list)
+    }
+
+    /// The list file.
+    pub fn save(&self) -> Result<Vec<u8>, Error> {
+        let [t0, t1, t2, t3, t4, t5, t6] = self.tables();
+        // Safety: each pointer is that of a slice of the length behind it.
+        let length = unsafe {
+            raw::seek_raw_saved_length(
+                self.head.as_ptr(), BLOCK, t0.as_ptr(), t0.len(), t1.as_ptr(), t1.len(), t2.as_ptr(), t2.len(), t3.as_ptr(), t3.len(), t4.as_ptr(),
+                t4.len(), t5.as_ptr(), t5.len(), t6.as_ptr(), t6.len(),
+            )
+        };
+        let mut out = vec![0; saved(length)?];
+        // Safety: the same, and the output is a slice of its own.
+        let written = unsafe {
+            raw::seek_raw_save(
+                self.head.as_ptr(), BLOCK, t0.as_ptr(), t0.len(), t1.as_ptr(), t1.len(), t2.as_ptr(), t2.len(), t3.as_ptr(), t3.len(), t4.as_ptr(),
+                t4.len(), t5.as_ptr(), t5.len(), t6.as_ptr(), t6.len(), out.as_mut_ptr(), out.len(),
+            )
+        };
+        out.truncate(saved(written)?);
+        Ok(out)
+    }
+
+    /// Where a jump to a frame starts.
+    pub fn plan(&self, frame: u32) -> Result<Plan<'_>, Error> {
+        let mut b = [0; BLOCK];
+        let [t0, t1, t2, t3, t4, t5, t6] = self.tables();
+        // Safety: each pointer is that of a slice of the length behind it, and the block overlaps nothing.
+        answer(unsafe {
+            raw::seek_raw_plan(
+                self.head.as_ptr(), BLOCK, frame, b.as_mut_ptr(), BLOCK, t0.as_ptr(), t0.len(), t1.as_ptr(), t1.len(), t2.as_ptr(), t2.len(),
+                t3.as_ptr(), t3.len(), t4.as_ptr(), t4.len(), t5.as_ptr(), t5.len(), t6.as_ptr(), t6.len(),
+            )
+        })?;
+        let part = (word(&b, 7) != 0).then(|| Part {
+            dsd: word(&b, 8) != 0,
+            number: word(&b, 9) as u32,
+            remaining: word(&b, 10) as u32 as i32,
+            bytes: &t2[word(&b, 11) as usize..][..word(&b, 12) as usize],
+        });
+        Ok(match word(&b, 0) {
+            0 => Plan::Start,
+            1 => Plan::At(Resume {
+                number: word(&b, 1) as u32,
+                lsn: word(&b, 2),
+                threshold: word(&b, 3) as u32,
+                back: word(&b, 4) as u32,
+                malformed: word(&b, 5),
+                digest: word(&b, 6),
+                part,
+            }),
+            _ => Plan::End { threshold: word(&b, 3) as u32, malformed: word(&b, 5) },
+        })
+    }
+
+    /// States the disc's fingerprint: it is stored if none is held, and checked.
+    pub fn bind_fingerprint(&mut self, value: u64) -> Result<(), Error> {
+        let (head, [t0, t1, t2, t3, t4, t5, t6]) = self.tables_mut();
+        // Safety: each pointer is that of a slice of the length behind it, and no two overlap.
+        answer(unsafe {
+            raw::seek_raw_fingerprint(
+                head.as_mut_ptr(), BLOCK, value, t0.as_ptr(), t0.len(), t1.as_ptr(), t1.len(), t2.as_ptr(), t2.len(), t3.as_ptr(), t3.len(),
+                t4.as_ptr(), t4.len(), t5.as_ptr(), t5.len(), t6.as_ptr(), t6.len(),
+            )
+        })
+    }
+
+    /// How many checkpoints the list holds.
+    pub fn checkpoints(&self) -> u64 {
+        word(&self.head, 11)
+    }
+
+    /// How many hints the list holds.
+    pub fn hints(&self) -> u64 {
+        word(&self.head, 15)
+    }
+
+    /// Has the list the end state?
+    pub fn is_complete(&self) -> bool {
+        word(&self.head, 17) != 0
+    }
+
+    /// The fingerprint, if one is held.
+    pub fn fingerprint(&self) -> Option<u64> {
+        (word(&self.head, 20) != 0).then(|| word(&self.head, 21))
+    }
+}
+
+/// The length saved, at least 88, or a refusal number.
+fn saved(n: u64) -> Result<usize, Error> {
+    if n < 88 { Err(Error::from_number(n as u32)) } else { usize::try_from(n).map_err(|_| Error::Room) }
+}

@@ -1,0 +1,94 @@
+//! A list's life through the wrapper.
+
+use seek::{Area, Error, List, Plan, first_record, sum};
+
+fn area() -> Area {
+    Area { slot: 0, channels: 2, key_start: 1000, key_end: 1399, sectors: 1550, start: 1000, end: 1400 }
+}
+
+/// A file of `n` checkpoints and a part of 300 bytes for the third, written from docs/FILE.md.
+fn file(n: u32) -> Vec<u8> {
+    let parts = u32::from(n > 2);
+    let mut b = b"SBSEEKIX".to_vec();
+    let u32s = |b: &mut Vec<u8>, values: &[u32]| values.iter().for_each(|v| b.extend_from_slice(&v.to_le_bytes()));
+    u32s(&mut b, &[1]);
+    b.extend_from_slice(&[0, 2, 0, 0]);
+    u32s(&mut b, &[1000, 1399]);
+    b.extend_from_slice(&1550u64.to_le_bytes());
+    u32s(&mut b, &[50, n, parts, parts, 0, 0]);
+    b.extend_from_slice(&4096u64.to_le_bytes());
+    b.extend_from_slice(&[0; 16]);
+    for j in 0..n {
+        u32s(&mut b, &[75 * j, if j == 2 { 40 } else { 0 }]);
+        b.extend_from_slice(&0u64.to_le_bytes());
+        b.extend_from_slice(&u64::from(j).to_le_bytes());
+    }
+    if parts == 1 {
+        u32s(&mut b, &[1060, 300]);
+        b.extend((0..300u32).map(|k| k as u8));
+        u32s(&mut b, &[2, 0, 300, 149, (-7i32) as u32, 1]);
+    }
+    let s = sum(&b);
+    b.extend_from_slice(&s.to_le_bytes());
+    b
+}
+
+#[test]
+fn sums_and_sectors() {
+    assert_eq!(sum(b""), 0xcbf2_9ce4_8422_2325);
+    assert_eq!(sum(b"foobar"), 0x8594_4171_f739_67e8);
+    assert_eq!(first_record(&[0x24, 0, 0, 1, 2, 3]), Some(4653));
+    assert_eq!(first_record(&[0x20, 0, 0, 1, 2, 3]), None);
+    assert_eq!(first_record(&[]), None);
+}
+
+#[test]
+fn a_file_loads_plans_and_saves() {
+    let bytes = file(5);
+    assert_eq!(Area::of_file(&bytes), Ok(area()));
+    let list = List::load(area(), &bytes, u64::MAX).unwrap();
+    assert_eq!((list.checkpoints(), list.hints(), list.is_complete()), (5, 0, false));
+    let Plan::At(at) = list.plan(160).unwrap() else { panic!("no checkpoint") };
+    assert_eq!((at.number, at.lsn, at.threshold, at.back), (2, 1100, 150, 40));
+    let part = at.part.unwrap();
+    assert_eq!((part.dsd, part.number, part.remaining, part.bytes.len()), (true, 149, -7, 300));
+    assert!(part.bytes.iter().enumerate().all(|(k, &b)| b == k as u8));
+    let Plan::At(first) = list.plan(0).unwrap() else { panic!("no checkpoint") };
+    assert_eq!((first.number, first.part), (0, None));
+    assert_eq!(list.save().unwrap(), bytes);
+}
+
+#[test]
+fn a_limit_drops_frames() {
+    let list = List::load(area(), &file(5), 100).unwrap();
+    let Plan::At(at) = list.plan(160).unwrap() else { panic!("no checkpoint") };
+    assert_eq!((at.lsn, at.part), (1100, None));
+}
+
+#[test]
+fn every_cut_file_is_refused() {
+    let bytes = file(3);
+    for n in 0..bytes.len() {
+        assert!(List::load(area(), &bytes[..n], u64::MAX).is_err(), "{n} bytes are accepted");
+    }
+    assert_eq!(List::load(area(), &bytes[..7], u64::MAX).err(), Some(Error::FileShort));
+    assert_eq!(List::load(area(), &bytes[..8], u64::MAX).err(), Some(Error::FileMagic));
+    assert_eq!(List::load(Area { channels: 6, ..area() }, &bytes, u64::MAX).err(), Some(Error::FileArea));
+}
+
+#[test]
+fn a_new_list_is_empty() {
+    let mut list = List::new(area(), 50, 0, 8, 2048).unwrap();
+    assert_eq!((list.checkpoints(), list.fingerprint()), (0, None));
+    assert_eq!(list.plan(5).unwrap(), Plan::Start);
+    list.bind_fingerprint(7).unwrap();
+    assert_eq!(list.fingerprint(), Some(7));
+    assert_eq!(list.bind_fingerprint(8), Err(Error::Fingerprint));
+    assert_eq!(list.fingerprint(), Some(7));
+    let saved = list.save().unwrap();
+    assert_eq!(List::load(area(), &saved, u64::MAX).unwrap().fingerprint(), Some(7));
+    assert_eq!(List::new(area(), 0, 0, 8, 2048).err(), Some(Error::Numbers));
+    assert_eq!(List::new(Area { slot: 2, ..area() }, 50, 0, 8, 2048).err(), Some(Error::Area));
+    assert_eq!(Error::Numbers.number(), 2);
+    assert_eq!(Error::FileSum.to_string(), "the file's sum is wrong: it was changed or cut");
+}

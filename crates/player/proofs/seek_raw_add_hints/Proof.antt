@@ -1,0 +1,30 @@
+use Rattle.player.specs.Calls.{addHintsCall}
+use Rattle.player.proofs.Blocks.{too-short}
+use Rattle.player.proofs.Answers.{add-hints-done}
+use borrow.Author.Needs.{needs}
+use Rattle.player.proofs.seek_raw_add_hints.Statement.{statement}
+use Rattle.player.proofs.seek_raw_add_hints.Tie as tie
+
+returns : tie.Need-returns
+unfolding addHintsCall
+returns c = too-short _ _ _ (c .if1 .taken)
+
+returns-2 : tie.Need-returns-2
+returns-2 c =
+    let put : tie.After-put-made = search in
+    let call : tie.After-add-hints = search in
+    let own : tie.After-index-in = search in
+    let test : tie.Else1 = search in
+    add-hints-done _ _ _ (test .if1 .left) _ _ _ _ _ (put .put-made .ensures) (call .add-hints .ensures) (own .index-in .ensures)
+
+pub seek-raw-add-hints-spec : {M : Type 1} → statement M
+seek-raw-add-hints-spec =
+    tie.close
+    (tie.spec
+    returns
+    (λ c κs. search needs)
+    (λ c κs. search needs)
+    (λ c κs. search needs)
+    (λ c. search needs)
+    (λ c. search needs)
+    returns-2)

@@ -1,0 +1,29 @@
+use Rattle.player.specs.Calls.{fileSizesCall}
+use Rattle.player.proofs.Blocks.{too-short}
+use Rattle.player.proofs.Answers.{file-sizes-done}
+use borrow.Author.Needs.{needs}
+use Rattle.player.proofs.seek_raw_file_sizes.Statement.{statement}
+use Rattle.player.proofs.seek_raw_file_sizes.Tie as tie
+
+returns : tie.Need-returns
+unfolding fileSizesCall
+returns c = too-short _ _ _ (c .if1 .taken)
+
+returns-2 : tie.Need-returns-2
+returns-2 c =
+    let test : tie.Else1 = search in
+    let area : tie.After-area-from = search in
+    let call : tie.After-file-sizes = search in
+    let put : tie.After-put-sizes = search in
+    file-sizes-done _ _ _ (test .if1 .left) _ _ _ _ _ (put .put-sizes .ensures) (call .file-sizes .ensures) (area .area-from .ensures)
+
+pub seek-raw-file-sizes-spec : {M : Type 1} → statement M
+seek-raw-file-sizes-spec =
+    tie.close
+    (tie.spec
+    returns
+    (λ c κs. search needs)
+    (λ c κs. search needs)
+    (λ c κs. search needs)
+    (λ c. search needs)
+    returns-2)

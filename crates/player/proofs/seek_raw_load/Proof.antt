@@ -1,0 +1,36 @@
+use Rattle.player.specs.Calls.{loadCall}
+use Rattle.player.proofs.Blocks.{too-short}
+use Rattle.player.proofs.Answers.{load-done}
+use borrow.Author.Needs.{needs}
+use Rattle.player.proofs.seek_raw_load.Statement.{statement}
+use Rattle.player.proofs.seek_raw_load.Tie as tie
+
+returns : tie.Need-returns
+unfolding loadCall
+returns c = too-short _ _ _ (c .if1 .taken)
+
+returns-2 : tie.Need-returns-2
+returns-2 c =
+    let put : tie.After-put-made = search in
+    let call : tie.After-from-bytes = c .before .before .before .before .before .before .before .before .before .before .before .before .before .before .before .before .before .before in
+    let area : tie.After-area-from = search in
+    let test : tie.Else1 = search in
+    load-done _ _ _ (test .if1 .left) _ _ _ _ _ _ _ (put .put-made .ensures) (call .from-bytes .ensures) (area .area-from .ensures)
+
+pub seek-raw-load-spec : {M : Type 1} → statement M
+seek-raw-load-spec =
+    tie.close
+    (tie.spec
+    returns
+    (λ c κs. search needs)
+    (λ c κs. search needs)
+    (λ c κs. search needs)
+    (λ c. search needs)
+    (λ c. search needs)
+    (λ c. search needs)
+    (λ c. search needs)
+    (λ c. search needs)
+    (λ c. search needs)
+    (λ c. search needs)
+    (λ c. search needs)
+    returns-2)

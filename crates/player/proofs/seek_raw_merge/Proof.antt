@@ -1,0 +1,62 @@
+use Rattle.index.specs.Index.{Tables, tables}
+use Rattle.player.specs.Calls.{mergeCall}
+use Rattle.player.proofs.Blocks.{too-short, long-enough}
+use Rattle.player.proofs.Answers.{merge-done}
+use borrow.Author.Needs.{needs}
+use Rattle.player.proofs.seek_raw_merge.Statement.{statement}
+use Rattle.player.proofs.seek_raw_merge.Tie as tie
+
+-- the tables as they are lent
+abbrev lent : tie.Start → Tables
+lent s =
+    let a = s .args in
+    tables (a .checkpoints .now) (a .frames .now) (a .store .now) (a .parts .now) (a .malformed .now) (a .hints .now) (a .confirmed .now)
+
+abbrev others : tie.Start → Tables
+others s =
+    let a = s .args in
+    tables (a .other-checkpoints .now) (a .other-frames .now) (a .other-store .now) (a .other-parts .now) (a .other-malformed .now)
+    (a .other-hints .now) (a .other-confirmed .now)
+
+returns : tie.Need-returns
+unfolding mergeCall
+returns c = too-short _ _ _ (c .if1 .taken)
+
+returns-2 : tie.Need-returns-2
+unfolding mergeCall
+returns-2 c =
+    let test : tie.Else1 = search in
+    long-enough _ _ _ (test .if1 .left) (too-short _ _ _ (c .if2 .taken))
+
+returns-3 : tie.Need-returns-3
+returns-3 c =
+    let put : tie.After-put-made = search in
+    let call : tie.After-merge = c .before .before .before .before .before .before .before .before .before .before .before .before .before .before .before .before .before .before in
+    let other : tie.After-index-in2 = search in
+    let own : tie.After-index-in = search in
+    let test2 : tie.Else2 = search in
+    let test : tie.Else1 = search in
+    let start : tie.Start = test .before .before .before .before .before .before .before .before .before .before .before .before .before .before .before .before .before in
+    merge-done (start .args .head .now) _ _ (test .if1 .left) (start .args .other .now) (test2 .if2 .left) (own .index-in .result)
+    (other .index-in2 .result) (other .index-in2 .ensures) (lent start) (others start) _ (call .merge .result) (put .put-made .ensures)
+    (call .merge .ensures) (own .index-in .ensures)
+
+pub seek-raw-merge-spec : {M : Type 1} → statement M
+seek-raw-merge-spec =
+    tie.close
+    (tie.spec
+    returns
+    returns-2
+    (λ c κs. search needs)
+    (λ c κs. search needs)
+    (λ c κs. search needs)
+    (λ c κs. search needs)
+    (λ c. search needs)
+    (λ c. search needs)
+    (λ c. search needs)
+    (λ c. search needs)
+    (λ c. search needs)
+    (λ c. search needs)
+    (λ c. search needs)
+    (λ c. search needs)
+    returns-3)

@@ -1,0 +1,23 @@
+use Rattle.player.specs.Calls.{newCall}
+use Rattle.player.proofs.Blocks.{too-short}
+use Rattle.player.proofs.Answers.{new-done}
+use borrow.Author.Needs.{needs}
+use Rattle.player.proofs.seek_raw_new.Statement.{statement}
+use Rattle.player.proofs.seek_raw_new.Tie as tie
+
+returns : tie.Need-returns
+unfolding newCall
+returns c = too-short _ _ _ (c .if1 .taken)
+
+returns-2 : tie.Need-returns-2
+returns-2 c =
+    let test : tie.Else1 = search in
+    let area : tie.After-area-from = search in
+    let call : tie.After-new = search in
+    let put : tie.After-put-made = search in
+    new-done _ _ _ (test .if1 .left) _ _ _ _ _ _ _ _ (put .put-made .ensures) (call .new .ensures) (area .area-from .ensures)
+
+pub seek-raw-new-spec : {M : Type 1} → statement M
+seek-raw-new-spec =
+    tie.close
+    (tie.spec returns (λ c κs. search needs) (λ c κs. search needs) (λ c κs. search needs) (λ c. search needs) returns-2)

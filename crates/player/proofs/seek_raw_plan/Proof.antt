@@ -1,0 +1,37 @@
+use Rattle.player.specs.Calls.{planCall}
+use Rattle.player.proofs.Blocks.{too-short, long-enough}
+use Rattle.player.proofs.Answers.{plan-done}
+use borrow.Author.Needs.{needs}
+use Rattle.player.proofs.seek_raw_plan.Statement.{statement}
+use Rattle.player.proofs.seek_raw_plan.Tie as tie
+
+returns : tie.Need-returns
+unfolding planCall
+returns c = too-short _ _ _ (c .if1 .taken)
+
+returns-2 : tie.Need-returns-2
+unfolding planCall
+returns-2 c =
+    let test : tie.Else1 = search in
+    long-enough _ _ _ (test .if1 .left) (too-short _ _ _ (c .if2 .taken))
+
+returns-3 : tie.Need-returns-3
+returns-3 c =
+    let test : tie.Else1 = search in
+    let test2 : tie.Else2 = search in
+    let own : tie.After-index-in = search in
+    let call : tie.After-plan = search in
+    let put : tie.After-put-plan = search in
+    plan-done _ _ _ (test2 .if2 .left) _ (test .if1 .left) _ _ _ _ (put .put-plan .ensures) (call .plan .ensures) (own .index-in .ensures)
+
+pub seek-raw-plan-spec : {M : Type 1} → statement M
+seek-raw-plan-spec =
+    tie.close
+    (tie.spec
+    returns
+    returns-2
+    (λ c κs. search needs)
+    (λ c κs. search needs)
+    (λ c κs. search needs)
+    (λ c. search needs)
+    returns-3)

@@ -1,0 +1,29 @@
+use Rattle.player.specs.Calls.{saveCall}
+use Rattle.player.proofs.Blocks.{too-short}
+use Rattle.player.proofs.Answers.{save-done}
+use borrow.Author.Needs.{needs}
+use Rattle.player.proofs.seek_raw_save.Statement.{statement}
+use Rattle.player.proofs.seek_raw_save.Tie as tie
+
+returns : tie.Need-returns
+unfolding saveCall
+returns c = too-short _ _ _ (c .if1 .taken)
+
+returns-2 : tie.Need-returns-2
+returns-2 c =
+    let test : tie.Else1 = search in
+    let own : tie.After-index-in = search in
+    let call : tie.After-to-bytes = search in
+    let told : tie.After-saved-number = search in
+    save-done _ (test .if1 .left) _ (own .index-in .ensures) _ _ _ _ _ (call .to-bytes .ensures) (told .saved-number .ensures)
+
+pub seek-raw-save-spec : {M : Type 1} → statement M
+seek-raw-save-spec =
+    tie.close
+    (tie.spec
+    returns
+    (λ c κs. search needs)
+    (λ c κs. search needs)
+    (λ c κs. search needs)
+    (λ c. search needs)
+    returns-2)

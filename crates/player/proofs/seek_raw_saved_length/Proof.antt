@@ -1,0 +1,21 @@
+use Rattle.player.specs.Calls.{lengthCall}
+use Rattle.player.proofs.Blocks.{too-short}
+use Rattle.player.proofs.Answers.{length-done}
+use borrow.Author.Needs.{needs}
+use Rattle.player.proofs.seek_raw_saved_length.Statement.{statement}
+use Rattle.player.proofs.seek_raw_saved_length.Tie as tie
+
+returns : tie.Need-returns
+unfolding lengthCall
+returns c = too-short _ _ _ (c .if1 .taken)
+
+returns-2 : tie.Need-returns-2
+returns-2 c =
+    let test : tie.Else1 = search in
+    let own : tie.After-index-in = search in
+    let call : tie.After-file-length = search in
+    length-done _ (test .if1 .left) _ (own .index-in .ensures) _ _ (call .file-length .ensures)
+
+pub seek-raw-saved-length-spec : {M : Type 1} → statement M
+seek-raw-saved-length-spec =
+    tie.close (tie.spec returns (λ c κs. search needs) (λ c κs. search needs) returns-2)

@@ -1,0 +1,80 @@
+-- How many bytes the tables of a list and its file take, and the area that a file is of.
+use Prim.Native.Nat.{ℕ, _+_, _*_, min, max}
+use mathlib.Core.Bool.{Bool, _&&_, cond}
+use mathlib.Core.List.{List, [], _∷_}
+use lib.Dec.{eqb, leb}
+use lib.ListN.{length}
+use Rattle.field.specs.Number.{decode}
+use Rattle.rules.specs.declared.Area.{Area}
+use Rattle.rules.specs.declared.AreaIndex.{AreaIndex}
+use Rattle.rules.specs.declared.AreaKey.{AreaKey}
+use Rattle.rules.specs.Tests.{all, ask, firstNo, Answer, Refused, Accepted, after, bind}
+use Rattle.rules.specs.Values.{Index, boundaries, maxMalformed, maxHints, mergeRoom}
+use Rattle.rules.specs.Questions.{areaOk, numbersOk}
+use Rattle.rules.specs.File.{readHeader, magicBytes, savedLength}
+use Rattle.rules.specs.Load.{keyOf, bodyIn, fromBytes, limited}
+use Rattle.index.specs.Index.{Tables, indexIn, refusal}
+use Rattle.sizes.specs.declared.TableSizes.{TableSizes}
+use Rattle.sizes.specs.declared.Sized.{Sized}
+use Rattle.sizes.specs.declared.Sized.the-variants as sized
+use Rattle.sizes.specs.declared.FileArea.{FileArea}
+use Rattle.sizes.specs.declared.FileArea.the-variants as found
+
+-- ---- sizes
+-- for area, interval, budget and M
+unfoldable pub sizesOf : Area → ℕ → ℕ → ℕ → TableSizes
+sizesOf a k budget most =
+    record {
+      checkpoints = boundaries a k * 24;
+      frames = boundaries a k * 8;
+      store = budget;
+      parts = boundaries a k * 24;
+      malformed = maxMalformed * 4;
+      hints = (most + mergeRoom) * 8;
+      confirmed = (most + 1) * 16;
+    }
+
+abbrev pub sizesFor : Index → TableSizes
+sizesFor x = sizesOf (x .scan .area) (x .scan .interval) (x .scan .budget) (x .hinting .most)
+
+-- has every table at least these bytes?
+unfoldable pub hasSizes : TableSizes → Tables → Bool
+hasSizes s t =
+    all (leb (s .checkpoints) (length (t .checkpoints)) ∷ leb (s .frames) (length (t .frames)) ∷ leb (s .store) (length (t .store))
+    ∷ leb (s .parts) (length (t .parts)) ∷ leb (s .malformed) (length (t .malformed)) ∷ leb (s .hints) (length (t .hints))
+    ∷ leb (s .confirmed) (length (t .confirmed)) ∷ [])
+
+-- for a new list: 1, 2; M above 65,536 is lowered
+unfoldable pub newSizes : Area → ℕ → ℕ → ℕ → Answer TableSizes
+newSizes a k budget most =
+    after (firstNo (ask (areaOk a) 1 ∷ ask (numbersOk k budget) 2 ∷ [])) (Accepted (sizesOf a k budget (min most maxHints)))
+
+-- for a file and a load limit: 1, then 20 to 38
+unfoldable pub fileSizes : Area → List ℕ → ℕ → Answer TableSizes
+fileSizes a b limit = after (firstNo (ask (areaOk a) 1 ∷ [])) (bind (fromBytes a b) (λ x. Accepted (sizesFor (limited limit x))))
+
+unfoldable pub sizedOf : Sized → Answer TableSizes
+sizedOf (sized.Refused n) = Refused n
+sizedOf (sized.Sizes s) = Accepted s
+
+-- ---- the length of a list's file
+-- or the number of the first of questions 1 to 4 answered no
+unfoldable pub fileLength : AreaIndex → Tables → ℕ
+fileLength x t = cond (eqb (refusal x t) 0) (savedLength (indexIn x t)) (refusal x t)
+
+-- ---- the area of a file
+-- the range that the source's audio_sector_range gives for a key
+unfoldable pub rangeOf : AreaKey → Area
+rangeOf k = record { key = k; start = k .start; end = max (k .start) (min (k .end + 1) (k .sectors)) }
+
+-- 20 and 21
+unfoldable pub fileArea : List ℕ → Answer Area
+fileArea b =
+    after
+    (firstNo
+    (ask (leb 8 (length b)) 20 ∷ ask (leb 80 (length (bodyIn b)) && eqb (readHeader (bodyIn b) .magic) (decode magicBytes)) 21 ∷ []))
+    (Accepted (rangeOf (keyOf (readHeader (bodyIn b)))))
+
+unfoldable pub fileAreaOf : FileArea → Answer Area
+fileAreaOf (found.Refused n) = Refused n
+fileAreaOf (found.Area a) = Accepted a

@@ -1,0 +1,428 @@
+/* seek.h: the seek index of a Super Audio area.
+ *
+ * A list holds checkpoints of one area of a disc, from which a player's jump starts near its frame. Lists are recorded, merged, saved and
+ * loaded. Every call answers for all bytes, numbers and tables: a result, or a refusal number that says why. A refusal changes no block and no
+ * table.
+ *
+ * What a caller owes, for every call:
+ *   - a buffer's pointer is valid for its whole length, and the whole length is initialised, output buffers too;
+ *   - a buffer that is written overlaps no other buffer of the call; NULL only with length 0; at most 2^63 - 1 bytes;
+ *   - no other thread writes a buffer during the call.
+ * The caller owns every buffer. The library allocates nothing, keeps nothing and has no global state: threads may work on different lists.
+ *
+ * C99, usable from C++. Link with libseek.a. docs/PLAYER.md has a first program.
+ */
+#ifndef SEEK_H
+#define SEEK_H
+
+#include <stddef.h>
+#include <stdint.h>
+
+#ifdef __cplusplus
+extern "C" {
+#endif
+
+/* ---- blocks
+ * The numbers of a list, a recorder or a hint recorder, and the answers of some calls, lie in blocks of 192 bytes: 24 words of eight bytes,
+ * lowest byte first. The library writes them; a caller reads them by the functions below. A block that is shorter is refused with 3.
+ */
+#define SEEK_BLOCK 192
+
+static inline uint64_t seek_word(const uint8_t *block, unsigned i)
+{
+    const uint8_t *b = block + 8 * i;
+    uint64_t v = 0;
+    unsigned k;
+    for (k = 8; k-- > 0;)
+        v = v << 8 | b[k];
+    return v;
+}
+
+/* ---- refusal numbers */
+enum {
+    SEEK_OK = 0,
+    SEEK_AREA = 1,                /* the area's slot or range */
+    SEEK_NUMBERS = 2,             /* interval or budget */
+    SEEK_ROOM = 3,                /* a table or block is too short */
+    SEEK_CONTENT = 4,             /* the tables do not hold a list */
+    SEEK_RECORD_DUE = 5,          /* not the due sector, or nothing to finish */
+    SEEK_RECORD_FALLS = 6,        /* threshold or malformed count falls or is too large */
+    SEEK_RECORD_FRAME = 7,        /* the frame under assembly */
+    SEEK_ABSORB_IMAGE = 8,        /* another image: the recorder is stopped */
+    SEEK_ABSORB_AREA = 9,
+    SEEK_ABSORB_JOINS = 10,
+    SEEK_ABSORB_AGREES = 11,
+    SEEK_ABSORB_RESULT = 12,
+    SEEK_HINTS = 13,
+    SEEK_CONFIRMATION = 14,
+    SEEK_FINGERPRINT = 15,
+    SEEK_HINT_RANGE = 16,
+    SEEK_FILE_SHORT = 20,
+    SEEK_FILE_MAGIC = 21,
+    SEEK_FILE_SUM = 22,
+    SEEK_FILE_VERSION = 23,
+    SEEK_FILE_SLOT = 24,
+    SEEK_FILE_FLAGS = 25,
+    SEEK_FILE_AREA = 26,
+    SEEK_FILE_INTERVAL = 27,
+    SEEK_FILE_RESERVED = 28,
+    SEEK_FILE_BUDGET = 29,
+    SEEK_FILE_COUNTS = 30,
+    SEEK_FILE_CHECKPOINTS = 31,
+    SEEK_FILE_FRAMES = 32,
+    SEEK_FILE_KIND = 33,
+    SEEK_FILE_END = 34,
+    SEEK_FILE_MALFORMED = 35,
+    SEEK_FILE_HINTS = 36,
+    SEEK_FILE_CONFIRMATIONS = 37,
+    SEEK_FILE_LEFT_OVER = 38,
+    SEEK_OUTPUT = 40,
+    SEEK_MERGE_AREA = 41,
+    SEEK_MERGE_IDS = 42,
+    SEEK_MERGE_CHECKPOINTS = 43
+};
+
+/* A text for each number. */
+static inline const char *seek_text(uint32_t number)
+{
+    switch (number) {
+    case SEEK_OK: return "accepted";
+    case SEEK_AREA: return "the area's slot is not 0 or 1, or its range is not one of sectors below 2^32";
+    case SEEK_NUMBERS: return "the interval is not 1 to 65,536, or the budget is above 4,294,967,295";
+    case SEEK_ROOM: return "a table or a block is too short";
+    case SEEK_CONTENT: return "the tables do not hold what loading would accept";
+    case SEEK_RECORD_DUE: return "not the due sector, not a whole sector, or the recorder is finished or stopped";
+    case SEEK_RECORD_FALLS: return "threshold or malformed count falls, or is too large";
+    case SEEK_RECORD_FRAME: return "the frame under assembly does not start in the area before this sector, or its number is too large";
+    case SEEK_ABSORB_IMAGE: return "the recorder read another image; it is stopped";
+    case SEEK_ABSORB_AREA: return "the recorder is of another area or interval";
+    case SEEK_ABSORB_JOINS: return "the recorder does not join the list";
+    case SEEK_ABSORB_AGREES: return "the recorder and the list disagree where both have read";
+    case SEEK_ABSORB_RESULT: return "the list with the recorder's part would not be a list, or the malformed sectors do not fit";
+    case SEEK_HINTS: return "more than 65,536 hints, or a frame number that is too large";
+    case SEEK_CONFIRMATION: return "the confirmed sector lies outside the area, or its threshold is too large";
+    case SEEK_FINGERPRINT: return "the list holds another fingerprint";
+    case SEEK_HINT_RANGE: return "the range ends before it begins";
+    case SEEK_FILE_SHORT: return "the file ends too early";
+    case SEEK_FILE_MAGIC: return "this is no list file";
+    case SEEK_FILE_SUM: return "the file's sum is wrong: it was changed or cut";
+    case SEEK_FILE_VERSION: return "the file's version is not 1 to 3";
+    case SEEK_FILE_SLOT: return "the file's slot is not 0 or 1";
+    case SEEK_FILE_FLAGS: return "the file has flags that its version does not know";
+    case SEEK_FILE_AREA: return "the file is of another area";
+    case SEEK_FILE_INTERVAL: return "the file's interval is not 1 to 65,536";
+    case SEEK_FILE_RESERVED: return "a reserved field of the file is not 0";
+    case SEEK_FILE_BUDGET: return "the file's budget is above 4,294,967,295";
+    case SEEK_FILE_COUNTS: return "the file's counts do not fit its area or its length";
+    case SEEK_FILE_CHECKPOINTS: return "a checkpoint of the file breaks its rule";
+    case SEEK_FILE_FRAMES: return "a frame or a held part of the file breaks its rule";
+    case SEEK_FILE_KIND: return "a held part of the file has no kind";
+    case SEEK_FILE_END: return "the file's end state breaks its rule";
+    case SEEK_FILE_MALFORMED: return "the file's malformed sectors break their rule";
+    case SEEK_FILE_HINTS: return "the file's hints break their rule";
+    case SEEK_FILE_CONFIRMATIONS: return "the file's confirmations break their rule";
+    case SEEK_FILE_LEFT_OVER: return "something lies behind the file's last section";
+    case SEEK_OUTPUT: return "the output is too short";
+    case SEEK_MERGE_AREA: return "the lists are of different areas or intervals";
+    case SEEK_MERGE_IDS: return "the lists have different image ids or fingerprints";
+    case SEEK_MERGE_CHECKPOINTS: return "the lists disagree about a checkpoint or the end of the disc";
+    default: return "no such number";
+    }
+}
+
+/* ---- areas */
+typedef struct {
+    uint8_t slot;        /* 0 two-channel, 1 multichannel */
+    uint8_t channels;
+    uint32_t key_start;  /* start, end, channels and image sectors as the disc's table of contents gives them */
+    uint32_t key_end;
+    uint64_t sectors;
+    uint64_t start;      /* the range of sectors, its end excluded; seek_file_area tells the key's own */
+    uint64_t end;
+} seek_area;
+
+/* ---- tables
+ * A list's checkpoints, frames, frame bytes, held parts, malformed sectors, hints and confirmations lie in seven tables, each in the file's own
+ * record layout (docs/FILE.md). seek_sizes and seek_file_sizes tell how many bytes each needs.
+ */
+typedef struct {
+    uint8_t *at;
+    size_t length;
+} seek_table;
+
+typedef struct {
+    uint8_t head[SEEK_BLOCK];
+    seek_table checkpoints;   /* 24 bytes each */
+    seek_table frames;        /* 8 */
+    seek_table store;         /* the frames' bytes, end to end */
+    seek_table parts;         /* 24 */
+    seek_table malformed;     /* 4 */
+    seek_table hints;         /* 8 */
+    seek_table confirmed;     /* 16 */
+} seek_list;
+
+typedef struct {
+    uint64_t checkpoints, frames, store, parts, malformed, hints, confirmed;
+} seek_table_sizes;
+
+/* ---- the library's functions, over pointers and lengths; the functions below them take lists */
+#define SEEK_IN(t) const uint8_t *t, size_t t##_length
+#define SEEK_OUT(t) uint8_t *t, size_t t##_length
+#define SEEK_AREA_NUMBERS uint8_t slot, uint8_t channels, uint32_t key_start, uint32_t key_end, uint64_t sectors, uint64_t start, uint64_t end
+#define SEEK_TABLES_IN SEEK_IN(checkpoints), SEEK_IN(frames), SEEK_IN(store), SEEK_IN(parts), SEEK_IN(malformed), SEEK_IN(hints), SEEK_IN(confirmed)
+#define SEEK_TABLES_OUT SEEK_OUT(checkpoints), SEEK_OUT(frames), SEEK_OUT(store), SEEK_OUT(parts), SEEK_OUT(malformed), SEEK_OUT(hints), SEEK_OUT(confirmed)
+
+uint64_t seek_raw_sum(SEEK_IN(bytes));
+uint32_t seek_raw_first_record(SEEK_IN(sector), SEEK_OUT(answer));
+uint32_t seek_raw_sizes(SEEK_AREA_NUMBERS, uint32_t interval, uint64_t budget, uint32_t most, SEEK_OUT(answer));
+uint32_t seek_raw_file_area(SEEK_IN(file), SEEK_OUT(answer));
+uint32_t seek_raw_file_sizes(SEEK_AREA_NUMBERS, SEEK_IN(file), uint64_t limit, SEEK_OUT(answer));
+uint32_t seek_raw_new(SEEK_OUT(head), SEEK_AREA_NUMBERS, uint32_t interval, uint64_t budget, uint32_t spacing, uint32_t most, SEEK_TABLES_IN);
+uint32_t seek_raw_load(SEEK_OUT(head), SEEK_AREA_NUMBERS, SEEK_IN(file), uint64_t limit, SEEK_TABLES_OUT);
+uint64_t seek_raw_saved_length(SEEK_IN(head), SEEK_TABLES_IN);
+uint64_t seek_raw_save(SEEK_IN(head), SEEK_TABLES_IN, SEEK_OUT(out));
+uint32_t seek_raw_plan(SEEK_IN(head), uint32_t frame, SEEK_OUT(answer), SEEK_TABLES_IN);
+uint32_t seek_raw_fingerprint(SEEK_OUT(head), uint64_t value, SEEK_TABLES_IN);
+uint32_t seek_raw_merge(SEEK_OUT(head), SEEK_IN(other), SEEK_TABLES_OUT, SEEK_IN(checkpoints2), SEEK_IN(frames2), SEEK_IN(store2), SEEK_IN(parts2),
+                        SEEK_IN(malformed2), SEEK_IN(hints2), SEEK_IN(confirmed2));
+uint32_t seek_raw_adds(SEEK_IN(head), SEEK_IN(other), SEEK_OUT(answer), SEEK_TABLES_IN, SEEK_IN(checkpoints2), SEEK_IN(frames2), SEEK_IN(store2),
+                       SEEK_IN(parts2), SEEK_IN(malformed2), SEEK_IN(hints2), SEEK_IN(confirmed2));
+uint32_t seek_raw_add_hints(SEEK_OUT(head), SEEK_IN(list), SEEK_IN(checkpoints), SEEK_IN(frames), SEEK_IN(store), SEEK_IN(parts), SEEK_IN(malformed),
+                            SEEK_OUT(hints), SEEK_IN(confirmed));
+
+#define SEEK_LENT_(t) (t).at, (t).length
+#define SEEK_LENT_SEVEN_(l) \
+    SEEK_LENT_((l)->checkpoints), SEEK_LENT_((l)->frames), SEEK_LENT_((l)->store), SEEK_LENT_((l)->parts), SEEK_LENT_((l)->malformed), \
+        SEEK_LENT_((l)->hints), SEEK_LENT_((l)->confirmed)
+#define SEEK_AREA_(a) (a)->slot, (a)->channels, (a)->key_start, (a)->key_end, (a)->sectors, (a)->start, (a)->end
+
+/* ---- what a list's head says */
+static inline uint64_t seek_interval(const seek_list *l) { return seek_word(l->head, 7); }
+static inline uint64_t seek_budget(const seek_list *l) { return seek_word(l->head, 8); }
+static inline uint64_t seek_spacing(const seek_list *l) { return seek_word(l->head, 9); }
+static inline uint64_t seek_hint_limit(const seek_list *l) { return seek_word(l->head, 10); }
+static inline uint64_t seek_checkpoint_count(const seek_list *l) { return seek_word(l->head, 11); }
+static inline uint64_t seek_frame_count(const seek_list *l) { return seek_word(l->head, 12); }
+static inline uint64_t seek_part_count(const seek_list *l) { return seek_word(l->head, 13); }
+static inline uint64_t seek_malformed_count(const seek_list *l) { return seek_word(l->head, 14); }
+static inline uint64_t seek_hint_count(const seek_list *l) { return seek_word(l->head, 15); }
+static inline uint64_t seek_confirmation_count(const seek_list *l) { return seek_word(l->head, 16); }
+static inline int seek_is_complete(const seek_list *l) { return seek_word(l->head, 17) != 0; }
+static inline uint64_t seek_end_threshold(const seek_list *l) { return seek_word(l->head, 18); }
+static inline uint64_t seek_end_malformed(const seek_list *l) { return seek_word(l->head, 19); }
+static inline int seek_has_fingerprint(const seek_list *l) { return seek_word(l->head, 20) != 0; }
+static inline int seek_fingerprint_checked(const seek_list *l) { return seek_word(l->head, 20) > 1; }
+static inline uint64_t seek_fingerprint_value(const seek_list *l) { return seek_word(l->head, 21); }
+static inline int seek_has_image(const seek_list *l) { return seek_word(l->head, 22) != 0; }
+static inline uint64_t seek_image_value(const seek_list *l) { return seek_word(l->head, 23); }
+
+/* ---- memory */
+/* The bytes of each table for an area, interval, budget and hint limit: question 3 passes exactly where every table has at least these. */
+static inline uint32_t seek_sizes_from_(const uint8_t *answer, seek_table_sizes *s)
+{
+    s->checkpoints = seek_word(answer, 0);
+    s->frames = seek_word(answer, 1);
+    s->store = seek_word(answer, 2);
+    s->parts = seek_word(answer, 3);
+    s->malformed = seek_word(answer, 4);
+    s->hints = seek_word(answer, 5);
+    s->confirmed = seek_word(answer, 6);
+    return 0;
+}
+
+static inline uint32_t seek_sizes(const seek_area *a, uint32_t interval, uint64_t budget, uint32_t most, seek_table_sizes *s)
+{
+    uint8_t answer[SEEK_BLOCK] = {0};
+    uint32_t n = seek_raw_sizes(SEEK_AREA_(a), interval, budget, most, answer, SEEK_BLOCK);
+    return n ? n : seek_sizes_from_(answer, s);
+}
+
+/* The same for a file and a load limit: seek_load with such tables never answers 3. Refuses where seek_load would. */
+static inline uint32_t seek_file_sizes(const seek_area *a, const uint8_t *file, size_t length, uint64_t limit, seek_table_sizes *s)
+{
+    uint8_t answer[SEEK_BLOCK] = {0};
+    uint32_t n = seek_raw_file_sizes(SEEK_AREA_(a), file, length, limit, answer, SEEK_BLOCK);
+    return n ? n : seek_sizes_from_(answer, s);
+}
+
+/* The area that a list file says it is of, with the range that its key gives. */
+static inline uint32_t seek_file_area(const uint8_t *file, size_t length, seek_area *a)
+{
+    uint8_t answer[SEEK_BLOCK] = {0};
+    uint32_t n = seek_raw_file_area(file, length, answer, SEEK_BLOCK);
+    if (n)
+        return n;
+    a->slot = (uint8_t)seek_word(answer, 0);
+    a->channels = (uint8_t)seek_word(answer, 1);
+    a->key_start = (uint32_t)seek_word(answer, 2);
+    a->key_end = (uint32_t)seek_word(answer, 3);
+    a->sectors = seek_word(answer, 4);
+    a->start = seek_word(answer, 5);
+    a->end = seek_word(answer, 6);
+    return 0;
+}
+
+static inline uint64_t seek_total(const seek_table_sizes *s)
+{
+    return s->checkpoints + s->frames + s->store + s->parts + s->malformed + s->hints + s->confirmed;
+}
+
+/* Carves one block of initialised memory into a list's tables, and clears its head. Answers the bytes used, 0 where there are too few. */
+static inline uint64_t seek_carve(seek_list *l, const seek_table_sizes *s, uint8_t *memory, uint64_t length)
+{
+    uint64_t at = 0;
+    unsigned i;
+    if (memory == NULL || length < seek_total(s))
+        return 0;
+    for (i = 0; i < SEEK_BLOCK; i++)
+        l->head[i] = 0;
+#define SEEK_CARVE_(t) (l->t.at = memory + at, l->t.length = (size_t)s->t, at += s->t)
+    SEEK_CARVE_(checkpoints);
+    SEEK_CARVE_(frames);
+    SEEK_CARVE_(store);
+    SEEK_CARVE_(parts);
+    SEEK_CARVE_(malformed);
+    SEEK_CARVE_(hints);
+    SEEK_CARVE_(confirmed);
+#undef SEEK_CARVE_
+    return at;
+}
+
+/* ---- lists: each answers 0 or a refusal number */
+/* An empty list in the tables of l. A hint limit above 65,536 is lowered to it. */
+static inline uint32_t seek_new(seek_list *l, const seek_area *a, uint32_t interval, uint64_t budget, uint32_t spacing, uint32_t most)
+{
+    return seek_raw_new(l->head, SEEK_BLOCK, SEEK_AREA_(a), interval, budget, spacing, most, SEEK_LENT_SEVEN_(l));
+}
+
+/* The list of a file, loaded under an area with a limit in bytes for frame bytes, hints and confirmations (UINT64_MAX: all of it). */
+static inline uint32_t seek_load(seek_list *l, const seek_area *a, const uint8_t *file, size_t length, uint64_t limit)
+{
+    return seek_raw_load(l->head, SEEK_BLOCK, SEEK_AREA_(a), file, length, limit, SEEK_LENT_SEVEN_(l));
+}
+
+/* The length that seek_save will write: at least 88; below 88 a refusal number. */
+static inline uint64_t seek_saved_length(const seek_list *l)
+{
+    return seek_raw_saved_length(l->head, SEEK_BLOCK, SEEK_LENT_SEVEN_(l));
+}
+
+/* Writes the list file into out. Answers its length, at least 88; below 88 a refusal number. */
+static inline uint64_t seek_save(const seek_list *l, uint8_t *out, size_t length)
+{
+    return seek_raw_save(l->head, SEEK_BLOCK, SEEK_LENT_SEVEN_(l), out, length);
+}
+
+/* Merges the other list, which is only read, into l. */
+static inline uint32_t seek_merge(seek_list *l, const seek_list *other)
+{
+    return seek_raw_merge(l->head, SEEK_BLOCK, other->head, SEEK_BLOCK, SEEK_LENT_SEVEN_(l), SEEK_LENT_SEVEN_(other));
+}
+
+/* What merging the other list would change in l. Where nothing but image is set, the other list may be deleted: whatever the frame, the jump's start, the
+ * part's bytes and the hint are those of the merged list. */
+typedef struct {
+    int checkpoints, end, parts, malformed, hints, confirmations, fingerprint, image;
+} seek_brings;
+
+static inline uint32_t seek_adds(const seek_list *l, const seek_list *other, seek_brings *b)
+{
+    uint8_t answer[SEEK_BLOCK] = {0};
+    uint32_t n = seek_raw_adds(l->head, SEEK_BLOCK, other->head, SEEK_BLOCK, answer, SEEK_BLOCK, SEEK_LENT_SEVEN_(l), SEEK_LENT_SEVEN_(other));
+    if (n)
+        return n;
+    b->checkpoints = seek_word(answer, 0) != 0;
+    b->end = seek_word(answer, 1) != 0;
+    b->parts = seek_word(answer, 2) != 0;
+    b->malformed = seek_word(answer, 3) != 0;
+    b->hints = seek_word(answer, 4) != 0;
+    b->confirmations = seek_word(answer, 5) != 0;
+    b->fingerprint = seek_word(answer, 6) != 0;
+    b->image = seek_word(answer, 7) != 0;
+    return 0;
+}
+
+/* Where a jump to a frame starts. */
+enum { SEEK_AT_START = 0, SEEK_AT_CHECKPOINT = 1, SEEK_AT_END = 2 };
+typedef struct {
+    int where;            /* SEEK_AT_START: the area's start; SEEK_AT_CHECKPOINT: a checkpoint; SEEK_AT_END: the area's end */
+    uint64_t number;      /* SEEK_AT_CHECKPOINT: the checkpoint's number and sector */
+    uint64_t lsn;
+    uint64_t threshold;   /* SEEK_AT_CHECKPOINT and SEEK_AT_END */
+    uint64_t malformed;
+    uint64_t back;        /* SEEK_AT_CHECKPOINT */
+    uint64_t digest;
+    int held;             /* a held part: its kind (0 DST, 1 DSD), frame number, remaining, and where its bytes lie in the store */
+    int kind;
+    uint64_t frame;
+    int32_t remaining;
+    uint64_t offset;
+    uint64_t length;
+} seek_jump;
+
+static inline uint32_t seek_plan(const seek_list *l, uint32_t frame, seek_jump *j)
+{
+    uint8_t answer[SEEK_BLOCK] = {0};
+    uint32_t n = seek_raw_plan(l->head, SEEK_BLOCK, frame, answer, SEEK_BLOCK, SEEK_LENT_SEVEN_(l));
+    uint64_t r;
+    if (n)
+        return n;
+    j->where = (int)seek_word(answer, 0);
+    j->number = seek_word(answer, 1);
+    j->lsn = seek_word(answer, 2);
+    j->threshold = seek_word(answer, 3);
+    j->back = seek_word(answer, 4);
+    j->malformed = seek_word(answer, 5);
+    j->digest = seek_word(answer, 6);
+    j->held = seek_word(answer, 7) != 0;
+    j->kind = (int)seek_word(answer, 8);
+    j->frame = seek_word(answer, 9);
+    r = seek_word(answer, 10);
+    j->remaining = r < 2147483648u ? (int32_t)r : (int32_t)(r - 2147483648u) + INT32_MIN;
+    j->offset = seek_word(answer, 11);
+    j->length = seek_word(answer, 12);
+    return 0;
+}
+
+/* The bytes of the held part that seek_plan told; NULL where it told none. */
+static inline const uint8_t *seek_part(const seek_list *l, const seek_jump *j)
+{
+    if (!j->held || l->store.length < j->offset || l->store.length - j->offset < j->length)
+        return NULL;
+    return l->store.at + j->offset;
+}
+
+/* States the disc's fingerprint: it is stored if none is held, and checked. */
+static inline uint32_t seek_fingerprint(seek_list *l, uint64_t value)
+{
+    return seek_raw_fingerprint(l->head, SEEK_BLOCK, value, SEEK_LENT_SEVEN_(l));
+}
+
+/* ---- hints */
+/* Adds hints, 8 bytes each: sector and frame number, lowest byte first. */
+static inline uint32_t seek_add_hints(seek_list *l, const uint8_t *list, size_t length)
+{
+    return seek_raw_add_hints(l->head, SEEK_BLOCK, list, length, SEEK_LENT_SEVEN_(l));
+}
+
+/* ---- sectors and bytes */
+/* The frame number of a sector's first record; *found is 0 where no frame starts there or bytes are missing. */
+static inline uint32_t seek_first_record(const uint8_t *sector, size_t length, int *found, uint64_t *number)
+{
+    uint8_t answer[SEEK_BLOCK] = {0};
+    uint32_t n = seek_raw_first_record(sector, length, answer, SEEK_BLOCK);
+    if (n)
+        return n;
+    *found = seek_word(answer, 0) != 0;
+    *number = seek_word(answer, 1);
+    return 0;
+}
+
+/* 64-bit FNV-1a. */
+static inline uint64_t seek_sum(const uint8_t *bytes, size_t length) { return seek_raw_sum(bytes, length); }
+
+#ifdef __cplusplus
+}
+#endif
+
+#endif
