@@ -8,8 +8,7 @@ use crate::words::least;
 use crate::words::narrow;
 use crate::words::small;
 use index::Made;
-use index::Planned;
-use load::Loaded;
+use plan::Planned;
 use rules::Area;
 use rules::AreaIndex;
 use rules::AreaKey;
@@ -93,13 +92,13 @@ fn made(m: Made, place: Place) -> Answer {
     }
 }
 
-fn loaded(m: Loaded, place: Place) -> Answer {
+fn loaded(m: Made, place: Place) -> Answer {
     match m {
-        Loaded::Refused(n) => Answer {
+        Made::Refused(n) => Answer {
             reply: Reply::Number(n),
             place,
         },
-        Loaded::Index(x) => Answer {
+        Made::Index(x) => Answer {
             reply: Reply::Number(0),
             place: Place::Listed(x),
         },
@@ -125,7 +124,7 @@ fn new(
     let budget = field(line, interval.next);
     let spacing = field(line, budget.next);
     let most = field(line, spacing.next);
-    let m = index::new(
+    let m = create::new(
         area,
         narrow(interval.value),
         budget.value,
@@ -158,7 +157,7 @@ fn fingerprint(
         return missing(place);
     };
     let f = field(line, at);
-    let m = index::bind_fingerprint(
+    let m = create::bind_fingerprint(
         x,
         f.value,
         checkpoints,
@@ -512,7 +511,7 @@ fn held(out: &mut [u8], p: Position, a: Assembly, store: &[u8]) -> Position {
             let k = h.kind;
             let q = two(out, p, 1, kind(k));
             let q = two(out, q, h.number as u64, unsigned(h.remaining));
-            let bytes = index::part_bytes(store, h.offset, h.len);
+            let bytes = plan::part_bytes(store, h.offset, h.len);
             let n = bytes.len();
             two(out, q, n as u64, show::sum(bytes, n))
         }
@@ -557,7 +556,7 @@ fn planned(
         return put_word(out, end, b" none");
     };
     let first = field(line, ask.next);
-    match index::plan(
+    match plan::plan(
         x,
         narrow(first.value),
         checkpoints,

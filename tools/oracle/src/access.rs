@@ -204,10 +204,19 @@ fn boundaries_of(r: &Recorder) -> u64 {
     (end - start).div_ceil(u64::from(r.interval))
 }
 
-/// Questions 5, 6 and 7 of `record`: 0 where none refuses.
-pub fn refuses_record(r: &Recorder, lsn: u64, thr: u32, mal: u64, frame: Option<(u64, u32)>, len: usize) -> u32 {
+/// Questions 5, 6 and 7 of `record`: 0 where none refuses. Fault 18: the area's end may be recorded.
+pub fn refuses_record(
+    wrong: u32,
+    r: &Recorder,
+    lsn: u64,
+    thr: u32,
+    mal: u64,
+    frame: Option<(u64, u32)>,
+    len: usize,
+) -> u32 {
     let (start, end) = r.key.audio_sector_range();
-    if r.end_state.is_some() || !r.due(lsn) || lsn >= end || len != SECTOR_SIZE {
+    let past = if wrong == 18 { lsn > end } else { lsn >= end };
+    if r.end_state.is_some() || !r.due(lsn) || past || len != SECTOR_SIZE {
         return 5;
     }
     let last = last_of(r);
@@ -258,7 +267,8 @@ pub enum Twelve {
     Outside,
 }
 
-pub fn question_12(old: &AreaIndex, new: &AreaIndex, list: &[u32]) -> Twelve {
+/// Fault 17: it does not ask whether the list opens with the held one.
+pub fn question_12(wrong: u32, old: &AreaIndex, new: &AreaIndex, list: &[u32]) -> Twelve {
     if new.frontier() <= old.frontier() {
         return Twelve::Passes;
     }
@@ -272,7 +282,8 @@ pub fn question_12(old: &AreaIndex, new: &AreaIndex, list: &[u32]) -> Twelve {
     let cap = MAX_MALFORMED_WARNINGS;
     let below = list.iter().filter(|&&m| u64::from(m) < new.frontier()).count().min(cap);
     let rising = list.windows(2).all(|w| w[0] < w[1]);
-    let opens = list.len() >= old.malformed.len() && list[..old.malformed.len()] == old.malformed[..];
+    let opens =
+        wrong == 17 || list.len() >= old.malformed.len() && list[..old.malformed.len()] == old.malformed[..];
     if !rising || !opens || below as u64 != counted.min(cap as u64) || loadable(new).is_err() {
         return Twelve::Refuses;
     }
@@ -363,12 +374,54 @@ pub fn wrong_load(wrong: u32, ix: &mut AreaIndex, file: &crate::script::Sections
     false
 }
 
-/// Fault 11: a merge takes the other's checked mark. Fault 12: it leaves the malformed list.
+/// Fault 11: a merge takes the other's checked mark. Fault 12: it leaves the malformed list. Fault 19: it takes the other's
+/// where both have as many checkpoints. Fault 20: a part is measured by the last part, not by the last frame.
 pub fn wrong_merge(wrong: u32, new: &mut AreaIndex, own: &AreaIndex, other: &AreaIndex) {
     match wrong {
         11 => new.fingerprint_checked |= other.fingerprint_checked,
         12 => new.malformed.clone_from(&own.malformed),
+        19 if own.end_state.is_none() && own.checkpoints.len() == other.checkpoints.len() => {
+            new.malformed.clone_from(&other.malformed);
+        }
+        20 => {
+            let mut short = own.clone();
+            shorten(&mut short.stored);
+            if short.merge(other).is_ok() && grown(&own.stored, &short.stored) {
+                *new = short;
+            }
+        }
         _ => {}
+    }
+}
+
+/// The last frame without the bytes that its last part does not need.
+fn shorten(st: &mut Stored) {
+    if let (Some(h), Some(f)) = (st.held.last(), st.frames.last_mut()) {
+        st.used -= f.bytes.len() - h.len as usize;
+        f.bytes.truncate(h.len as usize);
+    }
+}
+
+/// Has the last frame of `old` a part more in `new`?
+fn grown(old: &Stored, new: &Stored) -> bool {
+    old.frames.len().checked_sub(1).is_some_and(|last| {
+        new.held.get(old.held.len()).is_some_and(|h| h.frame as usize == last)
+    })
+}
+
+/// What a program with fault `wrong` answers to an absorb of `r` that the original accepts or refuses: fault 15 compares
+/// digests too, fault 16 no end states.
+pub fn wrong_absorb(wrong: u32, old: &AreaIndex, r: Option<&Recorder>, n: u32) -> u32 {
+    let Some(r) = r else { return n };
+    let first = r.first as usize;
+    let digests = r.checkpoints.iter().enumerate().any(|(i, c)| {
+        old.checkpoints.get(first + i).is_some_and(|held| held.digest != c.digest)
+    });
+    let ends = matches!((old.end_state, r.end_state), (Some(a), Some(b)) if a != b);
+    match wrong {
+        15 if n == 0 && digests => 11,
+        16 if n == 11 && ends => 0,
+        _ => n,
     }
 }
 

@@ -17,6 +17,7 @@ fn batch(a: &Arguments, mut number: u32, out: &mut Vec<u8>, enough: impl Fn(u32,
         let kind = a.kinds[number as usize % a.kinds.len()];
         let at = out.len();
         loads += generate::script(kind, number, a.seed, a.small, out);
+        keep_only(a, out, at);
         if kind != generate::Kind::Load {
             drop_outside(out, at);
         }
@@ -24,6 +25,27 @@ fn batch(a: &Arguments, mut number: u32, out: &mut Vec<u8>, enough: impl Fn(u32,
         scripts += 1;
     }
     number
+}
+
+/// Does a script have this call?
+fn asked(a: &Arguments, call: &str) -> bool {
+    a.only.is_empty() || ["script", "area", "#"].contains(&call) || a.only.iter().any(|c| c == call)
+}
+
+/// Takes from the script that begins at `at` the lines of calls that were not asked for.
+fn keep_only(a: &Arguments, out: &mut Vec<u8>, at: usize) {
+    if a.only.is_empty() {
+        return;
+    }
+    let mut kept = Vec::new();
+    for line in out[at..].split_inclusive(|b| *b == b'\n') {
+        let word = line.split(|b| matches!(b, b' ' | b'\n')).next().unwrap_or_default();
+        if asked(a, &String::from_utf8_lossy(word)) {
+            kept.extend_from_slice(line);
+        }
+    }
+    out.truncate(at);
+    out.extend_from_slice(&kept);
 }
 
 /// Takes from the script that begins at `at` the lines that the original cannot judge.
@@ -92,7 +114,7 @@ fn report(stats: &Stats, a: &Arguments) -> Result<(), String> {
         eprintln!("  {name} x{count}");
     }
     let mut need = |command: &str, n: u64| {
-        if !stats.answers.contains_key(&(command.to_string(), n)) {
+        if asked(a, command) && !stats.answers.contains_key(&(command.to_string(), n)) {
             missing.push(format!("{command} {n}"));
         }
     };
@@ -207,7 +229,8 @@ pub fn generate(a: &Arguments) -> Result<(), String> {
 
 /// The fixed list: small scripts, and their answers.
 pub fn fixed(a: &Arguments) -> Result<(), String> {
-    let a = &Arguments { small: true, rest: a.rest.clone(), kinds: a.kinds.clone(), ..*a };
+    let a =
+        &Arguments { small: true, rest: a.rest.clone(), kinds: a.kinds.clone(), only: a.only.clone(), ..*a };
     let mut oracle = Oracle::counting();
     let names: Vec<String> = a.kinds.iter().map(|k| format!("{k:?}").to_lowercase()).collect();
     let mut scripts =

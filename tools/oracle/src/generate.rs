@@ -16,6 +16,8 @@ pub enum Kind {
     Merge,
     /// `new`, recorders, hints, confirmations, and everything else.
     Calls,
+    /// Readings and lists that are equal but for one number: `record`, `finish`, `absorb`, `merge`.
+    Seams,
 }
 
 pub fn kinds(names: &str) -> Option<Vec<Kind>> {
@@ -25,7 +27,8 @@ pub fn kinds(names: &str) -> Option<Vec<Kind>> {
             "load" => Some(vec![Kind::Load]),
             "merge" => Some(vec![Kind::Merge]),
             "calls" => Some(vec![Kind::Calls]),
-            "all" => Some(vec![Kind::Load, Kind::Load, Kind::Merge, Kind::Calls]),
+            "seams" => Some(vec![Kind::Seams]),
+            "all" => Some(vec![Kind::Load, Kind::Load, Kind::Merge, Kind::Calls, Kind::Seams]),
             _ => None,
         })
         .collect::<Option<Vec<_>>>()
@@ -72,6 +75,7 @@ pub fn script(kind: Kind, number: u32, seed: u64, small: bool, out: &mut Vec<u8>
         Kind::Load => loads(&mut s, &mut rng, small),
         Kind::Merge => merges(&mut s, &mut rng, small),
         Kind::Calls => calls(&mut s, &mut rng, small),
+        Kind::Seams => seams(&mut s, &mut rng),
     }
     s.loads
 }
@@ -575,4 +579,159 @@ fn calls(s: &mut Script<'_>, rng: &mut Rng, small: bool) {
     let whole = reading.cut(rng, b, true, 0);
     plans(s, rng, 0, &whole, 4);
     plans(s, rng, 1, &whole, 4);
+}
+
+/// The same reading, but for at most one number.
+fn twin(rng: &mut Rng, r: &Reading) -> Reading {
+    let mut t = r.clone();
+    let step = |rng: &mut Rng, v: u32| if rng.chance(1, 2) { (v + 1).min(LIM) } else { v.saturating_sub(1) };
+    let j = rng.below(r.checkpoints.len().max(1) as u64) as usize;
+    match rng.below(8) {
+        0 | 1 if !t.fills.is_empty() => {
+            t.fills[j] ^= 1;
+            t.sector_digests();
+        }
+        2 if !t.checkpoints.is_empty() => t.checkpoints[j].thr = step(rng, t.checkpoints[j].thr),
+        3 if !t.checkpoints.is_empty() => t.checkpoints[j].mal = u64::from(step(rng, t.checkpoints[j].mal as u32)),
+        4 => t.end.0 = step(rng, t.end.0),
+        5 => t.end.1 = u64::from(step(rng, t.end.1 as u32)),
+        6 | 7 => shift_one(rng, &r.area, &mut t.malformed),
+        _ => {}
+    }
+    t
+}
+
+/// Moves one malformed LSN by one, where the list still rises in the area.
+fn shift_one(rng: &mut Rng, a: &AreaNumbers, list: &mut [u32]) {
+    if list.is_empty() {
+        return;
+    }
+    let i = rng.below(list.len() as u64) as usize;
+    let low = if i == 0 { a.start as u32 } else { list[i - 1] + 1 };
+    let high = list.get(i + 1).map_or(a.end as u32, |&m| m);
+    if rng.chance(1, 2) && list[i] + 1 < high {
+        list[i] += 1;
+    } else if list[i] > low {
+        list[i] -= 1;
+    }
+}
+
+/// `absorb` with the reading's malformed LSNs below `end`.
+fn absorb_below(s: &mut Script<'_>, p: usize, q: usize, r: &Reading, end: u64) {
+    let list: Vec<u32> = r.malformed.iter().copied().filter(|&m| u64::from(m) < end).collect();
+    let words: String = list.iter().map(|m| format!(" {m}")).collect();
+    say!(s, "absorb {p} {q} 0 0 {}{words}", list.len());
+}
+
+/// Two scans of one area, which differ in one number at most; both up to the area's end, or one checkpoint less.
+fn scans(s: &mut Script<'_>, rng: &mut Rng, r: &Reading) {
+    let other = twin(rng, r);
+    let b = r.checkpoints.len();
+    for p in 0..2 {
+        say!(s, "area {p} {}", r.area.words());
+        say!(s, "new {p} {} {} 8 40", r.k, *rng.pick(&[0, 12, 131_072]));
+        say!(s, "recorder {p} {}", r.area.start);
+    }
+    let less = |rng: &mut Rng| if rng.chance(1, 3) { b.saturating_sub(1) } else { b };
+    let (n, m) = (less(rng), less(rng));
+    let stop = rng.below(n as u64 + 1) as usize;
+    for j in 0..n {
+        record(s, rng, 0, r, j, false);
+        if j + 1 == stop {
+            absorb_below(s, 0, 0, r, u64::MAX);
+        }
+    }
+    for j in 0..m {
+        record(s, rng, 1, &other, j, false);
+    }
+    for (p, count, x) in [(0, n, r), (1, m, &other)] {
+        if count == b && rng.chance(2, 3) {
+            // The LSN behind the last boundary, which may be the area's end.
+            say!(s, "record {p} {} {} {} 2048 0 0", x.lsn(b), x.end.0, x.end.1.min(b as u64 * x.k));
+        }
+        if rng.chance(3, 4) {
+            say!(s, "finish {p} {} {}", x.end.0, x.end.1);
+        }
+    }
+    let list = if rng.chance(1, 2) { r } else { &other };
+    absorb_below(s, 0, 0, list, u64::MAX);
+    let (p, q) = *rng.pick(&[(0, 1), (1, 1)]);
+    absorb_below(s, p, q, &other, if rng.chance(1, 2) { u64::MAX } else { other.lsn(m) });
+    say!(s, "merge 0 1");
+    say!(s, "merge 1 0");
+}
+
+/// Two lists of one reading, one checkpoint apart at most, with malformed lists that may differ.
+fn equals(s: &mut Script<'_>, rng: &mut Rng, r: &Reading) {
+    let b = r.checkpoints.len();
+    let n = rng.below(b as u64 + 1) as usize;
+    let m = (n + rng.below(3) as usize).saturating_sub(1).min(b);
+    for (p, count) in [(0, n), (1, m)] {
+        let x = twin(rng, r);
+        let x = if rng.chance(1, 2) { r.clone() } else { Reading { checkpoints: r.checkpoints.clone(), end: r.end, ..x } };
+        let complete = count == b && rng.chance(1, 2);
+        let mut l = x.cut(rng, count, complete, 8);
+        l.budget += *rng.pick(&[0, 1, 12, 200]);
+        l.most = *rng.pick(&[0, 4, 40]);
+        say!(s, "area {p} {}", l.area.words());
+        s.load("equal", p, 131_072, &l.encode().bytes);
+    }
+    say!(s, "merge 0 1");
+    say!(s, "merge 1 0");
+    say!(s, "save 0 20000");
+}
+
+/// A list whose last frame has more bytes than its parts need, and one that goes on from there.
+fn surplus(s: &mut Script<'_>, rng: &mut Rng, r: &Reading) {
+    let b = r.checkpoints.len();
+    let held: Vec<usize> = (0..b).filter(|&j| r.under[j].is_some()).collect();
+    let n = if held.is_empty() { b } else { *rng.pick(&held) + 1 };
+    let mut own = r.cut(rng, n, false, 8);
+    let start = own.frames.last().map(|f| f.0);
+    let next = (n..b).find_map(|j| r.under[j].filter(|u| Some(r.frames[u.frame].start) == start));
+    if let (Some(frame), Some(next)) = (own.frames.last_mut(), next) {
+        let all = &r.frames[next.frame].bytes;
+        let upto = (frame.1.len() + rng.below(4) as usize).min(all.len());
+        frame.1.extend_from_slice(&all[frame.1.len()..upto]);
+        if rng.chance(1, 4) {
+            frame.1.push(7);
+        }
+        let grow = (next.len as u64).saturating_sub(frame.1.len() as u64);
+        own.budget = own.used() + (grow + rng.below(3)).saturating_sub(1);
+    } else {
+        own.budget = own.used() + rng.below(20);
+    }
+    let complete = rng.chance(1, 2);
+    let other = r.cut(rng, b, complete, 8);
+    for (p, l) in [(0, &own), (1, &other)] {
+        say!(s, "area {p} {}", l.area.words());
+        s.load("surplus", p, 131_072, &l.encode().bytes);
+    }
+    if rng.chance(1, 2) {
+        say!(s, "recorder 0 {}", r.lsn(n.saturating_sub(1)));
+        for j in n..b {
+            record(s, rng, 0, r, j, false);
+        }
+        absorb_below(s, 0, 0, r, u64::MAX);
+    }
+    say!(s, "merge 0 1");
+    say!(s, "plan 0 {}", r.end.0);
+    say!(s, "save 0 20000");
+}
+
+fn seams(s: &mut Script<'_>, rng: &mut Rng) {
+    let shape = Shape {
+        boundaries: rng.range(0, 6),
+        k: *rng.pick(&[1, 2, 33, 40, 64]),
+        under: *rng.pick(&[0, 6, 8]),
+        frame_bytes: 12,
+        malformed: *rng.pick(&[0, 1, 3, 10]),
+    };
+    let mut reading = Reading::random(rng, shape);
+    reading.sector_digests();
+    match rng.below(4) {
+        0 | 1 => scans(s, rng, &reading),
+        2 => equals(s, rng, &reading),
+        _ => surplus(s, rng, &reading),
+    }
 }

@@ -29,7 +29,7 @@ oracle gen [options]                     writes scripts, and on standard error h
 oracle fixed SCRIPT ANSWERS [options]    writes a list of scripts and the file of their answers
 oracle sources                           which texts of the original were built: length and FNV-1a
 oracle diff COUNT|SECONDSs REPLAY [options]  runs fresh scripts through both, until the first difference
-options: --seed N  --kinds load,merge,calls|all  --scripts N  --files N  --small
+options: --seed N  --kinds load,merge,calls|all  --scripts N  --files N  --small  --only CALL,CALL,..
          --notes (counts by kind of damage)  --counts (diff: counts too)  --unchecked (no answer need occur)
 ";
 
@@ -41,6 +41,8 @@ pub struct Arguments {
     pub scripts: Option<u32>,
     pub files: Option<u64>,
     pub small: bool,
+    /// The calls that scripts have, beside `script` and `area`; all where it is empty.
+    pub only: Vec<String>,
     pub show: bool,
     pub notes: bool,
     pub counts: bool,
@@ -56,6 +58,7 @@ fn arguments(words: impl Iterator<Item = String>) -> Option<Arguments> {
         scripts: None,
         files: None,
         small: false,
+        only: Vec::new(),
         show: false,
         notes: false,
         counts: false,
@@ -70,6 +73,7 @@ fn arguments(words: impl Iterator<Item = String>) -> Option<Arguments> {
             "--scripts" => a.scripts = Some(words.next()?.parse().ok()?),
             "--files" => a.files = Some(words.next()?.parse().ok()?),
             "--small" => a.small = true,
+            "--only" => a.only = words.next()?.split(',').map(str::to_string).collect(),
             "--show" => a.show = true,
             "--notes" => a.notes = true,
             "--counts" => a.counts = true,

@@ -686,6 +686,10 @@ impl Oracle {
 
     fn merge(&mut self, p: usize, q: usize) -> Answer {
         let (Some(own), Some(other)) = (&self.places[p].list, &self.places[q].list) else { return Nothing };
+        // The other list's tables are as long as those of place 1.
+        if too_large(other, 1) {
+            return Number(3, Vec::new());
+        }
         let mut new = own.clone();
         match new.merge(other) {
             Err(e) => Number(number(&e), Vec::new()),
@@ -727,7 +731,7 @@ impl Oracle {
         };
         let Some(c) = &mut self.places[p].cursor else { return Some(Nothing) };
         let Some(r) = c.recorder_mut() else { return Some(Number(5, Vec::new())) };
-        let n = access::refuses_record(r, lsn, thr, mal, frame.as_ref().map(|f| (f.0, f.1)), len);
+        let n = access::refuses_record(self.wrong, r, lsn, thr, mal, frame.as_ref().map(|f| (f.0, f.1)), len);
         if n != 0 {
             return Some(Number(n, Vec::new()));
         }
@@ -748,9 +752,16 @@ impl Oracle {
         let warnings = list.iter().map(|&lsn| Warning { lsn: Some(lsn) }).collect();
         let mut cursor = AreaCursor { image_id: image, warnings, ..cursor.clone() };
         let mut new = old.clone();
-        let answer = match new.absorb(&mut cursor) {
+        let wrong = self.wrong;
+        let recorder = cursor.clone();
+        let made = new.absorb(&mut cursor);
+        let n = made.as_ref().map_or_else(number, |()| 0);
+        if access::wrong_absorb(wrong, old, recorder.recorder(), n) != n {
+            return Number(11 - n, Vec::new());
+        }
+        let answer = match made {
             Err(e) => Number(number(&e), Vec::new()),
-            Ok(()) => match access::question_12(old, &new, &list) {
+            Ok(()) => match access::question_12(wrong, old, &new, &list) {
                 Twelve::Outside => return Outside,
                 Twelve::Refuses => return Number(12, Vec::new()),
                 Twelve::Passes => accepted(),
