@@ -4,7 +4,6 @@ ghost use lib.ListN.{length};
 use crate::lines;
 use crate::lines::Tally;
 use index::Made;
-use load::Loaded;
 use rules::Area;
 use rules::AreaIndex;
 use rules::AreaKey;
@@ -48,8 +47,8 @@ fn refusal(bytes: &[u8]) -> u64 {
         &mut confirmed,
     );
     match loaded {
-        Loaded::Refused(n) => n as u64,
-        Loaded::Index(_) => 0,
+        Made::Refused(n) => n as u64,
+        Made::Index(_) => 0,
     }
 }
 
@@ -103,7 +102,7 @@ fn shortest() -> u64 {
     let malformed = malformed_table();
     let hints = hint_table();
     let confirmed = confirmed_table();
-    let made = index::new(
+    let made = create::new(
         area(),
         64,
         0,
