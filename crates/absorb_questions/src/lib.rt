@@ -19,7 +19,7 @@ use rules::Recorder;
 use sections::counted;
 use sections::ending_ok;
 use sections::frontier_of;
-use table::check_lsns;
+use checks::check_lsns;
 use table::read_lsn;
 ghost use mathlib.Core.Path.{_≡_};
 ghost use mathlib.Core.Bool.{_||_};

@@ -13,7 +13,7 @@ use rules::Fingerprint;
 use rules::Header;
 use rules::HintHeader;
 use rules::MAGIC;
-use table::check_frames;
+use checks::check_frames;
 ghost use mathlib.Core.Path.{_≡_};
 ghost use mathlib.Core.Bool.{cond};
 ghost use mathlib.Core.List.{List};
