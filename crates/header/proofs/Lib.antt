@@ -1,4 +1,3 @@
 pub mod Places
 pub mod Table
 pub mod Written
-pub mod Numbers

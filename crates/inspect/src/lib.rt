@@ -10,7 +10,7 @@ use field::read_u64;
 use fnv::fnv;
 use header::complete;
 use header::has_fingerprint;
-use header::header_number;
+use header_questions::header_number;
 use header::read_header;
 use inspect_hinting::confirmed_section;
 use inspect_hinting::hint_section;

@@ -3,7 +3,7 @@ use field::and;
 use field::min_u64;
 use field::or;
 use field::same;
-use header::same_key;
+use header_questions::same_key;
 use index::is_complete;
 use index::refuses;
 use rules::Area;

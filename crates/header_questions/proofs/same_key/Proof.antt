@@ -2,8 +2,8 @@ use Rattle.rules.specs.Values.{sameKey}
 use Rattle.rules.specs.Tests.{all}
 use mathlib.Core.Bool.{and-true}
 use borrow.Author.Needs.{needs}
-use Rattle.header.proofs.same_key.Statement.{statement}
-use Rattle.header.proofs.same_key.Tie as tie
+use Rattle.header_questions.proofs.same_key.Statement.{statement}
+use Rattle.header_questions.proofs.same_key.Tie as tie
 
 returns : tie.Need-returns
 unfolding all sameKey

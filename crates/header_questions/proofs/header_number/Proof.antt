@@ -1,11 +1,11 @@
-use Rattle.header.proofs.Numbers.{number-no, number-yes}
+use Rattle.header_questions.proofs.Numbers.{number-no, number-yes}
 use borrow.Author.Needs.{needs}
-use Rattle.header.proofs.header_number.Statement.{statement}
-use Rattle.header.proofs.header_number.Tie as tie
-use Rattle.header.proofs.header_number.Reads as reads
-use Rattle.header.proofs.header_number.Lts as lts
-use Rattle.header.proofs.key_number.Reads as key-number-reads
-use Rattle.header.proofs.size_number.Reads as size-number-reads
+use Rattle.header_questions.proofs.header_number.Statement.{statement}
+use Rattle.header_questions.proofs.header_number.Tie as tie
+use Rattle.header_questions.proofs.header_number.Reads as reads
+use Rattle.header_questions.proofs.header_number.Lts as lts
+use Rattle.header_questions.proofs.key_number.Reads as key-number-reads
+use Rattle.header_questions.proofs.size_number.Reads as size-number-reads
 
 -- src/lib.rt:338:9
 key-number-requires : tie.Need-key-number-requires

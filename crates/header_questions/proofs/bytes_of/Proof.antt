@@ -1,8 +1,8 @@
 use native.Mathlib.Nat.{mul-le-mul-right}
 use native.Mathlib.Omega.{arith}
 use borrow.Author.Needs.{needs}
-use Rattle.header.proofs.bytes_of.Statement.{statement}
-use Rattle.header.proofs.bytes_of.Tie as tie
+use Rattle.header_questions.proofs.bytes_of.Statement.{statement}
+use Rattle.header_questions.proofs.bytes_of.Tie as tie
 
 mul-result : tie.Need-mul-result
 mul-result c = omega (arith, mul-le-mul-right (c .args .n) (c .pre))
