@@ -8,6 +8,8 @@ use head::read_words;
 use head::recorder_from;
 use head::write_words;
 use index::Made;
+use part_records::kind_number;
+use part_records::unsigned;
 use plan::Planned;
 use rules::Area;
 use rules::AreaIndex;
@@ -27,7 +29,7 @@ ghost use mathlib.Core.Path.{_≡_};
 ghost use mathlib.Core.List.{_∷_, []};
 ghost use Prim.Native.Nat.{_≤_};
 ghost use lib.ListN.{length};
-ghost use Rattle.rules.specs.File.{unsigned32, kindNumber, bit};
+ghost use Rattle.rules.specs.File.{bit};
 ghost use Rattle.rules.specs.Tests.{Accepted};
 ghost use Rattle.head.specs.Head.{wordsIn, indexFrom, recorderFrom, hintRecorderFrom, indexWords};
 ghost use Rattle.create.specs.Calls.{madeOf};
@@ -82,25 +84,6 @@ pub fn area_from(
 }
 
 // ---- words of answers
-fn kind_number(k: FrameKind) -> u32
-    ensures { λ r. ⌜ r ≡ kindNumber k ⌝ }
-{
-    match k {
-        FrameKind::Dst => 0,
-        FrameKind::Dsd => 1,
-    }
-}
-
-// The number of 32 bits that a signed number is.
-fn unsigned(x: i32) -> u32
-    ensures { λ r. ⌜ r ≡ unsigned32 x ⌝ }
-{
-    if 0 <= x {
-        return x as u32;
-    }
-    4294967295 - (-1 - x) as u32
-}
-
 // A held part as words: whether there is one, its kind, frame number, remaining, offset and length.
 pub struct HeldWords {
     pub held: u64,

@@ -1,4 +1,3 @@
-pub mod Records
 pub mod Agreeing
 pub mod Frames
 pub mod Rule

@@ -4,7 +4,9 @@ use field::copy_part;
 use field::min_u64;
 use field::or;
 use field::same;
-use field::write_u32;
+use part_records::kind_number;
+use part_records::write_header;
+use part_records::write_held;
 use rules::FrameKind;
 use rules::Held;
 use rules::MAX_FRAME_BYTES;
@@ -56,57 +58,6 @@ pub struct Placed {
 pub struct Source {
     pub frame: u32,
     pub offset: u64,
-}
-
-// ---- records written
-fn kind_number(k: FrameKind) -> u32
-    ensures { λ r. ⌜ r ≡ kindNumber k ⌝ }
-{
-    match k {
-        FrameKind::Dst => 0,
-        FrameKind::Dsd => 1,
-    }
-}
-
-// The four bytes of a signed number, as a number.
-fn unsigned(x: i32) -> u32
-    ensures { λ r. ⌜ r ≡ unsigned32 x ⌝ }
-{
-    if 0 <= x {
-        return x as u32;
-    }
-    4294967295 - (-1 - x) as u32
-}
-
-fn write_header(t: &mut [u8], j: usize, start: u32, len: u32)
-    requires { ⌜ j * 8 + 8 ≤ length (now t) ⌝ }
-    ensures { λ _. ⌜ now (t .exit) ≡ sets (now (t .entry)) (j * 8) (encode 4 start ++ encode 4 len) ⌝ }
-{
-    let at = j * 8;
-    write_u32(t, at, start);
-    write_u32(t, at + 4, len);
-}
-
-// Three numbers into the twelve bytes of t from at on.
-fn write_three(t: &mut [u8], at: usize, a: u32, b: u32, c: u32)
-    requires { ⌜ at + 12 ≤ length (now t) ⌝ }
-    ensures { λ _. ⌜ now (t .exit) ≡ sets (now (t .entry)) at (encode 4 a ++ (encode 4 b ++ encode 4 c)) ⌝ }
-{
-    write_u32(t, at, a);
-    write_u32(t, at + 4, b);
-    write_u32(t, at + 8, c);
-}
-
-fn write_held(t: &mut [u8], j: usize, p: Held)
-    requires { ⌜ j * 24 + 24 ≤ length (now t) ⌝ }
-    ensures { λ _. ⌜ now (t .exit) ≡ sets (now (t .entry)) (j * 24) (encodeHeld p) ⌝ }
-{
-    let at = j * 24;
-    let of = p.kind;
-    let kind = kind_number(of);
-    let remaining = unsigned(p.remaining);
-    write_three(t, at, p.at, p.frame, p.len);
-    write_three(t, at + 12, p.number, remaining, kind);
 }
 
 // ---- the part rule

@@ -1,4 +1,4 @@
-use Rattle.parts.proofs.Records.{same-kind}
+use Rattle.part_records.proofs.Records.{same-kind}
 use borrow.Author.Needs.{needs}
 use Rattle.parts.proofs.alike.Statement.{statement}
 use Rattle.parts.proofs.alike.Tie as tie

@@ -7,10 +7,10 @@ use lib.IntN.{ℤ, natAbs}
 use lib.Signed.{nonNeg, natAbs-le, yes-nonNeg, leZ-yes}
 use mir.Syntax.{w32}
 use mir.Val.{Fits, toZ, ofZ}
-use Rattle.parts.proofs.Records.{natural, plain, flip, fits, back}
+use Rattle.part_records.proofs.Records.{natural, plain, flip, fits, back}
 use borrow.Author.Needs.{needs}
-use Rattle.parts.proofs.unsigned.Statement.{statement}
-use Rattle.parts.proofs.unsigned.Tie as tie
+use Rattle.part_records.proofs.unsigned.Statement.{statement}
+use Rattle.part_records.proofs.unsigned.Tie as tie
 
 cast-result : tie.Need-cast-result
 cast-result c = (yes-nonNeg {z = toZ w32 (ofZ w32 (c .before .args .x))} (leZ-yes (subst T (sym (c .if1 .taken)) tt)), subst (λ (z : ℤ). Fits w32 (natAbs z)) (sym (plain (c .before .args .x) (c .before .fits .x))) (record { fits = lt-of-le-of-lt (natAbs-le (c .before .args .x) (c .before .fits .x .sfits)) (lit< tt) }))

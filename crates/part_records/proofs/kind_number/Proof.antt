@@ -1,7 +1,7 @@
 use Rattle.rules.specs.File.{kindNumber}
 use borrow.Author.Needs.{needs}
-use Rattle.parts.proofs.kind_number.Statement.{statement}
-use Rattle.parts.proofs.kind_number.Tie as tie
+use Rattle.part_records.proofs.kind_number.Statement.{statement}
+use Rattle.part_records.proofs.kind_number.Tie as tie
 
 returns : tie.Need-returns
 unfolding kindNumber

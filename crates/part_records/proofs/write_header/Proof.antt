@@ -1,8 +1,8 @@
 use Prim.Native.Nat.{_*_}
-use Rattle.parts.proofs.Records.{header-put}
+use Rattle.part_records.proofs.Records.{header-put}
 use borrow.Author.Needs.{needs}
-use Rattle.parts.proofs.write_header.Statement.{statement}
-use Rattle.parts.proofs.write_header.Tie as tie
+use Rattle.part_records.proofs.write_header.Statement.{statement}
+use Rattle.part_records.proofs.write_header.Tie as tie
 
 returns : tie.Need-returns
 returns c = header-put _ _ _ _ (c .before .before .before .before .before .before .write-u32 .ensures) (c .before .before .write-u322 .ensures)

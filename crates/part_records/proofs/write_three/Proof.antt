@@ -1,7 +1,7 @@
-use Rattle.parts.proofs.Records.{three-put}
+use Rattle.part_records.proofs.Records.{three-put}
 use borrow.Author.Needs.{needs}
-use Rattle.parts.proofs.write_three.Statement.{statement}
-use Rattle.parts.proofs.write_three.Tie as tie
+use Rattle.part_records.proofs.write_three.Statement.{statement}
+use Rattle.part_records.proofs.write_three.Tie as tie
 
 returns : tie.Need-returns
 returns c = three-put _ _ _ _ _ (c .before .before .before .before .before .before .before .before .before .before .write-u32 .ensures) (c .before .before .before .before .before .before .write-u322 .ensures) (c .before .before .write-u323 .ensures)
