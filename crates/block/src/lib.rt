@@ -16,7 +16,6 @@ use rules::AreaIndex;
 use rules::AreaKey;
 use rules::Assembly;
 use rules::First;
-use rules::FrameKind;
 use rules::HintRecorder;
 use rules::Plan;
 use rules::Recorder;

@@ -1,6 +1,7 @@
 // What another list's hints and confirmations would change, decided over lent tables that are only read.
 use field::and;
 use field::or;
+use hints::rise_of;
 use rules::Confirmation;
 use rules::MAX_U32;
 use table::read_confirmation;
@@ -83,12 +84,6 @@ fn next_hint(own: &[u8], n: usize, other: &[u8], m: usize, i: usize, j: usize) -
         own: i + 1,
         other: j + 1,
     }
-}
-
-fn rise_of(p: u32, t: u32) -> u64
-    ensures { λ r. ⌜ r ≡ rise p t ⌝ }
-{
-    if p < t { (t - p) as u64 } else { MAX_U32 }
 }
 
 // p where it counts and is no smaller, else q.

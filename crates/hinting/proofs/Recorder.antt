@@ -24,14 +24,14 @@ use Rattle.rules.specs.declared.Tail.the-variants as tail
 use Rattle.rules.specs.Tests.{each, ask, firstNo, after, Accepted}
 use Rattle.rules.specs.Values as values
 use Rattle.rules.specs.Values.{maxList, max32}
-use Rattle.rules.specs.File.{decodeHint, encodeHint}
+use Rattle.rules.specs.File.{decodeHint, encodeHint, over}
 use Rattle.rules.specs.FirstRecord.{firstRecord}
 use Rattle.rules.specs.Create.{hintRecorder}
 use Rattle.rules.specs.Hints.{spaced, seenRecord, listed, tailed, see, flush, flushedList, takeList}
 use Rattle.rules.proofs.Tests.{never, and-left, and-right}
 use Rattle.filelaws.proofs.Layouts.{hint-layout}
 use Rattle.table.specs.Tables.{hintsIn}
-use Rattle.index.specs.Index.{Tables, indexIn, refusal, over}
+use Rattle.index.specs.Index.{Tables, indexIn, refusal}
 use Rattle.index.proofs.Four.{Later, kinded-index}
 use Rattle.hinting.specs.declared.Seen.the-variants as seen
 use Rattle.hinting.specs.declared.Taken.the-variants as taken

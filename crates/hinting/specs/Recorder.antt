@@ -19,11 +19,11 @@ use Rattle.rules.specs.Values as values
 use Rattle.rules.specs.Values.{maxList}
 use Rattle.rules.specs.Questions.{hintRecorderFour}
 use Rattle.rules.specs.Create.{hintRecorder}
-use Rattle.rules.specs.File.{encodeHint}
+use Rattle.rules.specs.File.{encodeHint, over}
 use Rattle.rules.specs.Hints.{spaced, listed, tailed, see, flush, flushedList, takeList}
 use Rattle.rules.specs.Hints as rules
 use Rattle.table.specs.Tables.{hintsIn}
-use Rattle.index.specs.Index.{Tables, roomOf, indexIn, kindsIn, kinded, over}
+use Rattle.index.specs.Index.{Tables, roomOf, indexIn, kindsIn, kinded}
 use Rattle.hinting.specs.declared.Seen.{Seen}
 use Rattle.hinting.specs.declared.Seen.the-variants as seen
 use Rattle.hinting.specs.declared.Taken.{Taken}

@@ -67,7 +67,7 @@ pub fn first_record(sector: &[u8]) -> First
 }
 
 // ---- thinning without a second table: the cutoff gap by bisection, then one pass that keeps what stays
-fn rise_of(p: u32, t: u32) -> u64
+pub fn rise_of(p: u32, t: u32) -> u64
     ensures { λ r. ⌜ r ≡ rise p t ⌝ }
 {
     if p < t { (t - p) as u64 } else { 4294967295 }

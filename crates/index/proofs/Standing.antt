@@ -18,7 +18,7 @@ use Rattle.rules.specs.Tests.{each}
 use Rattle.rules.specs.Values.{Index, lim, max64, maxMalformed, mergeRoom, boundaries, count, frontier, used}
 use Rattle.rules.specs.Sections.{begun, unfilled, checkpointsOk, framesOk, partsOk, malformedOk, rising, ownLsn, anyLsn, hintLsn, hintOk, hintsOk, confirmedLsn, confirmationOk, confirmationsOk}
 use Rattle.rules.specs.Questions.{question3, scanRoom, hintingRoom}
-use Rattle.rules.specs.File.{encodeCheckpoint, encodeFrameHeader, encodeHeld, encodeLsn, encodeHint, encodeConfirmation}
+use Rattle.rules.specs.File.{encodeCheckpoint, encodeFrameHeader, encodeHeld, encodeLsn, encodeHint, encodeConfirmation, over}
 use Rattle.rules.proofs.Tests.{both, all→, each-both, each-map}
 use Rattle.rules.proofs.Walk.{rising-each}
 use Rattle.scanlaws.proofs.Parts.{frames-used}
@@ -30,7 +30,7 @@ use Rattle.filelaws.proofs.Ranges.{Placed, frontier-small, checkpoints-fit, fra
 use Rattle.filelaws.proofs.Facts.{Facts, facts}
 use Rattle.filelaws.proofs.Header.{scan-counts, few-boundaries}
 use Rattle.table.specs.Tables.{partsIn}
-use Rattle.index.specs.Index.{Tables, roomOf, indexIn, kindsOk, kindsIn, numbersFrom, over, storeOf, tablesFrom, tablesCleared}
+use Rattle.index.specs.Index.{Tables, roomOf, indexIn, kindsOk, kindsIn, numbersFrom, storeOf, tablesFrom, tablesCleared}
 use Rattle.sections.specs.Numbers.{endIn, idIn, endFrom, idFrom}
 use Rattle.index.proofs.Back.{FrameFits, frames-back, header-length}
 use Rattle.index.proofs.Store.{store-length}

@@ -11,7 +11,7 @@ use Rattle.rules.specs.declared.AreaIndex.{AreaIndex}
 use Rattle.rules.specs.Tests.{each, Answer, Refused, Accepted, numberOf, ask, firstNo}
 use Rattle.rules.specs.Values.{Frame, Index, Lengths, frontierOf}
 use Rattle.rules.specs.Questions.{areaOk, question1, question2, question3, four}
-use Rattle.rules.specs.File.{encodeCheckpoint, encodeFrameHeader, encodeHeld, encodeLsn, encodeHint, encodeConfirmation}
+use Rattle.rules.specs.File.{encodeCheckpoint, encodeFrameHeader, encodeHeld, encodeLsn, encodeHint, encodeConfirmation, over}
 use Rattle.index.specs.declared.Made.{Made}
 use Rattle.index.specs.declared.Made.the-variants as made
 unfoldable pub use Rattle.sections.specs.Numbers.{endIn, idIn, endFrom, idFrom}
@@ -103,10 +103,6 @@ unfoldable pub roomIn : AreaIndex → Tables → Bool
 roomIn x t = question3 (roomOf t) (indexIn x t)
 
 -- ---- the tables of a value
--- bytes over the start of a table; past them it stays
-abbrev pub over : List ℕ → List ℕ → List ℕ
-over new old = new ++ drop (length new) old
-
 -- the bytes of all frames, end to end
 unfoldable pub storeOf : List Frame → List ℕ
 storeOf fs = bytesOf (λ f. f .bytes) fs

@@ -1,4 +1,7 @@
 // An index: its numbers by value, and its lists in seven lent tables. Questions 1 to 4, and readers of its numbers.
+use checks::check_checkpoints;
+use checks::check_confirmations;
+use checks::check_hints;
 use field::and;
 use field::or;
 use field::read_u32;
@@ -16,9 +19,6 @@ use sections::ends_ok;
 use sections::frontier_of;
 use sections::held_ok;
 use sections::is_complete_end;
-use checks::check_checkpoints;
-use checks::check_confirmations;
-use checks::check_hints;
 ghost use mathlib.Core.Path.{_≡_};
 ghost use mathlib.Core.Bool.{true};
 ghost use mathlib.Core.List.{List};
@@ -26,7 +26,7 @@ ghost use Prim.Native.Nat.{ℕ, _*_, _/_, _≤_, _<_};
 ghost use lib.Dec.{leb};
 ghost use lib.ListN.{length};
 ghost use Rattle.rules.specs.Tests.{isSome};
-ghost use Rattle.rules.specs.Values.{stated};
+ghost use Rattle.rules.specs.Values.{stated, isChecked};
 ghost use Rattle.rules.specs.Questions.{areaOk, numbersOk};
 ghost use Rattle.index.specs.Index.{tables, kindsOk, roomIn, three, refusal, frontierIn};
 ghost use Rattle.sections.specs.Numbers.{endIn};
@@ -126,6 +126,17 @@ pub fn is_stated(f: Fingerprint) -> bool
     match f {
         Fingerprint::Unknown => false,
         Fingerprint::Held(_) => true,
+        Fingerprint::Checked(_) => true,
+    }
+}
+
+// Has the fingerprint the checked mark?
+pub fn is_checked(f: Fingerprint) -> bool
+    ensures { λ r. ⌜ r ≡ isChecked f ⌝ }
+{
+    match f {
+        Fingerprint::Unknown => false,
+        Fingerprint::Held(_) => false,
         Fingerprint::Checked(_) => true,
     }
 }

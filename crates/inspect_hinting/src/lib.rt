@@ -1,4 +1,6 @@
 // The two sections of a file that have a header of their own: hints, from version 2, and confirmations, in version 3.
+use checks::check_confirmations;
+use checks::check_hints;
 use cursor::Cursor;
 use cursor::Headed;
 use cursor::Pair;
@@ -15,8 +17,6 @@ use rules::Header;
 use rules::HintHeader;
 use rules::MAX_HINTS;
 use sections::ask;
-use checks::check_confirmations;
-use checks::check_hints;
 ghost use mathlib.Core.Path.{_≡_};
 ghost use Prim.Native.Nat.{_+_, _*_, _≤_};
 ghost use lib.Dec.{leb};

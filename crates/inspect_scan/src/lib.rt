@@ -1,17 +1,17 @@
 // The sections of a file whose bytes may end early: frames, parts and malformed LSNs. Each inspector is handed the part of the body that begins at
 // its section.
+use checks::check_lsns;
+use checks::header_ok;
 use field::read_u32;
+use part_checks::here_ok;
+use part_checks::near_ok;
+use part_checks::no_part;
 use rules::Area;
 use rules::Header;
 use rules::Held;
 use table::FrameHeader;
 use table::behind;
-use checks::check_lsns;
 use table::header_at;
-use checks::header_ok;
-use part_checks::here_ok;
-use part_checks::near_ok;
-use part_checks::no_part;
 use table::read_header;
 use table::read_held;
 ghost use mathlib.Core.Path.{_≡_};

@@ -20,7 +20,7 @@ ghost use Prim.Native.Nat.{ℕ, _*_, _≤_};
 ghost use lib.Dec.{eqb};
 ghost use lib.ListN.{length};
 ghost use Rattle.rules.specs.Tests.{agree, agrees};
-ghost use Rattle.rules.specs.Values.{stated, isChecked, sameArea, sameCheckpoint, sameEnd};
+ghost use Rattle.rules.specs.Values.{stated, sameArea, sameCheckpoint, sameEnd};
 ghost use Rattle.table.specs.Tables.{checkpointsIn};
 ghost use Rattle.index.specs.Index.{tables};
 ghost use Rattle.sections.specs.Numbers.{endIn, idIn};
@@ -219,17 +219,6 @@ pub fn further(x: AreaIndex, y: AreaIndex) -> bool
 {
     let more = or(is_complete(y), x.checkpoints < y.checkpoints);
     and(!is_complete(x), more)
-}
-
-// Has the fingerprint the checked mark?
-pub fn is_checked(f: Fingerprint) -> bool
-    ensures { λ r. ⌜ r ≡ isChecked f ⌝ }
-{
-    match f {
-        Fingerprint::Unknown => false,
-        Fingerprint::Held(_) => false,
-        Fingerprint::Checked(_) => true,
-    }
 }
 
 // n where go holds, else 0.

@@ -17,7 +17,7 @@ use Rattle.rules.specs.Tests.{each, ask, firstNo, after, Accepted}
 use Rattle.rules.specs.Values.{lim, isChecked}
 use Rattle.rules.specs.Sections.{confirmedLsn}
 use Rattle.rules.specs.Questions.{question1, areaOk, question3, question4, hintingRoom, hintingOk}
-use Rattle.rules.specs.File.{decodeConfirmation, encodeConfirmation}
+use Rattle.rules.specs.File.{decodeConfirmation, encodeConfirmation, over}
 use Rattle.rules.specs.Hints.{question14, inArea, withHinting, withConfirmed, keepsNothing, keep, keepAll, keepConfirmation}
 use Rattle.rules.proofs.Tests.{never, all→, and-left, and-right}
 use Rattle.filelaws.proofs.Layouts.{confirmation-layout}
@@ -25,7 +25,7 @@ use Rattle.hintlaws.specs.Passes.{Begins}
 use Rattle.hintlaws.specs.Order.{Rises}
 use Rattle.hintlaws.proofs.Keeping.{confirmed-rises}
 use Rattle.table.specs.Tables.{confirmationsIn}
-use Rattle.index.specs.Index.{Tables, tables, indexIn, roomOf, roomIn, kindsIn, kinded, refusal, over}
+use Rattle.index.specs.Index.{Tables, tables, indexIn, roomOf, roomIn, kindsIn, kinded, refusal}
 use Rattle.index.specs.Needs.{Passes, heldQuestion4}
 use Rattle.index.specs.Lent.{TableBytes}
 use Rattle.index.proofs.Four.{Later, kinded-index}

@@ -2,16 +2,16 @@
 use confirm::merge_confirmations;
 use confirm::write_confirmation;
 use field::and;
+use index::is_checked;
 use index::refuses;
 use rules::Area;
 use rules::AreaIndex;
 use rules::Confirmation;
-use rules::Fingerprint;
 use rules::MAX_NEXT_ACCEPTABLE;
 ghost use mathlib.Core.Path.{_≡_};
 ghost use mathlib.Core.Bool.{true, _&&_};
 ghost use lib.Dec.{ltb};
-ghost use Rattle.rules.specs.Values.{lim, isChecked};
+ghost use Rattle.rules.specs.Values.{lim};
 ghost use Rattle.rules.specs.File.{encodeConfirmation};
 ghost use Rattle.rules.specs.Hints.{inArea, keep};
 ghost use Rattle.hintlaws.specs.Passes.{Begins};
@@ -24,16 +24,6 @@ pub enum Kept {
     Refused(u32),
     Nothing,
     Index(AreaIndex),
-}
-
-fn is_checked(f: Fingerprint) -> bool
-    ensures { λ r. ⌜ r ≡ isChecked f ⌝ }
-{
-    match f {
-        Fingerprint::Unknown => false,
-        Fingerprint::Held(_) => false,
-        Fingerprint::Checked(_) => true,
-    }
 }
 
 // 14: LSN in the area, threshold < LIM?

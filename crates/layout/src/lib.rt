@@ -1,4 +1,5 @@
 // What a file says of an index before its sections: version and headers; and how long the file is.
+use checks::check_frames;
 use field::and;
 use field::not;
 use field::or;
@@ -13,7 +14,6 @@ use rules::Fingerprint;
 use rules::Header;
 use rules::HintHeader;
 use rules::MAGIC;
-use checks::check_frames;
 ghost use mathlib.Core.Path.{_≡_};
 ghost use mathlib.Core.Bool.{cond};
 ghost use mathlib.Core.List.{List};

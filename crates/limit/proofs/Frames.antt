@@ -11,12 +11,12 @@ use Rattle.field.specs.Records.{bytesOf, Bytes}
 use Rattle.field.proofs.Number.{encode-length, number-drop, encode-number}
 use Rattle.field.proofs.Bytes.{stretch-join}
 use Rattle.rules.specs.Values.{Frame, used}
-use Rattle.rules.specs.File.{encodeFrameHeader}
+use Rattle.rules.specs.File.{encodeFrameHeader, over}
 use Rattle.rules.specs.Load.{fitting}
 use Rattle.filelaws.proofs.Length.{length-each}
 use Rattle.table.specs.Files.{placeAt, listed, frameHere, frameFollows, framesRead}
 use Rattle.table.proofs.Files.{place-first, place-shift, place-inside}
-use Rattle.index.specs.Index.{over, storeOf}
+use Rattle.index.specs.Index.{storeOf}
 use Rattle.index.proofs.Store.{store-length}
 use Rattle.limit.specs.Limit.{lengthHere, Moved}
 

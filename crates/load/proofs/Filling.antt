@@ -16,7 +16,7 @@ use Rattle.rules.specs.declared.Held.{Held}
 use Rattle.rules.specs.Values.{Frame, Index, used, boundaries}
 use Rattle.rules.specs.Questions.{scanRoom, hintingRoom, question3}
 use Rattle.rules.specs.Hints.{thin, lastOnes}
-use Rattle.rules.specs.File.{encodeCheckpoint, encodeFrameHeader, encodeHeld, encodeLsn, encodeHint, encodeConfirmation}
+use Rattle.rules.specs.File.{encodeCheckpoint, encodeFrameHeader, encodeHeld, encodeLsn, encodeHint, encodeConfirmation, over}
 use Rattle.rules.specs.Load.{fitting, within, limited}
 use Rattle.rules.proofs.Tests.{test, all→}
 use Rattle.filelaws.proofs.Layouts.{checkpoint-layout, lsn-layout, confirmation-layout, held-length}
@@ -28,7 +28,7 @@ use Rattle.hintlaws.proofs.Lists.{last-length}
 use Rattle.table.specs.Tables.{hintsIn}
 use Rattle.table.specs.Files.{placeAt, listed, frameHere, frameFollows, framesRead}
 use Rattle.table.proofs.Files.{place-inside}
-use Rattle.index.specs.Index.{Tables, tables, roomOf, over, storeOf, tablesFrom}
+use Rattle.index.specs.Index.{Tables, tables, roomOf, storeOf, tablesFrom}
 use Rattle.inspect.specs.declared.Found.{Found}
 use Rattle.limit.specs.declared.Places.{Places}
 use Rattle.limit.specs.Limit.{listIn, limitedIn, Inside, placesIn, framesAt, partsAt, malformedAt, confirmedSize, hintsAt, confirmedAt}

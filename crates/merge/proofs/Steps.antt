@@ -15,13 +15,13 @@ use Rattle.rules.specs.Tests.{Answer, Accepted, after}
 use Rattle.rules.specs.Values.{Scan, Index, isChecked}
 use Rattle.rules.specs.PartRule.{Stored, addParts}
 use Rattle.rules.specs.Hints.{keepAll}
-use Rattle.rules.specs.File.{encodeCheckpoint, encodeFrameHeader, encodeHeld, encodeLsn, encodeHint, encodeConfirmation, decodeCheckpoint}
+use Rattle.rules.specs.File.{encodeCheckpoint, encodeFrameHeader, encodeHeld, encodeLsn, encodeHint, encodeConfirmation, decodeCheckpoint, over}
 use Rattle.rules.specs.Merge.{further, mergedScan, merged, merge}
 use Rattle.rules.proofs.Tests.{test}
 use Rattle.hintlaws.specs.Passes.{Begins}
 use Rattle.filelaws.proofs.Layouts.{confirmation-layout}
 use Rattle.table.specs.Tables.{checkpointsIn, lsnsIn, framesIn, partsIn, hintsIn, confirmationsIn}
-use Rattle.index.specs.Index.{Tables, tables, indexIn, over, storeOf, kindsIn, kinded, roomOf, numbersFrom, tablesCleared, Out, out, outOf}
+use Rattle.index.specs.Index.{Tables, tables, indexIn, storeOf, kindsIn, kinded, roomOf, numbersFrom, tablesCleared, Out, out, outOf}
 use Rattle.sections.specs.Numbers.{endIn, endFrom, idFrom}
 use Rattle.index.specs.declared.Made.{Made}
 use Rattle.index.specs.declared.Made.the-variants as made

@@ -1,8 +1,8 @@
 // Merging two lists in their tables.
 use confirm::merge_confirmations;
 use index::Made;
+use index::is_checked;
 use join::further;
-use join::is_checked;
 use join::merge_refuses;
 use rules::AreaIndex;
 use take::append_checkpoints;

@@ -17,7 +17,7 @@ use Rattle.rules.specs.declared.Held as declared
 use Rattle.rules.specs.Tests.{lastOr}
 use Rattle.rules.specs.Values.{Frame, noFrame, maxFrame, used}
 use Rattle.rules.specs.PartRule.{Stored, Piece, lastFrame, partOf, opens, joins, opened, grown, growth, stores, addPart}
-use Rattle.rules.specs.File.{encodeFrameHeader, encodeHeld}
+use Rattle.rules.specs.File.{encodeFrameHeader, encodeHeld, over}
 use Rattle.rules.proofs.Tests.{test, never, all→, or-cases}
 use Rattle.rules.proofs.Walk.{Snoc, ends, length-snoc, set-last, lastOr-snoc}
 use Rattle.scanlaws.proofs.Parts.{used-snoc}
@@ -25,7 +25,7 @@ use Rattle.scanlaws.proofs.PartRule.{longer, some-part}
 use Rattle.filelaws.proofs.Layouts.{HeldFits, held-length}
 use Rattle.filelaws.proofs.Length.{length-each}
 use Rattle.table.specs.Tables.{framesIn, headersIn, partsIn}
-use Rattle.index.specs.Index.{kindsOk, over, storeOf}
+use Rattle.index.specs.Index.{kindsOk, storeOf}
 use Rattle.index.proofs.Back.{FrameFits, frames-back, header-length}
 use Rattle.index.proofs.Standing.{held-records, kinds-held, over-length}
 use Rattle.index.proofs.Store.{store-length}

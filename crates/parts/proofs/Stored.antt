@@ -20,7 +20,7 @@ use Rattle.rules.specs.declared.Held as declared
 use Rattle.rules.specs.Tests.{lastOr}
 use Rattle.rules.specs.Values.{Frame, noFrame, used}
 use Rattle.rules.specs.PartRule.{Stored, Piece, lastFrame, partOf, opens, joins, opened, grown, growth, stores, addPart}
-use Rattle.rules.specs.File.{encodeFrameHeader, encodeHeld, decodeHeld}
+use Rattle.rules.specs.File.{encodeFrameHeader, encodeHeld, decodeHeld, over}
 use Rattle.rules.proofs.Tests.{test, never, all→, or-cases}
 use Rattle.rules.proofs.Walk.{length-snoc, set-last, lastOr-snoc}
 use Rattle.scanlaws.proofs.Parts.{used-snoc}
@@ -29,7 +29,7 @@ use Rattle.filelaws.proofs.Layouts.{held-length}
 use Rattle.table.specs.declared.FrameHeader.{FrameHeader}
 use Rattle.table.specs.Tables.{decodeHeader, stretch, framesOf, framesIn, headersIn, partsIn}
 use Rattle.table.proofs.Frames.{stretch-length, frames-used}
-use Rattle.index.specs.Index.{kindsOk, over, storeOf}
+use Rattle.index.specs.Index.{kindsOk, storeOf}
 use Rattle.index.proofs.Back.{header-layout, header-length}
 use Rattle.index.proofs.Lent.{over-same, parts-bytes, headers-of, store-back}
 use Rattle.index.proofs.Store.{store-snoc}

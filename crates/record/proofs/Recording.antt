@@ -23,14 +23,13 @@ use Rattle.rules.specs.Values.{lim, lsnOf, boundaries, lastCheckpoint, used}
 use Rattle.rules.specs.Values as values
 use Rattle.rules.specs.Questions.{recorderFourOf, recorderQuestion4, scanRoom}
 use Rattle.rules.specs.Record.{Assembling, isRunning, question5, question6, question7, backOf, assembled, recorded, recordAt}
-use Rattle.rules.specs.File.{decodeCheckpoint, decodeHeld, encodeCheckpoint}
+use Rattle.rules.specs.File.{decodeCheckpoint, decodeHeld, encodeCheckpoint, over}
 use Rattle.rules.proofs.Tests.{test, asked, and-left, and-right}
 use Rattle.rules.proofs.Walk.{length-snoc}
 use Rattle.scanlaws.proofs.Scans.{boundary-in, recorder→}
 use Rattle.scanlaws.proofs.Record.{interval-pos}
 use Rattle.filelaws.proofs.Layouts.{checkpoint-layout}
 use Rattle.filelaws.proofs.Ranges.{boundaries-small}
-use Rattle.index.specs.Index.{over}
 use Rattle.index.specs.Needs.{scanSpace}
 use Rattle.index.proofs.Four.{kinded-more}
 use Rattle.index.proofs.Numbers.{test as indexed}

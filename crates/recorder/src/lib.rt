@@ -1,4 +1,6 @@
 // A recorder: its numbers by value, and its lists in four lent tables. Questions 1 to 4, the recorder of an index, and finish.
+use checks::check_checkpoints;
+use checks::check_frames;
 use field::and;
 use field::or;
 use index::check_kinds;
@@ -6,6 +8,7 @@ use index::question1;
 use index::question2;
 use index::refuses;
 use index::scan_room;
+use part_checks::check_parts;
 use rules::AreaIndex;
 use rules::End;
 use rules::EndState;
@@ -14,9 +17,6 @@ use rules::Recorder;
 use sections::area_boundaries;
 use sections::ending_ok;
 use sections::last_checkpoint;
-use checks::check_checkpoints;
-use checks::check_frames;
-use part_checks::check_parts;
 ghost use mathlib.Core.Path.{_≡_};
 ghost use mathlib.Core.Bool.{true, cond, _&&_};
 ghost use lib.Dec.{eqb};

@@ -11,7 +11,7 @@ use Rattle.rules.specs.declared.AreaIndex.{AreaIndex}
 use Rattle.rules.specs.Tests.{each, ask, firstNo, Accepted, after}
 use Rattle.rules.specs.Sections.{framesOk}
 use Rattle.rules.specs.Questions.{question3, scanRoom}
-use Rattle.rules.specs.File.{saved, savedLength, save}
+use Rattle.rules.specs.File.{saved, savedLength, save, over}
 use Rattle.table.specs.Tables.{headersIn, framesIn}
 use Rattle.table.proofs.Frames.{frames-by}
 use Rattle.scanlaws.proofs.Parts.{frames-used}
@@ -21,7 +21,7 @@ use Rattle.filelaws.proofs.Length.{savedLength-is}
 use Rattle.index.specs.Needs.{Passes, scanIn, hintingIn, hintCounts}
 use Rattle.index.proofs.Four.{kinded-index}
 use Rattle.index.proofs.Questions.{passes, passes-long, held-is, hinting-is, hints-long, hint-space}
-use Rattle.index.specs.Index.{Tables, indexIn, kindsOk, over, refusal, roomIn}
+use Rattle.index.specs.Index.{Tables, indexIn, kindsOk, refusal, roomIn}
 use Rattle.save.specs.declared.Saved.the-variants.{Refused, Length}
 use Rattle.layout.specs.Layout.{Framed}
 use Rattle.save.specs.Save.{made, saveOut, saveIn}

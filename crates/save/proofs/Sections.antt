@@ -10,9 +10,8 @@ use Rattle.field.proofs.Number.{encode-length}
 use Rattle.fnv.specs.Fnv.{fnv64}
 use Rattle.rules.specs.declared.Header.{Header}
 use Rattle.rules.specs.declared.HintHeader.{HintHeader}
-use Rattle.rules.specs.File.{headerBytes, encodeHint, decodeHint, encodeConfirmation, decodeConfirmation}
+use Rattle.rules.specs.File.{headerBytes, encodeHint, decodeHint, encodeConfirmation, decodeConfirmation, over}
 use Rattle.filelaws.proofs.Layouts.{header-length, hint-layout, confirmation-layout}
-use Rattle.index.specs.Index.{over}
 use Rattle.write.specs.Write.{Put}
 use Rattle.write.proofs.Sections.{records-size, put-both, put-one, put-copy, put-over}
 use Rattle.save.specs.Steps.{hintBytes, confirmedBytes}

@@ -4,8 +4,8 @@ use mathlib.Core.List.{List}
 use lib.ListN.{length}
 use Rattle.rules.specs.declared.AreaIndex.{AreaIndex}
 use Rattle.rules.specs.Tests.{Answer, Refused, Accepted}
-use Rattle.rules.specs.File.{save}
-use Rattle.index.specs.Index.{Tables, roomOf, indexIn, kindsIn, kinded, over}
+use Rattle.rules.specs.File.{save, over}
+use Rattle.index.specs.Index.{Tables, roomOf, indexIn, kindsIn, kinded}
 use Rattle.save.specs.declared.Saved.{Saved}
 use Rattle.save.specs.declared.Saved.the-variants as answer
 

@@ -1,17 +1,17 @@
 // Rules that join the sections of a list: counts, held parts, frontier, end state and malformed LSNs; and questions asked in order.
+use checks::check_frames;
+use checks::check_lsns;
 use field::and;
 use field::min_u64;
 use field::not;
 use field::or;
+use part_checks::check_parts;
 use rules::Area;
 use rules::Checkpoint;
 use rules::End;
 use rules::EndState;
 use rules::MAX_MALFORMED_WARNINGS;
 use rules::MAX_NEXT_ACCEPTABLE;
-use checks::check_frames;
-use checks::check_lsns;
-use part_checks::check_parts;
 use table::get_checkpoint;
 ghost use mathlib.Core.Path.{_≡_};
 ghost use mathlib.Core.Bool.{true, _&&_};

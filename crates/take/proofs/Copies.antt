@@ -11,10 +11,9 @@ use Rattle.field.specs.Records.{records, bytesOf, Bytes}
 use Rattle.field.proofs.Bytes.{bytes-drop}
 use Rattle.field.proofs.Format.{Layout, bytes-records, bytesOf-append}
 use Rattle.field.proofs.Records.{records-length, drop-records}
-use Rattle.rules.specs.File.{decodeCheckpoint, decodeLsn}
+use Rattle.rules.specs.File.{decodeCheckpoint, decodeLsn, over}
 use Rattle.rules.proofs.Tests.{test}
 use Rattle.filelaws.proofs.Layouts.{checkpoint-layout, lsn-layout}
-use Rattle.index.specs.Index.{over}
 use Rattle.take.specs.Needs.{Put, withRest, Appends, Appended, Takes, Taken}
 
 -- the first bytes of a table over it

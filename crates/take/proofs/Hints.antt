@@ -15,13 +15,12 @@ use Rattle.field.proofs.Records.{records-length, records-take}
 use Rattle.rules.specs.declared.Area.{Area}
 use Rattle.rules.specs.declared.Hint.{Hint}
 use Rattle.rules.specs.Hints.{insertAll, joinedHints}
-use Rattle.rules.specs.File.{encodeHint, decodeHint}
+use Rattle.rules.specs.File.{encodeHint, decodeHint, over}
 use Rattle.rules.proofs.Tests.{test}
 use Rattle.hintlaws.proofs.Hints.{joined-none, joined-cases, limitedTo-keeps, insertAll-length}
 use Rattle.hintlaws.proofs.Thinning.{thin-length}
 use Rattle.filelaws.proofs.Layouts.{hint-layout}
 use Rattle.table.specs.Tables.{hintsIn}
-use Rattle.index.specs.Index.{over}
 use Rattle.hintmerge.specs.Merged.{joinedIn, touched, clearedTo}
 use Rattle.take.specs.Needs.{HintsReady, listed, writtenTo, hintsJoined}
 

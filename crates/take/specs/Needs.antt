@@ -15,10 +15,9 @@ use Rattle.rules.specs.Values.{used}
 use Rattle.rules.specs.Sections.{hintsOk}
 use Rattle.rules.specs.PartRule.{addParts}
 use Rattle.rules.specs.Hints.{joinedHints}
-use Rattle.rules.specs.File.{encodeCheckpoint, encodeLsn, encodeHint}
+use Rattle.rules.specs.File.{encodeCheckpoint, encodeLsn, encodeHint, over}
 use Rattle.rules.specs.Merge.{mergedFingerprint}
 use Rattle.table.specs.Tables.{checkpointsIn, lsnsIn, framesIn, partsIn, hintsIn}
-use Rattle.index.specs.Index.{over}
 use Rattle.sections.specs.Numbers.{idIn, idFrom}
 use Rattle.parts.specs.declared.Counts.{Counts}
 use Rattle.parts.specs.Parts.{PartTables, storedIn, Held, heldFrom}

@@ -15,7 +15,7 @@ use Rattle.rules.specs.declared.AreaIndex.{AreaIndex}
 use Rattle.rules.specs.Tests.{Answer, Refused, Accepted, ask, firstNo, after}
 use Rattle.rules.specs.Values.{Index, Lengths}
 use Rattle.rules.specs.Questions.{areaOk, question1, question3, four}
-use Rattle.rules.specs.File.{saved, savedLength, save}
+use Rattle.rules.specs.File.{saved, savedLength, save, over}
 use Rattle.rules.specs.Load.{fromBytes, limited, load}
 use Rattle.rules.proofs.Tests.{after→, accepted→, accepted-eq, asked→, →asked, bind→}
 use Rattle.filelaws.specs.Statements.{stripped, Savable}
@@ -26,7 +26,7 @@ use Rattle.filelaws.proofs.Loaded.{own-bytes, loaded-valid}
 use Rattle.filelaws.proofs.Question4.{saved-bytes}
 use Rattle.filelaws.proofs.Saved.{load-of-save}
 use Rattle.index.specs.declared.Made.the-variants as made
-use Rattle.index.specs.Index.{Tables, roomOf, indexIn, numbersFrom, tablesFrom, kindsIn, kinded, refusal, over, Out, out, outOf}
+use Rattle.index.specs.Index.{Tables, roomOf, indexIn, numbersFrom, tablesFrom, kindsIn, kinded, refusal, Out, out, outOf}
 use Rattle.index.specs.Lent.{Typed, TableBytes}
 use Rattle.index.proofs.Lent.{passes-savable}
 use Rattle.index.proofs.Questions.{passes}

@@ -14,7 +14,7 @@ use Rattle.rules.specs.declared.Area.{Area}
 use Rattle.rules.specs.Tests.{Answer, Refused, Accepted, after, firstNo, ask, numberOf}
 use Rattle.rules.specs.Values.{Index, Lengths, mergeRoom}
 use Rattle.rules.specs.Questions.{question3, hintingRoom, four}
-use Rattle.rules.specs.File.{decodeHint, saved, savedLength, save}
+use Rattle.rules.specs.File.{decodeHint, saved, savedLength, save, over}
 use Rattle.rules.specs.Load.{limited, load}
 use Rattle.rules.specs.Merge.{merged, merge, mergeNumber}
 use Rattle.rules.specs.Run.{Reading, Cut, Place, Call, Saved, State, begin, answered, mergeInto, mergeRefusal, justSaved, loadInto, step, run, replace}
@@ -22,7 +22,7 @@ use Rattle.rules.proofs.Tests.{test, all→, asked, and-left}
 use Rattle.filelaws.specs.Statements.{Savable}
 use Rattle.filelaws.proofs.Facts.{facts}
 use Rattle.filelaws.proofs.Limit.{limited-load}
-use Rattle.index.specs.Index.{Tables, roomOf, indexIn, kindsIn, kinded, numbersFrom, tablesFrom, tablesCleared, over, outOf}
+use Rattle.index.specs.Index.{Tables, roomOf, indexIn, kindsIn, kinded, numbersFrom, tablesFrom, tablesCleared, outOf}
 use Rattle.index.proofs.Standing.{stands, stands-cleared, kinds-from, within, room-from, room-cleared}
 use Rattle.save.specs.Save.{saveOut, saveIn}
 use Rattle.load.specs.Load.{loadIn}

@@ -12,7 +12,8 @@ use Rattle.rules.specs.Values.{Index}
 use Rattle.rules.specs.Questions.{question3}
 use Rattle.rules.specs.Load.{fromBytes}
 use Rattle.index.specs.declared.Made.the-variants as made
-use Rattle.index.specs.Index.{Tables, roomOf, indexIn, over, Out, out}
+use Rattle.rules.specs.File.{over}
+use Rattle.index.specs.Index.{Tables, roomOf, indexIn, Out, out}
 use Rattle.index.specs.Lent.{Typed, TableBytes}
 use Rattle.save.specs.declared.Saved.the-variants.{Length}
 use Rattle.save.specs.Save.{saveIn}

@@ -13,13 +13,12 @@ use Rattle.field.proofs.Format.{Layout}
 use Rattle.field.proofs.Records.{records-length}
 use Rattle.field.specs.Fields.{FieldsFit}
 use Rattle.rules.specs.Values.{Frame, used}
-use Rattle.rules.specs.File.{encodeFrame, encodeFrameHeader}
+use Rattle.rules.specs.File.{encodeFrame, encodeFrameHeader, over}
 use Rattle.table.specs.declared.FrameHeader.{FrameHeader}
 use Rattle.table.specs.Tables.{decodeHeader, headersIn, frameOf, framesOf, framesIn}
 use Rattle.table.proofs.Walk.{records-turn}
 use Rattle.table.proofs.Frames.{stretch-length, stretch-within, frames-length, frames-used, weight, weight-on}
 use Rattle.filelaws.proofs.Readers.{frame-length}
-use Rattle.index.specs.Index.{over}
 use Rattle.write.specs.Write.{Put}
 use Rattle.write.proofs.Sections.{put-both, put-copy, put-over}
 

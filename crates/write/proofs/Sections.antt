@@ -13,11 +13,11 @@ use Rattle.field.proofs.Bytes.{sets-more}
 use Rattle.field.proofs.Number.{encode-length, put-sets}
 use Rattle.field.proofs.Records.{records-length}
 use Rattle.field.proofs.Format.{Layout, bytesOf-length, written}
-use Rattle.rules.specs.File.{encodeHeld, decodeHeld}
+use Rattle.rules.specs.File.{encodeHeld, decodeHeld, over}
 use Rattle.table.specs.Tables.{partsIn}
 use Rattle.filelaws.proofs.Layouts.{held-length}
 use Rattle.filelaws.proofs.Length.{length-each}
-use Rattle.index.specs.Index.{kindsOk, over}
+use Rattle.index.specs.Index.{kindsOk}
 use Rattle.index.proofs.Lent.{parts-bytes}
 use Rattle.write.specs.Write.{Put}
 

@@ -8,9 +8,9 @@ ghost use Prim.Native.Nat.{_+_, _*_, _≤_};
 ghost use lib.ListN.{length, drop};
 ghost use Rattle.field.specs.Records.{bytesOf, recordAt};
 ghost use Rattle.rules.specs.Values.{used};
-ghost use Rattle.rules.specs.File.{encodeCheckpoint, encodeFrame, encodeHeld, encodeLsn, encodeHint, encodeConfirmation};
+ghost use Rattle.rules.specs.File.{encodeCheckpoint, encodeFrame, encodeHeld, encodeLsn, encodeHint, encodeConfirmation, over};
 ghost use Rattle.table.specs.Tables.{checkpointsIn, partsIn, lsnsIn, hintsIn, confirmationsIn, framesIn, decodeHeader, frameOf};
-ghost use Rattle.index.specs.Index.{kindsOk, over};
+ghost use Rattle.index.specs.Index.{kindsOk};
 ghost use Rattle.write.specs.Write.{Put};
 
 // ---- the first n records of a table, over the start of the stretch that is lent

@@ -1,7 +1,7 @@
 use Rattle.rules.specs.Values.{isChecked}
 use borrow.Author.Needs.{needs}
-use Rattle.join.proofs.is_checked.Statement.{statement}
-use Rattle.join.proofs.is_checked.Tie as tie
+use Rattle.index.proofs.is_checked.Statement.{statement}
+use Rattle.index.proofs.is_checked.Tie as tie
 
 returns : tie.Need-returns
 unfolding isChecked
