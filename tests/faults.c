@@ -110,6 +110,24 @@ static File plain(File f)
     return f;
 }
 
+/* The same as a version 2 file that adds the fingerprint alone. */
+static File known(File f)
+{
+    put(&f, 8, 2, 4);
+    put(&f, f.hinting + 16, 0, 4);
+    f.end = f.hinting + 24;
+    return f;
+}
+
+/* Every checkpoint, and no end state. */
+static File unended(File f)
+{
+    put(&f, 14, 2, 1);
+    put(&f, 64, 0, 4);
+    put(&f, 72, 0, 8);
+    return f;
+}
+
 /* 5,000 malformed sectors counted, 4,096 of them listed. */
 static File capped(void)
 {
@@ -275,6 +293,8 @@ static void right(const File *f, const File *whole)
     write_file("none", plain(make(0, 50)));
     write_file("one", plain(make(1, 50)));
     write_file("two", plain(make(2, 50)));
+    write_file("known", known(make(2, 50)));
+    write_file("unended", unended(*whole));
     write_file("capped", capped());
     changed("multichannel", *whole, 12, 1, 1);
     changed("lower-threshold", *f, f->confirmed + 12, 44, 4);
