@@ -1,0 +1,1 @@
+// What an absorb asks of an index and a recorder in their tables.
