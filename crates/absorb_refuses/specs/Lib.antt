@@ -1,1 +1,2 @@
 pub mod Absorb
+pub mod Needs
