@@ -19,7 +19,7 @@ ghost use Rattle.rules.specs.Merge.{mergedFingerprint};
 ghost use Rattle.rules.specs.declared.Fingerprint.the-variants.{Unknown};
 ghost use Rattle.sections.specs.Numbers.{idIn, idFrom};
 ghost use Rattle.parts.specs.Parts.{partTables, held};
-ghost use Rattle.take.specs.Needs.{Appends, Appended, Takes, Taken, PartsReady, partsTaken, HintsReady, hintsJoined, numbersBy, listed};
+ghost use Rattle.take.specs.Needs.{AppendsFrom, AppendedFrom, Appends, Appended, Takes, Taken, HeldReady, heldTaken, PartsReady, partsTaken, HintsReady, hintsJoined, numbersBy, listed};
 
 // ---- by value
 // m where go holds, else n.
@@ -29,18 +29,15 @@ fn chosen(go: bool, m: u32, n: u32) -> u32
     if go { m } else { n }
 }
 
-// How many of m are past the first n, where go holds, else 0.
-fn past(go: bool, n: u32, m: u32) -> u32
-    ensures { λ r. ⌜ r ≡ cond go (m - n) 0 ⌝ }
+// How many of m are past the first i.
+fn past(m: u32, i: u32) -> u32
+    ensures { λ r. ⌜ r ≡ m - i ⌝ }
 {
-    if !go {
-        return 0;
-    }
-    if m < n { 0 } else { m - n }
+    if m < i { 0 } else { m - i }
 }
 
 // The own image id, or the other's where there is none.
-fn image_of(a: ImageId, b: ImageId) -> ImageId
+pub fn image_of(a: ImageId, b: ImageId) -> ImageId
     ensures { λ r. ⌜ r ≡ idFrom (orElse (idIn a) (idIn b)) ⌝ }
 {
     match a {
@@ -79,16 +76,24 @@ fn ending_of(go: bool, a: End, b: End) -> End
 }
 
 // ---- table by table
+// The other's checkpoints from number i on behind the n of t. Answers how many there are then.
+pub fn append_from(t: &mut [u8], n: u32, other: &[u8], m: u32, i: u32) -> u32
+    requires { ⌜ AppendsFrom n m i (now t) (now other) ⌝ }
+    ensures { λ r. ⌜ AppendedFrom n m i (now (t .entry)) (now (other .entry)) r (now (t .exit)) ⌝ }
+{
+    let k = past(m, i);
+    let at = n as usize * 24;
+    let from = (m - k) as usize * 24;
+    copy_part(t, at, other, from, k as usize * 24);
+    n + k
+}
+
 // The other's checkpoints past the first n, where go holds, behind the n of t. Answers how many there are then.
 pub fn append_checkpoints(t: &mut [u8], n: u32, other: &[u8], m: u32, go: bool) -> u32
     requires { ⌜ Appends go n m (now t) (now other) ⌝ }
     ensures { λ r. ⌜ Appended go n m (now (t .entry)) (now (other .entry)) r (now (t .exit)) ⌝ }
 {
-    let k = past(go, n, m);
-    let at = n as usize * 24;
-    let from = taken(go, n) as usize * 24;
-    copy_part(t, at, other, from, k as usize * 24);
-    n + k
+    append_from(t, n, other, taken(go, m), n)
 }
 
 // The other's malformed LSNs over those of t, where go holds. Answers how many there are then.
@@ -99,6 +104,41 @@ pub fn take_malformed(t: &mut [u8], n: u32, other: &[u8], m: u32, go: bool) -> u
     let k = taken(go, m);
     copy_first(t, other, k as usize * 4);
     chosen(go, m, n)
+}
+
+// The own frames and parts, and the first h parts of another list, with f frames, for the checkpoints that are appended.
+pub fn take_held(
+    x: AreaIndex,
+    f: u32,
+    h: u32,
+    headers: &[u8],
+    other: &[u8],
+    theirs: &[u8],
+    frames: &mut [u8],
+    store: &mut [u8],
+    parts: &mut [u8],
+) -> Counts
+    requires { ⌜ HeldReady x f h (partTables (now frames) (now store) (now parts)) (partTables (now headers) (now other) (now theirs)) ⌝ }
+    ensures { λ r. ⌜ held r (partTables (now (frames .exit)) (now (store .exit)) (now (parts .exit))) ≡ heldTaken x f h (partTables (now (frames .entry)) (now (store .entry)) (now (parts .entry))) (partTables (now (headers .entry)) (now (other .entry)) (now (theirs .entry))) ⌝ }
+{
+    let c = Counts {
+        frames: x.frames,
+        parts: x.parts,
+        used: used_bytes(frames, x.frames),
+    };
+    add_parts(
+        x.budget,
+        x.checkpoints,
+        c,
+        f,
+        h,
+        headers,
+        other,
+        theirs,
+        frames,
+        store,
+        parts,
+    )
 }
 
 // The own frames and parts, and where go holds the other's for the checkpoints that are appended.
@@ -116,25 +156,8 @@ pub fn take_parts(
     requires { ⌜ PartsReady go x y (partTables (now frames) (now store) (now parts)) (partTables (now headers) (now other) (now theirs)) ⌝ }
     ensures { λ r. ⌜ held r (partTables (now (frames .exit)) (now (store .exit)) (now (parts .exit))) ≡ partsTaken go x y (partTables (now (frames .entry)) (now (store .entry)) (now (parts .entry))) (partTables (now (headers .entry)) (now (other .entry)) (now (theirs .entry))) ⌝ }
 {
-    let c = Counts {
-        frames: x.frames,
-        parts: x.parts,
-        used: used_bytes(frames, x.frames),
-    };
     let h = taken(go, y.parts);
-    add_parts(
-        x.budget,
-        x.checkpoints,
-        c,
-        y.frames,
-        h,
-        headers,
-        other,
-        theirs,
-        frames,
-        store,
-        parts,
-    )
+    take_held(x, y.frames, h, headers, other, theirs, frames, store, parts)
 }
 
 // The m hints of another list joined to the n held ones.
