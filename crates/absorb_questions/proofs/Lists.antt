@@ -18,7 +18,7 @@ use Rattle.rules.proofs.Same.{eqb-self}
 use Rattle.absorb_questions.specs.Needs.{listIn}
 
 -- none of a list that rises from the bound on lies below it
-below-past : (b end s : ℕ) (ls : List ℕ) → walk (risingOk ownLsn anyLsn end) (risen ownLsn) s ls ≡ true → b ≤ s → below b ls ≡ []
+pub below-past : (b end s : ℕ) (ls : List ℕ) → walk (risingOk ownLsn anyLsn end) (risen ownLsn) s ls ≡ true → b ≤ s → below b ls ≡ []
 unfolding below
 below-past b end s [] w h = refl
 below-past b end s (l ∷ ls) w h =
