@@ -34,6 +34,7 @@ use Rattle.recorder.specs.Recorder.{RecorderTables, recorderIn, recorderKinds}
 use Rattle.recorder.specs.Needs.{recorderHeld}
 use Rattle.recorder.specs.Needs as recorder
 use Rattle.recorder.proofs.Calls.{passes-roomy, passes-held, passes-long}
+use Rattle.absorb_questions.specs.Needs.{nineIn}
 use Rattle.take.specs.Needs.{AppendsFrom, HeldReady}
 use Rattle.absorb_commit.specs.Needs.{Ready}
 
@@ -88,11 +89,11 @@ module _ {x : AreaIndex} {t : Tables} {r : Recorder} {u : RecorderTables} {ms : 
   their-store = leb-true _ _ (all→ _ (passes-roomy r u refl (k .recorder) .room) .1 .1 .1 .0)
 
   areas : x .area ≡ r .area
-  unfolding question9
+  unfolding nineIn question9
   areas = sameArea-eq (x .area) (r .area) (all→ _ (k .same) .0)
 
   intervals : x .interval ≡ r .interval
-  unfolding question9
+  unfolding nineIn question9
   intervals = eqb-true (x .interval) (r .interval) (all→ _ (k .same) .1 .0)
 
   their-few : r .first + r .checkpoints ≤ boundaries (x .area) (x .interval)

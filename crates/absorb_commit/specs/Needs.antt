@@ -15,7 +15,7 @@ use Rattle.rules.specs.Tests.{orElse}
 use Rattle.rules.specs.Values.{maxMalformed, max32, boundaries, frontierOf}
 use Rattle.rules.specs.Sections.{rising, ownLsn, anyLsn}
 use Rattle.rules.specs.Questions.{areaOk, numbersOk, scanOk}
-use Rattle.rules.specs.Record.{question9, below, moves}
+use Rattle.rules.specs.Record.{below, moves}
 use Rattle.rules.specs.File.{encodeLsn}
 use Rattle.table.specs.Tables.{lsnsIn}
 use Rattle.index.specs.Index.{Tables, tables, indexIn, kindsIn}
@@ -24,7 +24,7 @@ use Rattle.sections.specs.Numbers.{endIn, idIn, idFrom}
 use Rattle.parts.specs.declared.Counts.{Counts}
 use Rattle.recorder.specs.Recorder.{RecorderTables, recorderIn, recorderRefusal}
 use Rattle.take.specs.Needs.{Put}
-use Rattle.absorb_questions.specs.Needs.{givenIn}
+use Rattle.absorb_questions.specs.Needs.{givenIn, nineIn}
 
 -- the tables of a scan: an index's without hints and confirmations
 abbrev pub scanTables : List ℕ → List ℕ → List ℕ → List ℕ → List ℕ → Tables
@@ -39,7 +39,7 @@ pub record Ready (x : AreaIndex) (t : Tables) (r : Recorder) (u : RecorderTables
   pub scan : scanOk (indexIn x t .scan) ≡ true
   pub kinds : kindsIn x t ≡ true
   pub recorder : recorderRefusal r u ≡ 0
-  pub same : question9 (indexIn x t) (recorderIn r u) ≡ true
+  pub same : nineIn x r ≡ true
   pub joins : r .first ≤ x .checkpoints
   pub rises : moves (indexIn x t .scan) (recorderIn r u) ≡ true → rising ownLsn anyLsn 0 (max32 + 1) (givenIn ms) ≡ true
 

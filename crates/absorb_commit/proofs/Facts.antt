@@ -1,0 +1,96 @@
+-- What `commit` needs holds where nothing refuses an absorb. Assumes nothing.
+use mathlib.Core.Path.{_≡_, refl, sym, _∙_}
+use mathlib.Core.Bool.{Bool, true, false, _&&_}
+use mathlib.Core.List.{List}
+use Prim.Native.Nat.{ℕ, _+_, _≤_}
+use native.Mathlib.Omega.{arith}
+use lib.Dec.{leb, ltb}
+use lib.ListN.{length}
+use borrow.Author.Tests.{leb-true}
+use Rattle.field.specs.Records.{Bytes}
+use Rattle.field.proofs.Format.{bytes-records}
+use Rattle.field.proofs.Records.{records-length}
+use Rattle.rules.specs.declared.AreaIndex.{AreaIndex}
+use Rattle.rules.specs.declared.ImageId.{ImageId}
+use Rattle.rules.specs.declared.Recorder.{Recorder}
+use Rattle.rules.specs.Values.{max32}
+use Rattle.rules.specs.Sections.{rising, ownLsn, anyLsn}
+use Rattle.rules.specs.Questions.{scanOk, question4}
+use Rattle.rules.specs.Record.{question9, question10, question12, moves, absorbNumber}
+use Rattle.rules.specs.File.{decodeCheckpoint}
+use Rattle.rules.proofs.Tests.{test, and-left, implied, all→, asked}
+use Rattle.scanlaws.proofs.Absorb.{unstopped}
+use Rattle.scanlaws.proofs.Scans.{scan-of}
+use Rattle.filelaws.proofs.Layouts.{hint-layout, confirmation-layout}
+use Rattle.sections.specs.Numbers.{idIn}
+use Rattle.index.specs.Index.{Tables, roomOf, indexIn, kindsIn, orFour, kindedNumber}
+use Rattle.index.specs.Needs.{Passes, heldQuestion4}
+use Rattle.index.proofs.Lent.{over-same}
+use Rattle.index.proofs.Numbers.{first}
+use Rattle.index.proofs.Questions.{space, room-is, passes, passes-kinds, passes-hints}
+use Rattle.recorder.specs.Recorder.{RecorderTables, recorderRoom, recorderIn, recorderKinds}
+use Rattle.absorb_questions.specs.Needs.{givenIn, nineIn}
+use Rattle.absorb_refuses.specs.Absorb.{absorbRefusal, Absorbs}
+use Rattle.absorb_refuses.proofs.Refusal.{passed}
+use Rattle.absorb_commit.specs.Commit.{Kept}
+use Rattle.absorb_commit.specs.Needs.{scanTables, Ready}
+
+-- no number with the kind bytes is no number of the rules
+kinded-zero : (ok : Bool) (n : ℕ) → kindedNumber ok n ≡ 0 → n ≡ 0
+unfolding kindedNumber orFour
+kinded-zero true n e = e
+kinded-zero false n e = test (ltb 0 n && leb n 3) (λ y. rw y at e) (λ y. let z : 4 ≡ 0 = rw y at e in let f : ⊥ = omega arith in absurd f)
+
+module _ {x : AreaIndex} {t : Tables} {image : ImageId} {given : List ℕ} {r : Recorder} {u : RecorderTables} (a : Absorbs x t image given r u) where
+  number-zero : absorbNumber (roomOf t) (indexIn x t) (recorderRoom u) (recorderIn r u) (idIn image) (givenIn given) ≡ 0
+  unfolding absorbRefusal
+  number-zero = kinded-zero (kindsIn x t && recorderKinds r u) _ (a .accepted)
+
+  nine : nineIn x r ≡ true
+  unfolding nineIn question9
+  nine = unstopped (recorderIn r u) _ (a .brings) (asked _ refl number-zero .1 .1 .1 .1 .1 .0)
+
+  ten : question10 (indexIn x t) (recorderIn r u) ≡ true
+  ten = unstopped (recorderIn r u) _ (a .brings) (asked _ refl number-zero .1 .1 .1 .1 .1 .1 .0)
+
+  twelve : question12 (indexIn x t) (recorderIn r u) (idIn image) (givenIn given) ≡ true
+  twelve = unstopped (recorderIn r u) _ (a .brings) (asked _ refl number-zero .1 .1 .1 .1 .1 .1 .1 .1 .0)
+
+  own-passes : Passes x t
+  own-passes = passes x t (passed x t image given r u (a .accepted) .0)
+
+  joins : r .first ≤ x .checkpoints
+  unfolding question10
+  joins = let l : r .first ≤ length (indexIn x t .scan .checkpoints) = leb-true _ _ (all→ _ ten .1 .0) in let n = records-length 24 decodeCheckpoint (x .checkpoints) (t .checkpoints) in omega arith
+
+  rises : moves (indexIn x t .scan) (recorderIn r u) ≡ true → rising ownLsn anyLsn 0 (max32 + 1) (givenIn given) ≡ true
+  unfolding question12
+  rises m = all→ _ (implied (moves (indexIn x t .scan) (recorderIn r u)) _ twelve m) .0
+
+  scan-holds : scanOk (indexIn x t .scan) ≡ true
+  unfolding heldQuestion4
+  scan-holds = scan-of (indexIn x t) (and-left (question4 (indexIn x t)) (kindsIn x t) (own-passes .held))
+
+  pub ready : Ready x (scanTables (t .checkpoints) (t .frames) (t .store) (t .parts) (t .malformed)) r u given
+  ready =
+      record {
+        area = own-passes .roomy .area;
+        numbers = own-passes .roomy .numbers;
+        space = first _ _ (sym (room-is x t) ∙ own-passes .roomy .room);
+        room = space (own-passes .roomy) .malformed;
+        scan = scan-holds;
+        kinds = passes-kinds own-passes;
+        recorder = passed x t image given r u (a .accepted) .1;
+        same = nine;
+        joins = joins;
+        rises = rises;
+      }
+
+  -- hints and confirmations stay
+  pub kept : Bytes (t .hints) → Bytes (t .confirmed) → Kept x (t .hints) (t .confirmed)
+  kept b c =
+      let l = passes-hints own-passes in
+      record {
+        hints = over-same _ _ (t .hints) (l .hints) (bytes-records hint-layout (x .hints) (t .hints) b (l .hints));
+        confirmed = over-same _ _ (t .confirmed) (l .confirmed) (bytes-records confirmation-layout (x .confirmed) (t .confirmed) c (l .confirmed));
+      }
