@@ -1,2 +1,3 @@
-pub mod Blocks
 pub mod Answers
+pub mod RecorderAnswers
+pub mod HintAnswers

@@ -1,5 +1,6 @@
 // What the player's C program calls: each call over blocks and lent tables, answered by a number.
 use block::area_from;
+use block::hint_recorder_in;
 use block::index_in;
 use block::put_area;
 use block::put_brings;
@@ -7,13 +8,26 @@ use block::put_first;
 use block::put_made;
 use block::put_plan;
 use block::put_sizes;
+use block::recorder_in;
 use block::saved_number;
 use head::HEAD_BYTES;
+use recorder_block::frame_from;
+use recorder_block::put_created;
+use recorder_block::put_kept;
+use recorder_block::put_recorded;
+use recorder_block::put_seen;
+use recorder_block::put_taken;
+use rules::EndState;
 ghost use mathlib.Core.Path.{_≡_};
 ghost use Rattle.fnv.specs.Fnv.{fnv64};
 ghost use Rattle.index.specs.Index.{tables};
+ghost use Rattle.recorder.specs.Recorder.{recorderTables};
+ghost use Rattle.keeping.specs.Keeping.{given};
 ghost use Rattle.block.specs.Block.{called, areaFrom};
+ghost use Rattle.recorder_block.specs.Block.{frameFrom, calledBoth};
 ghost use Rattle.player.specs.Calls.{calledOver, mergeCall, addsCall, addHintsCall, newCall, loadCall, fingerprintCall, planCall, saveCall, lengthCall, sizesCall, fileSizesCall, fileAreaCall, firstCall};
+ghost use Rattle.player.specs.RecorderCalls.{calledFour, endState, recorderCall, recordCall, finishCall};
+ghost use Rattle.player.specs.HintCalls.{calledList, calledKept, hintRecorderCall, seeCall, flushCall, takeCall, keepCall};
 
 // ---- sums, sectors and sizes
 // The sum of bytes.
@@ -455,4 +469,228 @@ pub extern "C" fn seek_raw_add_hints(
         confirmed,
     );
     put_made(head, made)
+}
+
+// ---- recorders
+// The recorder of a list, from an LSN on, into its block.
+#[no_mangle]
+pub extern "C" fn seek_raw_recorder(
+    head: &[u8],
+    from: u64,
+    block: &mut [u8],
+    checkpoints: &[u8],
+    frames: &[u8],
+    store: &[u8],
+    parts: &[u8],
+    malformed: &[u8],
+    hints: &[u8],
+    confirmed: &[u8],
+) -> u32
+    ensures { λ r. ⌜ called r (now (block .exit)) ≡ recorderCall (now (head .entry)) from (now (block .entry)) (tables (now (checkpoints .entry)) (now (frames .entry)) (now (store .entry)) (now (parts .entry)) (now (malformed .entry)) (now (hints .entry)) (now (confirmed .entry))) ⌝ }
+{
+    if head.len() < HEAD_BYTES {
+        return 3;
+    }
+    if block.len() < HEAD_BYTES {
+        return 3;
+    }
+    let x = index_in(head);
+    let made = recorder::recorder(
+        x,
+        from,
+        checkpoints,
+        frames,
+        store,
+        parts,
+        malformed,
+        hints,
+        confirmed,
+    );
+    put_recorded(block, made)
+}
+
+// A checkpoint at the due LSN; mark, start, number, kind, remaining and bytes are those of the frame under assembly.
+#[no_mangle]
+pub extern "C" fn seek_raw_record(
+    block: &mut [u8],
+    lsn: u64,
+    threshold: u32,
+    malformed: u64,
+    mark: u8,
+    start: u64,
+    number: u32,
+    kind: u8,
+    remaining: i32,
+    bytes: &[u8],
+    sector: &[u8],
+    checkpoints: &mut [u8],
+    frames: &mut [u8],
+    store: &mut [u8],
+    parts: &mut [u8],
+) -> u32
+    ensures { λ r. ⌜ calledFour r (now (block .exit)) (recorderTables (now (checkpoints .exit)) (now (frames .exit)) (now (store .exit)) (now (parts .exit))) ≡ recordCall (now (block .entry)) lsn threshold malformed (frameFrom mark start number kind remaining) (now (bytes .entry)) (now (sector .entry)) (recorderTables (now (checkpoints .entry)) (now (frames .entry)) (now (store .entry)) (now (parts .entry))) ⌝ }
+{
+    if block.len() < HEAD_BYTES {
+        return 3;
+    }
+    let r = recorder_in(block);
+    let frame = frame_from(mark, start, number, kind, remaining);
+    let made = record::record(
+        r,
+        lsn,
+        threshold,
+        malformed,
+        frame,
+        bytes,
+        sector,
+        checkpoints,
+        frames,
+        store,
+        parts,
+    );
+    put_recorded(block, made)
+}
+
+// The end state of a recorder that passed every boundary.
+#[no_mangle]
+pub extern "C" fn seek_raw_finish(
+    block: &mut [u8],
+    threshold: u32,
+    malformed: u64,
+    checkpoints: &[u8],
+    frames: &[u8],
+    store: &[u8],
+    parts: &[u8],
+) -> u32
+    ensures { λ r. ⌜ called r (now (block .exit)) ≡ finishCall (now (block .entry)) (endState threshold malformed) (recorderTables (now (checkpoints .entry)) (now (frames .entry)) (now (store .entry)) (now (parts .entry))) ⌝ }
+{
+    if block.len() < HEAD_BYTES {
+        return 3;
+    }
+    let r = recorder_in(block);
+    let e = EndState {
+        threshold,
+        malformed,
+    };
+    let made = recorder::finish(r, e, checkpoints, frames, store, parts);
+    put_recorded(block, made)
+}
+
+// ---- hint recorders and confirmations
+// The hint recorder of a list, into its block; 24 words of 0 where there is none.
+#[no_mangle]
+pub extern "C" fn seek_raw_hint_recorder(
+    head: &[u8],
+    block: &mut [u8],
+    checkpoints: &[u8],
+    frames: &[u8],
+    store: &[u8],
+    parts: &[u8],
+    malformed: &[u8],
+    hints: &[u8],
+    confirmed: &[u8],
+) -> u32
+    ensures { λ r. ⌜ called r (now (block .exit)) ≡ hintRecorderCall (now (head .entry)) (now (block .entry)) (tables (now (checkpoints .entry)) (now (frames .entry)) (now (store .entry)) (now (parts .entry)) (now (malformed .entry)) (now (hints .entry)) (now (confirmed .entry))) ⌝ }
+{
+    if head.len() < HEAD_BYTES {
+        return 3;
+    }
+    if block.len() < HEAD_BYTES {
+        return 3;
+    }
+    let x = index_in(head);
+    let made = hinting::hint_recorder(
+        x,
+        checkpoints,
+        frames,
+        store,
+        parts,
+        malformed,
+        hints,
+        confirmed,
+    );
+    put_created(block, made)
+}
+
+// A sector seen at an LSN.
+#[no_mangle]
+pub extern "C" fn seek_raw_see(block: &mut [u8], lsn: u64, sector: &[u8], list: &mut [u8]) -> u32
+    ensures { λ r. ⌜ calledList r (now (block .exit)) (now (list .exit)) ≡ seeCall (now (block .entry)) lsn (now (sector .entry)) (now (list .entry)) ⌝ }
+{
+    if block.len() < HEAD_BYTES {
+        return 3;
+    }
+    let r = hint_recorder_in(block);
+    let made = hinting::see(r, lsn, sector, list);
+    put_seen(block, made)
+}
+
+// The tail listed.
+#[no_mangle]
+pub extern "C" fn seek_raw_flush(block: &mut [u8], list: &mut [u8]) -> u32
+    ensures { λ r. ⌜ calledList r (now (block .exit)) (now (list .exit)) ≡ flushCall (now (block .entry)) (now (list .entry)) ⌝ }
+{
+    if block.len() < HEAD_BYTES {
+        return 3;
+    }
+    let r = hint_recorder_in(block);
+    let made = hinting::flush(r, list);
+    put_seen(block, made)
+}
+
+// The list taken: how many hints of its table is the answer's first word.
+#[no_mangle]
+pub extern "C" fn seek_raw_take(block: &mut [u8], answer: &mut [u8], list: &[u8]) -> u32
+    ensures { λ r. ⌜ calledBoth r (now (block .exit)) (now (answer .exit)) ≡ takeCall (now (block .entry)) (now (answer .entry)) (now (list .entry)) ⌝ }
+{
+    if block.len() < HEAD_BYTES {
+        return 3;
+    }
+    if answer.len() < HEAD_BYTES {
+        return 3;
+    }
+    let r = hint_recorder_in(block);
+    let taken = hinting::take(r, list);
+    put_taken(block, answer, taken)
+}
+
+// A confirmation kept by its rule: the answer's first word is 1, or 0 where nothing is kept.
+#[no_mangle]
+pub extern "C" fn seek_raw_keep_confirmation(
+    head: &mut [u8],
+    lsn: u64,
+    threshold: u32,
+    digest: u64,
+    answer: &mut [u8],
+    checkpoints: &[u8],
+    frames: &[u8],
+    store: &[u8],
+    parts: &[u8],
+    malformed: &[u8],
+    hints: &[u8],
+    confirmed: &mut [u8],
+) -> u32
+    ensures { λ r. ⌜ calledKept r (now (head .exit)) (now (answer .exit)) (tables (now (checkpoints .entry)) (now (frames .entry)) (now (store .entry)) (now (parts .entry)) (now (malformed .entry)) (now (hints .entry)) (now (confirmed .exit))) ≡ keepCall (now (head .entry)) (given lsn threshold digest) (now (answer .entry)) (tables (now (checkpoints .entry)) (now (frames .entry)) (now (store .entry)) (now (parts .entry)) (now (malformed .entry)) (now (hints .entry)) (now (confirmed .entry))) ⌝ }
+{
+    if head.len() < HEAD_BYTES {
+        return 3;
+    }
+    if answer.len() < HEAD_BYTES {
+        return 3;
+    }
+    let x = index_in(head);
+    let kept = keeping::keep_confirmation(
+        x,
+        lsn,
+        threshold,
+        digest,
+        checkpoints,
+        frames,
+        store,
+        parts,
+        malformed,
+        hints,
+        confirmed,
+    );
+    put_kept(head, answer, kept)
 }

@@ -1,0 +1,32 @@
+-- What each call answers where its blocks are long enough, from what the calls in it ensure. Assumes nothing.
+use mathlib.Core.Path.{_≡_}
+use mathlib.Core.List.{List}
+use Prim.Native.Nat.{ℕ, _≤_}
+use lib.ListN.{length}
+use Rattle.rules.specs.declared.AreaIndex.{AreaIndex}
+use Rattle.rules.specs.declared.EndState.{EndState}
+use Rattle.rules.specs.declared.Recorder.{Recorder}
+use Rattle.rules.specs.declared.UnderAssembly.{UnderAssembly}
+use Rattle.index.specs.Index.{Tables}
+use Rattle.recorder.specs.declared.Recorded.{Recorded}
+use Rattle.recorder.specs.Recorder.{RecorderTables, startedIn, finishedIn}
+use Rattle.record.specs.Record.{recorderOut, recordIn}
+use Rattle.block.specs.Block.{called, headIndex, headRecorder}
+use Rattle.block.proofs.Blocks.{long-enough}
+use Rattle.player.specs.RecorderCalls.{calledFour, recordedInto, recorderCall, recordCall, finishCall}
+
+module _ (b b' : List ℕ) (n : ℕ) (l : 192 ≤ length b) (q : Recorded) (p : called n b' ≡ recordedInto b q) where
+  pub recorder-done : (h : List ℕ) → 192 ≤ length h → (x : AreaIndex) (t : Tables) (from : ℕ) → q ≡ startedIn x t from → x ≡ headIndex h
+      → called n b' ≡ recorderCall h from b t
+  unfolding recorderCall
+  recorder-done h g x t from e z = long-enough h _ _ g (long-enough b _ _ l (rw (e, z) at p))
+
+  pub finish-done : (r : Recorder) (t : RecorderTables) (s : EndState) → q ≡ finishedIn r t s → r ≡ headRecorder b → called n b' ≡ finishCall b s t
+  unfolding finishCall
+  finish-done r t s e z = long-enough b _ _ l (rw (e, z) at p)
+
+  pub record-done : (r : Recorder) (t t' : RecorderTables) (lsn threshold malformed : ℕ) (f g : UnderAssembly) (bytes sector : List ℕ)
+      → recorderOut q t' ≡ recordIn r t lsn threshold malformed f bytes sector → r ≡ headRecorder b → f ≡ g
+      → calledFour n b' t' ≡ recordCall b lsn threshold malformed g bytes sector t
+  unfolding recordCall
+  record-done r t t' lsn threshold malformed f g bytes sector e z w = long-enough b _ _ l (rw (← z, ← w, ← e, p))

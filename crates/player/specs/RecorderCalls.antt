@@ -1,0 +1,43 @@
+-- What each call of recorders answers, and its block and tables afterwards: the call below it on the values in blocks and tables.
+use Prim.Native.Nat.{ℕ}
+use mathlib.Core.List.{List}
+use Rattle.rules.specs.declared.EndState.{EndState}
+use Rattle.rules.specs.declared.UnderAssembly.{UnderAssembly}
+use Rattle.head.specs.Head.{recorderWords}
+use Rattle.index.specs.Index.{Tables}
+use Rattle.recorder.specs.declared.Recorded.{Recorded}
+use Rattle.recorder.specs.Recorder.{RecorderTables, startedIn, finishedIn}
+use Rattle.record.specs.Record.{RecorderOut, recordIn}
+use Rattle.block.specs.Block.{Called, called, into, inBlock, headIndex, headRecorder}
+use Rattle.recorder_block.specs.Block.{recordedOf}
+
+abbrev pub endState : ℕ → ℕ → EndState
+endState threshold malformed = record { threshold = threshold; malformed = malformed }
+
+-- a recorder into its block
+abbrev pub recordedInto : List ℕ → Recorded → Called
+recordedInto block r = into recorderWords block (recordedOf r)
+
+-- with the recorder's tables, where they are written
+pub record CalledFour : Type 0 where
+  pub call : Called
+  pub tables : RecorderTables
+
+abbrev pub withFour : Called → RecorderTables → CalledFour
+withFour c t = record { call = c; tables = t }
+
+abbrev pub calledFour : ℕ → List ℕ → RecorderTables → CalledFour
+calledFour n b t = withFour (called n b) t
+
+-- the block is the recorder's
+unfoldable pub recorderCall : List ℕ → ℕ → List ℕ → Tables → Called
+recorderCall head from block t =
+    inBlock head (called 3 block) (inBlock block (called 3 block) (recordedInto block (startedIn (headIndex head) t from)))
+
+unfoldable pub recordCall : List ℕ → ℕ → ℕ → ℕ → UnderAssembly → List ℕ → List ℕ → RecorderTables → CalledFour
+recordCall block lsn threshold malformed f bytes sector t =
+    let o = recordIn (headRecorder block) t lsn threshold malformed f bytes sector in
+    inBlock block (calledFour 3 block t) (withFour (recordedInto block (o .answer)) (o .tables))
+
+unfoldable pub finishCall : List ℕ → EndState → RecorderTables → Called
+finishCall block e t = inBlock block (called 3 block) (recordedInto block (finishedIn (headRecorder block) t e))
