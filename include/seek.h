@@ -165,6 +165,22 @@ typedef struct {
     uint64_t checkpoints, frames, store, parts, malformed, hints, confirmed;
 } seek_table_sizes;
 
+/* A recorder: the checkpoints of one pass over the disc, until a list absorbs them. Its block, and four tables of the sizes that the list's have. */
+typedef struct {
+    uint8_t block[SEEK_BLOCK];
+    seek_table checkpoints;
+    seek_table frames;
+    seek_table store;
+    seek_table parts;
+} seek_recorder;
+
+/* A hint recorder: the frame starts of one pass over the disc, until a list adds them. Its block, and a table of 65,536 hints. */
+#define SEEK_HINT_LIST 524288
+typedef struct {
+    uint8_t block[SEEK_BLOCK];
+    seek_table list;          /* 8 bytes each */
+} seek_hint_recorder;
+
 /* ---- the library's functions, over pointers and lengths; the functions below them take lists */
 #define SEEK_IN(t) const uint8_t *t, size_t t##_length
 #define SEEK_OUT(t) uint8_t *t, size_t t##_length
@@ -189,14 +205,36 @@ uint32_t seek_raw_adds(SEEK_IN(head), SEEK_IN(other), SEEK_OUT(answer), SEEK_TAB
                        SEEK_IN(parts2), SEEK_IN(malformed2), SEEK_IN(hints2), SEEK_IN(confirmed2));
 uint32_t seek_raw_add_hints(SEEK_OUT(head), SEEK_IN(list), SEEK_IN(checkpoints), SEEK_IN(frames), SEEK_IN(store), SEEK_IN(parts), SEEK_IN(malformed),
                             SEEK_OUT(hints), SEEK_IN(confirmed));
+uint32_t seek_raw_recorder(SEEK_IN(head), uint64_t from, SEEK_OUT(block), SEEK_TABLES_IN);
+uint32_t seek_raw_record(SEEK_OUT(block), uint64_t lsn, uint32_t threshold, uint64_t malformed, uint8_t mark, uint64_t start, uint32_t number, uint8_t kind,
+                         int32_t remaining, SEEK_IN(bytes), SEEK_IN(sector), SEEK_OUT(checkpoints), SEEK_OUT(frames), SEEK_OUT(store), SEEK_OUT(parts));
+uint32_t seek_raw_finish(SEEK_OUT(block), uint32_t threshold, uint64_t malformed, SEEK_IN(checkpoints), SEEK_IN(frames), SEEK_IN(store), SEEK_IN(parts));
+uint32_t seek_raw_hint_recorder(SEEK_IN(head), SEEK_OUT(block), SEEK_TABLES_IN);
+uint32_t seek_raw_see(SEEK_OUT(block), uint64_t lsn, SEEK_IN(sector), SEEK_OUT(list));
+uint32_t seek_raw_flush(SEEK_OUT(block), SEEK_OUT(list));
+uint32_t seek_raw_take(SEEK_OUT(block), SEEK_OUT(answer), SEEK_IN(list));
+uint32_t seek_raw_keep_confirmation(SEEK_OUT(head), uint64_t lsn, uint32_t threshold, uint64_t digest, SEEK_OUT(answer), SEEK_IN(checkpoints),
+                                    SEEK_IN(frames), SEEK_IN(store), SEEK_IN(parts), SEEK_IN(malformed), SEEK_IN(hints), SEEK_OUT(confirmed));
 
 #define SEEK_LENT_(t) (t).at, (t).length
 #define SEEK_LENT_SEVEN_(l) \
     SEEK_LENT_((l)->checkpoints), SEEK_LENT_((l)->frames), SEEK_LENT_((l)->store), SEEK_LENT_((l)->parts), SEEK_LENT_((l)->malformed), \
         SEEK_LENT_((l)->hints), SEEK_LENT_((l)->confirmed)
+#define SEEK_LENT_FOUR_(r) SEEK_LENT_((r)->checkpoints), SEEK_LENT_((r)->frames), SEEK_LENT_((r)->store), SEEK_LENT_((r)->parts)
 #define SEEK_AREA_(a) (a)->slot, (a)->channels, (a)->key_start, (a)->key_end, (a)->sectors, (a)->start, (a)->end
 
 /* ---- what a list's head says */
+static inline void seek_area_from_(const uint8_t *block, seek_area *a)
+{
+    a->slot = (uint8_t)seek_word(block, 0);
+    a->channels = (uint8_t)seek_word(block, 1);
+    a->key_start = (uint32_t)seek_word(block, 2);
+    a->key_end = (uint32_t)seek_word(block, 3);
+    a->sectors = seek_word(block, 4);
+    a->start = seek_word(block, 5);
+    a->end = seek_word(block, 6);
+}
+
 static inline uint64_t seek_interval(const seek_list *l) { return seek_word(l->head, 7); }
 static inline uint64_t seek_budget(const seek_list *l) { return seek_word(l->head, 8); }
 static inline uint64_t seek_spacing(const seek_list *l) { return seek_word(l->head, 9); }
@@ -215,6 +253,13 @@ static inline int seek_fingerprint_checked(const seek_list *l) { return seek_wor
 static inline uint64_t seek_fingerprint_value(const seek_list *l) { return seek_word(l->head, 21); }
 static inline int seek_has_image(const seek_list *l) { return seek_word(l->head, 22) != 0; }
 static inline uint64_t seek_image_value(const seek_list *l) { return seek_word(l->head, 23); }
+
+static inline void seek_area_of(const seek_list *l, seek_area *a) { seek_area_from_(l->head, a); }
+
+/* ---- what a recorder's block says */
+static inline uint64_t seek_recorded_count(const seek_recorder *r) { return seek_word(r->block, 11); }
+static inline int seek_recorder_stopped(const seek_recorder *r) { return seek_word(r->block, 14) > 1; }
+static inline uint64_t seek_seen_count(const seek_hint_recorder *h) { return seek_word(h->block, 6); }
 
 /* ---- memory */
 /* The bytes of each table for an area, interval, budget and hint limit: question 3 passes exactly where every table has at least these. */
@@ -250,16 +295,9 @@ static inline uint32_t seek_file_area(const uint8_t *file, size_t length, seek_a
 {
     uint8_t answer[SEEK_BLOCK] = {0};
     uint32_t n = seek_raw_file_area(file, length, answer, SEEK_BLOCK);
-    if (n)
-        return n;
-    a->slot = (uint8_t)seek_word(answer, 0);
-    a->channels = (uint8_t)seek_word(answer, 1);
-    a->key_start = (uint32_t)seek_word(answer, 2);
-    a->key_end = (uint32_t)seek_word(answer, 3);
-    a->sectors = seek_word(answer, 4);
-    a->start = seek_word(answer, 5);
-    a->end = seek_word(answer, 6);
-    return 0;
+    if (n == 0)
+        seek_area_from_(answer, a);
+    return n;
 }
 
 static inline uint64_t seek_total(const seek_table_sizes *s)
@@ -267,16 +305,22 @@ static inline uint64_t seek_total(const seek_table_sizes *s)
     return s->checkpoints + s->frames + s->store + s->parts + s->malformed + s->hints + s->confirmed;
 }
 
+static inline void seek_clear_(uint8_t *block)
+{
+    unsigned i;
+    for (i = 0; i < SEEK_BLOCK; i++)
+        block[i] = 0;
+}
+
+#define SEEK_CARVE_(t) (o->t.at = memory + at, o->t.length = (size_t)s->t, at += s->t)
+
 /* Carves one block of initialised memory into a list's tables, and clears its head. Answers the bytes used, 0 where there are too few. */
-static inline uint64_t seek_carve(seek_list *l, const seek_table_sizes *s, uint8_t *memory, uint64_t length)
+static inline uint64_t seek_carve(seek_list *o, const seek_table_sizes *s, uint8_t *memory, uint64_t length)
 {
     uint64_t at = 0;
-    unsigned i;
     if (memory == NULL || length < seek_total(s))
         return 0;
-    for (i = 0; i < SEEK_BLOCK; i++)
-        l->head[i] = 0;
-#define SEEK_CARVE_(t) (l->t.at = memory + at, l->t.length = (size_t)s->t, at += s->t)
+    seek_clear_(o->head);
     SEEK_CARVE_(checkpoints);
     SEEK_CARVE_(frames);
     SEEK_CARVE_(store);
@@ -284,8 +328,35 @@ static inline uint64_t seek_carve(seek_list *l, const seek_table_sizes *s, uint8
     SEEK_CARVE_(malformed);
     SEEK_CARVE_(hints);
     SEEK_CARVE_(confirmed);
-#undef SEEK_CARVE_
     return at;
+}
+
+/* The same for a recorder, which has the first four of these tables, */
+static inline uint64_t seek_recorder_total(const seek_table_sizes *s) { return s->checkpoints + s->frames + s->store + s->parts; }
+
+static inline uint64_t seek_carve_recorder(seek_recorder *o, const seek_table_sizes *s, uint8_t *memory, uint64_t length)
+{
+    uint64_t at = 0;
+    if (memory == NULL || length < seek_recorder_total(s))
+        return 0;
+    seek_clear_(o->block);
+    SEEK_CARVE_(checkpoints);
+    SEEK_CARVE_(frames);
+    SEEK_CARVE_(store);
+    SEEK_CARVE_(parts);
+    return at;
+}
+#undef SEEK_CARVE_
+
+/* and for a hint recorder, whose list takes SEEK_HINT_LIST bytes. */
+static inline uint64_t seek_carve_hint_recorder(seek_hint_recorder *o, uint8_t *memory, uint64_t length)
+{
+    if (memory == NULL || length < SEEK_HINT_LIST)
+        return 0;
+    seek_clear_(o->block);
+    o->list.at = memory;
+    o->list.length = SEEK_HINT_LIST;
+    return SEEK_HINT_LIST;
 }
 
 /* ---- lists: each answers 0 or a refusal number */
@@ -398,7 +469,75 @@ static inline uint32_t seek_fingerprint(seek_list *l, uint64_t value)
     return seek_raw_fingerprint(l->head, SEEK_BLOCK, value, SEEK_LENT_SEVEN_(l));
 }
 
+/* ---- recorders: a pass over the disc from a sector on, absorbed by the list whose recorder it is */
+/* The recorder of a list that reads from a sector on. A complete list gives a stopped recorder, which records nothing. */
+static inline uint32_t seek_recorder_of(const seek_list *l, uint64_t from, seek_recorder *r)
+{
+    return seek_raw_recorder(l->head, SEEK_BLOCK, from, r->block, SEEK_BLOCK, SEEK_LENT_SEVEN_(l));
+}
+
+/* A frame under assembly where a checkpoint is recorded: the sector that it starts in, its number, kind (0 DST, 1 DSD), remaining and bytes so far. */
+typedef struct {
+    uint64_t start;
+    uint32_t number;
+    uint8_t kind;
+    int32_t remaining;
+    const uint8_t *bytes;
+    size_t length;
+} seek_frame;
+
+/* Records the checkpoint at the due sector lsn, of 2,048 bytes: threshold, how many malformed sectors lie before it, and the frame under assembly (NULL:
+ * none). */
+static inline uint32_t seek_record(seek_recorder *r, uint64_t lsn, uint32_t threshold, uint64_t malformed, const seek_frame *f, const uint8_t *sector,
+                                   size_t length)
+{
+    return seek_raw_record(r->block, SEEK_BLOCK, lsn, threshold, malformed, f != NULL, f ? f->start : 0, f ? f->number : 0, f ? f->kind : 0,
+                           f ? f->remaining : 0, f ? f->bytes : NULL, f ? f->length : 0, sector, length, SEEK_LENT_FOUR_(r));
+}
+
+/* States the end of the area, where every checkpoint is recorded: its threshold, and how many malformed sectors there are. */
+static inline uint32_t seek_finish(seek_recorder *r, uint32_t threshold, uint64_t malformed)
+{
+    return seek_raw_finish(r->block, SEEK_BLOCK, threshold, malformed, SEEK_LENT_FOUR_(r));
+}
+
 /* ---- hints */
+/* The hint recorder of a list; *made is 0 where there is none, since the list's spacing or hint limit is 0. */
+static inline uint32_t seek_hint_recorder_of(const seek_list *l, seek_hint_recorder *h, int *made)
+{
+    uint32_t n = seek_raw_hint_recorder(l->head, SEEK_BLOCK, h->block, SEEK_BLOCK, SEEK_LENT_SEVEN_(l));
+    *made = n == 0 && seek_word(h->block, 0) != 0;
+    return n;
+}
+
+/* Shows it a sector that was read. */
+static inline uint32_t seek_see(seek_hint_recorder *h, uint64_t lsn, const uint8_t *sector, size_t length)
+{
+    return seek_raw_see(h->block, SEEK_BLOCK, lsn, sector, length, SEEK_LENT_(h->list));
+}
+
+/* Lists the last frame start that was seen and not listed. */
+static inline uint32_t seek_flush(seek_hint_recorder *h) { return seek_raw_flush(h->block, SEEK_BLOCK, SEEK_LENT_(h->list)); }
+
+/* Takes its hints: they are the first *length bytes of h->list.at, for seek_add_hints, until the next call of seek_see or seek_flush. */
+static inline uint32_t seek_take(seek_hint_recorder *h, size_t *length)
+{
+    uint8_t answer[SEEK_BLOCK] = {0};
+    uint32_t n = seek_raw_take(h->block, SEEK_BLOCK, answer, SEEK_BLOCK, SEEK_LENT_(h->list));
+    *length = 8 * (size_t)seek_word(answer, 0);
+    return n;
+}
+
+/* Keeps a confirmation of a list: a sector, its threshold and its digest. *kept is 0 where nothing is kept, since the list's fingerprint is unchecked or
+ * its hint limit 0. */
+static inline uint32_t seek_keep_confirmation(seek_list *l, uint64_t lsn, uint32_t threshold, uint64_t digest, int *kept)
+{
+    uint8_t answer[SEEK_BLOCK] = {0};
+    uint32_t n = seek_raw_keep_confirmation(l->head, SEEK_BLOCK, lsn, threshold, digest, answer, SEEK_BLOCK, SEEK_LENT_SEVEN_(l));
+    *kept = seek_word(answer, 0) != 0;
+    return n;
+}
+
 /* Adds hints, 8 bytes each: sector and frame number, lowest byte first. */
 static inline uint32_t seek_add_hints(seek_list *l, const uint8_t *list, size_t length)
 {
