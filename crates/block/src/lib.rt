@@ -319,7 +319,7 @@ fn area_words(a: Area) -> [u64; 24]
     ]
 }
 
-fn bit_word(b: bool) -> u64
+pub fn bit_word(b: bool) -> u64
     ensures { λ r. ⌜ r ≡ bit b ⌝ }
 {
     if b { 1 } else { 0 }

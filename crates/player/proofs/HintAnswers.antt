@@ -8,6 +8,8 @@ use Rattle.rules.specs.declared.Confirmation.{Confirmation}
 use Rattle.rules.specs.declared.HintRecorder.{HintRecorder}
 use Rattle.head.specs.Head.{hintRecorderWords}
 use Rattle.index.specs.Index.{Tables}
+use Rattle.hint.specs.declared.HintAnswer.{HintAnswer}
+use Rattle.hint.specs.Calls.{answerOf, hintIn}
 use Rattle.hinting.specs.declared.Created.{Created}
 use Rattle.hinting.specs.declared.Seen.{Seen}
 use Rattle.hinting.specs.declared.Taken.{Taken}
@@ -18,14 +20,20 @@ use Rattle.keeping.specs.Keeping.{keepIn}
 use Rattle.keeping.specs.Keeping as keeping
 use Rattle.block.specs.Block.{called, into, headIndex, headHintRecorder}
 use Rattle.block.proofs.Blocks.{long-enough}
-use Rattle.recorder_block.specs.Block.{calledBoth, seenOf, createdOf, createdWords, takenInto, keptInto}
-use Rattle.player.specs.HintCalls.{calledList, calledKept, hintRecorderCall, seeCall, flushCall, takeCall, keepCall}
+use Rattle.recorder_block.specs.Block.{calledBoth, seenOf, createdOf, createdWords, hintWords, takenInto, keptInto}
+use Rattle.player.specs.HintCalls.{calledList, calledKept, hintRecorderCall, seeCall, flushCall, takeCall, keepCall, hintCall}
 
 module _ (b b' : List ℕ) (n : ℕ) (l : 192 ≤ length b) where
   pub created-done : (h : List ℕ) → 192 ≤ length h → (x : AreaIndex) (t : Tables) (q : Created) → called n b' ≡ into createdWords b (createdOf q)
       → q ≡ hintRecorderIn x t → x ≡ headIndex h → called n b' ≡ hintRecorderCall h b t
   unfolding hintRecorderCall
   created-done h g x t q p e z = long-enough h _ _ g (long-enough b _ _ l (rw (e, z) at p))
+
+  pub hint-done : (h : List ℕ) → 192 ≤ length h → (x : AreaIndex) (t : Tables) (first end playtime : ℕ) (q : HintAnswer)
+      → called n b' ≡ into hintWords b (answerOf q) → answerOf q ≡ hintIn x t first end playtime → x ≡ headIndex h
+      → called n b' ≡ hintCall h first end playtime b t
+  unfolding hintCall
+  hint-done h g x t first end playtime q p e z = long-enough h _ _ g (long-enough b _ _ l (rw (e, z) at p))
 
   module _ (r : HintRecorder) (z : r ≡ headHintRecorder b) (t t' : List ℕ) where
     module _ (q : Seen) (p : called n b' ≡ into hintRecorderWords b (seenOf q)) where

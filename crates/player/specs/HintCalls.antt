@@ -1,13 +1,14 @@
--- What each call of hint recorders and confirmations answers, and its blocks and tables afterwards: the call below it on the values in them.
+-- What each call of hint recorders, hints and confirmations answers, and its blocks and tables afterwards: the call below it on the values in them.
 use Prim.Native.Nat.{ℕ}
 use mathlib.Core.List.{List}
 use Rattle.rules.specs.declared.Confirmation.{Confirmation}
 use Rattle.head.specs.Head.{hintRecorderWords}
 use Rattle.index.specs.Index.{Tables}
+use Rattle.hint.specs.Calls.{hintIn}
 use Rattle.hinting.specs.Recorder.{Out, hintRecorderIn, seeIn, flushIn, takeIn}
 use Rattle.keeping.specs.Keeping.{keepIn}
 use Rattle.block.specs.Block.{Called, called, into, inBlock, headIndex, headHintRecorder}
-use Rattle.recorder_block.specs.Block.{CalledBoth, calledBoth, seenOf, createdOf, createdWords, takenInto, keptInto}
+use Rattle.recorder_block.specs.Block.{CalledBoth, calledBoth, seenOf, createdOf, createdWords, hintWords, takenInto, keptInto}
 
 -- the block is the hint recorder's
 unfoldable pub hintRecorderCall : List ℕ → List ℕ → Tables → Called
@@ -55,3 +56,9 @@ keepCall head c answer t =
     let o = keepIn (headIndex head) t c in
     inBlock head (calledKept 3 head answer t)
     (inBlock answer (calledKept 3 head answer t) (withTables (keptInto head answer (o .answer)) (o .tables)))
+
+-- the block is the answer's
+unfoldable pub hintCall : List ℕ → ℕ → ℕ → ℕ → List ℕ → Tables → Called
+hintCall head first end playtime answer t =
+    inBlock head (called 3 answer)
+    (inBlock answer (called 3 answer) (into hintWords answer (hintIn (headIndex head) t first end playtime)))

@@ -13,6 +13,7 @@ use block::saved_number;
 use head::HEAD_BYTES;
 use recorder_block::frame_from;
 use recorder_block::put_created;
+use recorder_block::put_hint;
 use recorder_block::put_kept;
 use recorder_block::put_recorded;
 use recorder_block::put_seen;
@@ -27,7 +28,7 @@ ghost use Rattle.block.specs.Block.{called, areaFrom};
 ghost use Rattle.recorder_block.specs.Block.{frameFrom, calledBoth};
 ghost use Rattle.player.specs.Calls.{calledOver, mergeCall, addsCall, addHintsCall, newCall, loadCall, fingerprintCall, planCall, saveCall, lengthCall, sizesCall, fileSizesCall, fileAreaCall, firstCall};
 ghost use Rattle.player.specs.RecorderCalls.{calledFour, endState, recorderCall, recordCall, finishCall};
-ghost use Rattle.player.specs.HintCalls.{calledList, calledKept, hintRecorderCall, seeCall, flushCall, takeCall, keepCall};
+ghost use Rattle.player.specs.HintCalls.{calledList, calledKept, hintRecorderCall, seeCall, flushCall, takeCall, keepCall, hintCall};
 
 // ---- sums, sectors and sizes
 // The sum of bytes.
@@ -693,4 +694,45 @@ pub extern "C" fn seek_raw_keep_confirmation(
         confirmed,
     );
     put_kept(head, answer, kept)
+}
+
+// The hint for the frames from first up to end of an area of so many frames.
+#[no_mangle]
+pub extern "C" fn seek_raw_hint(
+    head: &[u8],
+    first: u32,
+    end: u32,
+    playtime: u32,
+    answer: &mut [u8],
+    checkpoints: &[u8],
+    frames: &[u8],
+    store: &[u8],
+    parts: &[u8],
+    malformed: &[u8],
+    hints: &[u8],
+    confirmed: &[u8],
+) -> u32
+    ensures { λ r. ⌜ called r (now (answer .exit)) ≡ hintCall (now (head .entry)) first end playtime (now (answer .entry)) (tables (now (checkpoints .entry)) (now (frames .entry)) (now (store .entry)) (now (parts .entry)) (now (malformed .entry)) (now (hints .entry)) (now (confirmed .entry))) ⌝ }
+{
+    if head.len() < HEAD_BYTES {
+        return 3;
+    }
+    if answer.len() < HEAD_BYTES {
+        return 3;
+    }
+    let x = index_in(head);
+    let hinted = hint::hint(
+        x,
+        first,
+        end,
+        playtime,
+        checkpoints,
+        frames,
+        store,
+        parts,
+        malformed,
+        hints,
+        confirmed,
+    );
+    put_hint(answer, hinted)
 }

@@ -1,4 +1,4 @@
--- Answers of recorders, hint recorders and keep_confirmation as a number and blocks of 24 words.
+-- Answers of recorders, hint recorders, hint and keep_confirmation as a number and blocks of 24 words.
 use Prim.Native.Nat.{ℕ}
 use lib.IntN.{ℤ}
 use lib.Dec.{eqb}
@@ -11,7 +11,8 @@ use Rattle.rules.specs.declared.HintRecorder.{HintRecorder}
 use Rattle.rules.specs.declared.Recorder.{Recorder}
 use Rattle.rules.specs.declared.UnderAssembly.{UnderAssembly}
 use Rattle.rules.specs.declared.UnderAssembly.the-variants as frame
-use Rattle.rules.specs.File.{over}
+use Rattle.rules.specs.File.{bit, over}
+use Rattle.rules.specs.Hints.{Hinted}
 use Rattle.rules.specs.Tests.{Answer, Refused, Accepted}
 use Rattle.head.specs.Head.{blockOf, indexWords, hintRecorderWords}
 use Rattle.hinting.specs.declared.Created.{Created}
@@ -58,6 +59,17 @@ oneWord v = v ∷ 0 ∷ 0 ∷ 0 ∷ 0 ∷ 0 ∷ 0 ∷ 0 ∷ 0 ∷ 0 ∷ 0 ∷ 0 
 unfoldable pub createdWords : Option HintRecorder → List ℕ
 createdWords none = oneWord 0
 createdWords (some r) = hintRecorderWords r
+
+-- 1, LSN, frame number, upper end of the read, and 1 where a later hint gave it
+abbrev pub foundWords : Hinted → List ℕ
+foundWords h =
+    1 ∷ h .lsn ∷ h .number ∷ h .upper ∷ bit (h .later)
+    ∷ 0 ∷ 0 ∷ 0 ∷ 0 ∷ 0 ∷ 0 ∷ 0 ∷ 0 ∷ 0 ∷ 0 ∷ 0 ∷ 0 ∷ 0 ∷ 0 ∷ 0 ∷ 0 ∷ 0 ∷ 0 ∷ 0 ∷ []
+
+-- where there is no hint, the words are 0
+unfoldable pub hintWords : Option Hinted → List ℕ
+hintWords none = oneWord 0
+hintWords (some h) = foundWords h
 
 -- ---- two blocks
 pub record CalledBoth : Type 0 where

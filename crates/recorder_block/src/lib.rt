@@ -1,8 +1,10 @@
-// Answers of recorders, hint recorders and keep_confirmation as a number and blocks; a frame under assembly from numbers.
+// Answers of recorders, hint recorders, hint and keep_confirmation as a number and blocks; a frame under assembly from numbers.
+use block::bit_word;
 use head::hint_recorder_words;
 use head::index_words;
 use head::recorder_words;
 use head::write_words;
+use hint::HintAnswer;
 use hinting::Created;
 use hinting::Seen;
 use hinting::Taken;
@@ -10,13 +12,15 @@ use keeping::Kept;
 use recorder::Recorded;
 use rules::Assembling;
 use rules::FrameKind;
+use rules::Hinted;
 use rules::UnderAssembly;
 ghost use mathlib.Core.Path.{_≡_};
 ghost use Prim.Native.Nat.{_≤_};
 ghost use lib.ListN.{length};
 ghost use Rattle.head.specs.Head.{recorderWords, hintRecorderWords};
+ghost use Rattle.hint.specs.Calls.{hintedOf, answerOf};
 ghost use Rattle.block.specs.Block.{called, into};
-ghost use Rattle.recorder_block.specs.Block.{kindFrom, frameFrom, oneWord, recordedOf, seenOf, createdOf, createdWords, calledBoth, takenInto, keptInto};
+ghost use Rattle.recorder_block.specs.Block.{kindFrom, frameFrom, oneWord, recordedOf, seenOf, createdOf, createdWords, hintWords, foundWords, calledBoth, takenInto, keptInto};
 
 // ---- a frame under assembly
 // 0 Dst, anything else Dsd.
@@ -115,6 +119,56 @@ pub fn put_created(block: &mut [u8], created: Created) -> u32
         }
         Created::Recorder(r) => {
             write_words(block, hint_recorder_words(r));
+            0
+        }
+    }
+}
+
+fn found_words(h: Hinted) -> [u64; 24]
+    ensures { λ r. ⌜ r ≡ foundWords (hintedOf h) ⌝ }
+{
+    let later = bit_word(h.later);
+    [
+        1,
+        h.lsn as u64,
+        h.number as u64,
+        h.upper,
+        later,
+        0,
+        0,
+        0,
+        0,
+        0,
+        0,
+        0,
+        0,
+        0,
+        0,
+        0,
+        0,
+        0,
+        0,
+        0,
+        0,
+        0,
+        0,
+        0,
+    ]
+}
+
+// Where there is no hint, the words are 0.
+pub fn put_hint(answer: &mut [u8], hinted: HintAnswer) -> u32
+    requires { ⌜ 192 ≤ length (now answer) ⌝ }
+    ensures { λ r. ⌜ called r (now (answer .exit)) ≡ into hintWords (now (answer .entry)) (answerOf hinted) ⌝ }
+{
+    match hinted {
+        HintAnswer::Refused(n) => n,
+        HintAnswer::Nothing => {
+            write_words(answer, one_word(0));
+            0
+        }
+        HintAnswer::Hinted(h) => {
+            write_words(answer, found_words(h));
             0
         }
     }
