@@ -1,5 +1,5 @@
 // add_hints: a delivered list of hints joined to those of an index.
-use hintmerge::merge_hints;
+use hintsort::merge_hints;
 use index::Made;
 use index::refuses;
 use rules::AreaIndex;

@@ -1,7 +1,7 @@
 // The steps of a merge: what is taken of the other list, by value and table by table.
 use field::copy_first;
 use field::copy_part;
-use hintmerge::merge_hints;
+use hintsort::merge_hints;
 use join::taken;
 use parts::Counts;
 use parts::add_parts;
