@@ -1,11 +1,11 @@
 -- The hint recorder in its table. Assumes nothing.
 use mathlib.Core.Path.{_≡_, refl, sym, ap, _∙_}
-use mathlib.Core.Bool.{Bool, true, false, _&&_, _||_, cond}
+use mathlib.Core.Bool.{Bool, true, false, _&&_, _||_, not, cond}
 use mathlib.Core.List.{List, [], _∷_, _++_, append-assoc}
 use mathlib.Core.Option.{Option, none, some}
 use Prim.Native.Nat.{ℕ, _+_, _*_, _/_, _<_, _≤_, min}
 use native.Mathlib.Omega.{arith}
-use borrow.Author.Tests.{leb-true, le-leb, lt-leb, lt-ltb, le-ltb, ltb-true, ne-eqb, eq-eqb}
+use borrow.Author.Tests.{not-true, not-false, leb-true, le-leb, lt-leb, lt-ltb, le-ltb, ltb-true, ne-eqb, eq-eqb}
 use lib.Dec.{eqb, leb, ltb}
 use lib.ListN.{length, take, drop, length-append, take-append-drop}
 use lib.Seq.{sets, sets-eq, length-take-le}
@@ -36,7 +36,7 @@ use Rattle.index.proofs.Four.{Later, kinded-index}
 use Rattle.hinting.specs.declared.Seen.the-variants as seen
 use Rattle.hinting.specs.declared.Taken.the-variants as taken
 use Rattle.hinting.specs.declared.Created.the-variants as created
-use Rattle.hinting.specs.Recorder.{lastIn, tailIn, lastFrom, tailFrom, recorderIn, numbersFrom, Roomy, Steps, refusalOf, flushedRecord, tailless, hintSeen, out, outOf, seeIn, flushIn, takenOf, takeIn, createdOf, hintRecorderIn}
+use Rattle.hinting.specs.Recorder.{lastIn, tailIn, lastFrom, tailFrom, recorderIn, numbersFrom, Roomy, Steps, refusalOf, flushedRecord, tailless, emptied, hintSeen, out, outOf, seeIn, flushIn, takenOf, takeIn, createdOf, hintRecorderIn}
 
 last-back : (l : LastListed) → lastFrom (lastIn l) ≡ l
 unfolding lastFrom lastIn
@@ -116,6 +116,10 @@ pub is-spaced : {l : LastListed} {n m : ℕ} {b : Bool} (spacing t : ℕ) → l 
 unfolding spaced lastIn
 is-spaced spacing t e q f = rw (e, ← q) f
 
+-- the list has room, or is full
+pub has-room : {q : Bool} (n : ℕ) → q ≡ ltb n 65536 → not q ≡ false → n < 65536
+has-room {q} n e h = ltb-true n 65536 (sym e ∙ not-false q h)
+
 module _ (r : HintRecorder) (t : List ℕ) (p : Roomy r t) (b : Bytes t) where
   module _ {q y : Bool} (h : Hint) (e : y ≡ spaced (lastIn (r .last)) (r .spacing) (h .number)) (f : q ≡ (y && ltb (r .count) 65536)) where
     both-are : q ≡ (spaced (lastIn (r .last)) (r .spacing) (h .number) && ltb (length (hintsIn (r .count) t)) 65536)
@@ -154,14 +158,15 @@ module _ (r : HintRecorder) (t : List ℕ) (p : Roomy r t) (b : Bytes t) where
   unfolding flushedList tailIn
   flushed-none e v = rw (e, v) (step-none r t p b (r .last) tail.Empty)
 
-  pub flushed-full : {k : HintRecorder} {h : Hint} → r .tail ≡ tail.Hint h → 65536 ≤ r .count → k ≡ tailless (r .spacing) (r .last) (r .count) → Steps k (flushedRecord (recorderIn r t)) t t
-  unfolding flushedList tailIn
-  flushed-full e l v = rw (e, v, records-length 8 decodeHint (r .count) t, le-ltb (r .count) 65536 l) (step-none r t p b (r .last) tail.Empty)
+  module _ {q : Bool} {h : Hint} (e : r .tail ≡ tail.Hint h) (g : q ≡ ltb (r .count) 65536) where
+    pub flushed-full : {k : HintRecorder} → not q ≡ true → k ≡ tailless (r .spacing) (r .last) (r .count) → Steps k (flushedRecord (recorderIn r t)) t t
+    unfolding flushedList tailIn
+    flushed-full l v = rw (e, v, records-length 8 decodeHint (r .count) t, ← g, not-true q l) (step-none r t p b (r .last) tail.Empty)
 
-  pub flushed-listed : {k : HintRecorder} {h : Hint} {new : List ℕ} → r .tail ≡ tail.Hint h → r .count < 65536 → new ≡ sets t (r .count * 8) (encodeHint h)
-      → k ≡ tailless (r .spacing) (r .last) (r .count + 1) → Steps k (flushedRecord (recorderIn r t)) t new
-  unfolding flushedList tailIn
-  flushed-listed {h = h} e l w v = rw (e, v, records-length 8 decodeHint (r .count) t, lt-ltb (r .count) 65536 l) (step-more r t p b (r .last) tail.Empty h l w)
+    pub flushed-listed : {k : HintRecorder} {new : List ℕ} → not q ≡ false → new ≡ sets t (r .count * 8) (encodeHint h)
+        → k ≡ tailless (r .spacing) (r .last) (r .count + 1) → Steps k (flushedRecord (recorderIn r t)) t new
+    unfolding flushedList tailIn
+    flushed-listed l w v = rw (e, v, records-length 8 decodeHint (r .count) t, ← g, not-false q l) (step-more r t p b (r .last) tail.Empty h (has-room (r .count) g l) w)
 
 -- ---- the calls
 module _ (r : HintRecorder) (t : List ℕ) {n : ℕ} (e : n ≡ refusalOf r t) where
@@ -187,9 +192,9 @@ module _ (r : HintRecorder) (t : List ℕ) {n : ℕ} (e : n ≡ refusalOf r t) w
     unfolding flushIn flush outOf after refusalOf
     flush-yes s = sym (rw (← e, eq-eqb n 0 z, ← (s .numbers), ← (s .list)))
 
-    pub take-yes : taken.List (record { count = r .count; recorder = record { spacing = r .spacing; last = r .last; tail = r .tail; count = 0 } }) ≡ takeIn r t
+    pub take-yes : {k : HintRecorder} → k ≡ emptied r → taken.List (record { count = r .count; recorder = k }) ≡ takeIn r t
     unfolding takeIn takeList takenOf after refusalOf
-    take-yes = sym (rw (← e, eq-eqb n 0 z, records-length 8 decodeHint (r .count) t, last-back (r .last), tail-back (r .tail)))
+    take-yes w = sym (rw (w, ← e, eq-eqb n 0 z, records-length 8 decodeHint (r .count) t, last-back (r .last), tail-back (r .tail)))
 
 no-later : Later []
 unfolding each

@@ -111,6 +111,10 @@ flushedRecord r = record { spacing = r .spacing; last = r .last; tail = none; li
 abbrev pub tailless : ℕ → LastListed → ℕ → HintRecorder
 tailless spacing last count = record { spacing = spacing; last = last; tail = tail.Empty; count = count }
 
+-- without the list
+abbrev pub emptied : HintRecorder → HintRecorder
+emptied r = record { spacing = r .spacing; last = r .last; tail = r .tail; count = 0 }
+
 -- a record listed, under the bound, or made the tail
 abbrev pub hintSeen : values.HintRecorder → Hint → values.HintRecorder
 hintSeen r h = cond (spaced (r .last) (r .spacing) (h .number) && ltb (length (r .list)) maxList) (listed r h) (tailed r h)

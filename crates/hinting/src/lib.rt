@@ -13,10 +13,11 @@ use rules::MAX_LIST;
 use rules::MAX_U32;
 use rules::Tail;
 ghost use mathlib.Core.Path.{_≡_};
-ghost use lib.ListN.{length};
+ghost use lib.Dec.{ltb};
+ghost use Rattle.rules.specs.Values.{maxList};
 ghost use Rattle.rules.specs.Hints.{spaced, seenRecord};
 ghost use Rattle.index.specs.Index.{tables};
-ghost use Rattle.hinting.specs.Recorder.{lastIn, recorderIn, refusalOf, Roomy, Steps, flushedRecord, tailless, hintSeen, out, seeIn, flushIn, takeIn, hintRecorderIn};
+ghost use Rattle.hinting.specs.Recorder.{lastIn, recorderIn, refusalOf, Roomy, Steps, flushedRecord, tailless, emptied, hintSeen, out, seeIn, flushIn, takeIn, hintRecorderIn};
 
 // A hint recorder after a call, or the number that refuses.
 pub enum Seen {
@@ -66,6 +67,13 @@ fn is_spaced(last: LastListed, spacing: u32, t: u32) -> bool
     or(next <= t as u64, t < l)
 }
 
+// Has the list under 65,536?
+fn has_room(count: u32) -> bool
+    ensures { λ r. ⌜ r ≡ ltb count maxList ⌝ }
+{
+    count < MAX_LIST
+}
+
 // A recorder without a tail.
 fn cleared(spacing: u32, last: LastListed, count: u32) -> HintRecorder
     ensures { λ r. ⌜ r ≡ tailless spacing last count ⌝ }
@@ -84,7 +92,7 @@ fn list_or_keep(r: HintRecorder, h: Hint, list: &mut [u8]) -> HintRecorder
     ensures { λ q. ⌜ Steps q (hintSeen (recorderIn r (now (list .entry))) h) (now (list .entry)) (now (list .exit)) ⌝ }
 {
     let last = r.last;
-    if and(is_spaced(last, r.spacing, h.number), r.count < MAX_LIST) {
+    if and(is_spaced(last, r.spacing, h.number), has_room(r.count)) {
         write_hint(list, r.count as usize, h);
         return cleared(r.spacing, LastListed::Number(h.number), r.count + 1);
     }
@@ -148,7 +156,7 @@ fn flushed(r: HintRecorder, list: &mut [u8]) -> HintRecorder
     let Tail::Hint(h) = tail else {
         return cleared(r.spacing, last, r.count);
     };
-    if MAX_LIST <= r.count {
+    if !has_room(r.count) {
         return cleared(r.spacing, last, r.count);
     }
     write_hint(list, r.count as usize, h);
@@ -165,6 +173,20 @@ pub fn flush(r: HintRecorder, list: &mut [u8]) -> Seen
     Seen::Recorder(flushed(r, list))
 }
 
+// A recorder without its list; last and tail stay.
+fn emptied(r: HintRecorder) -> HintRecorder
+    ensures { λ q. ⌜ q ≡ emptied r ⌝ }
+{
+    let l = r.last;
+    let t = r.tail;
+    HintRecorder {
+        spacing: r.spacing,
+        last: l,
+        tail: t,
+        count: 0,
+    }
+}
+
 // The list taken: its hints are the first of the table, and the recorder has none then.
 pub fn take(r: HintRecorder, list: &[u8]) -> Taken
     ensures { λ q. ⌜ q ≡ takeIn r (now (list .entry)) ⌝ }
@@ -173,11 +195,9 @@ pub fn take(r: HintRecorder, list: &[u8]) -> Taken
     if number != 0 {
         return Taken::Refused(number);
     }
-    let mut recorder = r;
-    recorder.count = 0;
     Taken::List(TakenList {
         count: r.count,
-        recorder,
+        recorder: emptied(r),
     })
 }
 
