@@ -1,5 +1,5 @@
 -- What `commit` needs holds where nothing refuses an absorb. Assumes nothing.
-use mathlib.Core.Path.{_≡_, refl, sym, _∙_}
+use mathlib.Core.Path.{_≡_, refl}
 use mathlib.Core.Bool.{Bool, true, false, _&&_}
 use mathlib.Core.List.{List}
 use Prim.Native.Nat.{ℕ, _+_, _≤_}
@@ -15,25 +15,22 @@ use Rattle.rules.specs.declared.ImageId.{ImageId}
 use Rattle.rules.specs.declared.Recorder.{Recorder}
 use Rattle.rules.specs.Values.{max32}
 use Rattle.rules.specs.Sections.{rising, ownLsn, anyLsn}
-use Rattle.rules.specs.Questions.{scanOk, question4}
 use Rattle.rules.specs.Record.{question9, question10, question12, moves, absorbNumber}
 use Rattle.rules.specs.File.{decodeCheckpoint}
-use Rattle.rules.proofs.Tests.{test, and-left, implied, all→, asked}
+use Rattle.rules.proofs.Tests.{test, implied, all→, asked}
 use Rattle.scanlaws.proofs.Absorb.{unstopped}
-use Rattle.scanlaws.proofs.Scans.{scan-of}
 use Rattle.filelaws.proofs.Layouts.{hint-layout, confirmation-layout}
 use Rattle.sections.specs.Numbers.{idIn}
 use Rattle.index.specs.Index.{Tables, roomOf, indexIn, kindsIn, orFour, kindedNumber}
-use Rattle.index.specs.Needs.{Passes, heldQuestion4}
+use Rattle.index.specs.Needs.{Passes}
 use Rattle.index.proofs.Lent.{over-same}
-use Rattle.index.proofs.Numbers.{first}
-use Rattle.index.proofs.Questions.{space, room-is, passes, passes-kinds, passes-hints}
+use Rattle.index.proofs.Questions.{passes, passes-hints}
 use Rattle.recorder.specs.Recorder.{RecorderTables, recorderRoom, recorderIn, recorderKinds}
 use Rattle.absorb_questions.specs.Needs.{givenIn, nineIn}
 use Rattle.absorb_refuses.specs.Absorb.{absorbRefusal, Absorbs}
 use Rattle.absorb_refuses.proofs.Refusal.{passed}
 use Rattle.absorb_commit.specs.Commit.{Kept}
-use Rattle.absorb_commit.specs.Needs.{scanTables, Ready}
+use Rattle.absorb_commit.specs.Needs.{Ready}
 
 -- no number with the kind bytes is no number of the rules
 kinded-zero : (ok : Bool) (n : ℕ) → kindedNumber ok n ≡ 0 → n ≡ 0
@@ -67,19 +64,12 @@ module _ {x : AreaIndex} {t : Tables} {image : ImageId} {given : List ℕ} {r : 
   unfolding question12
   rises m = all→ _ (implied (moves (indexIn x t .scan) (recorderIn r u)) _ twelve m) .0
 
-  scan-holds : scanOk (indexIn x t .scan) ≡ true
-  unfolding heldQuestion4
-  scan-holds = scan-of (indexIn x t) (and-left (question4 (indexIn x t)) (kindsIn x t) (own-passes .held))
-
-  pub ready : Ready x (scanTables (t .checkpoints) (t .frames) (t .store) (t .parts) (t .malformed)) r u given
+  pub ready : Ready x (t .checkpoints) (t .frames) (t .store) (t .parts) (t .malformed) r u given
   ready =
       record {
-        area = own-passes .roomy .area;
-        numbers = own-passes .roomy .numbers;
-        space = first _ _ (sym (room-is x t) ∙ own-passes .roomy .room);
-        room = space (own-passes .roomy) .malformed;
-        scan = scan-holds;
-        kinds = passes-kinds own-passes;
+        hints = t .hints;
+        confirmed = t .confirmed;
+        own = own-passes;
         recorder = passed x t image given r u (a .accepted) .1;
         same = nine;
         joins = joins;

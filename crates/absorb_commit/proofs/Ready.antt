@@ -1,39 +1,33 @@
 -- What each step of an absorb needs of the tables, where nothing refuses. Assumes nothing.
-use mathlib.Core.Path.{_≡_, refl, sym, ap, ap₂, _∙_}
-use mathlib.Core.Bool.{Bool, true, false, cond}
-use mathlib.Core.List.{List, [], _∷_, _++_}
-use Prim.Native.Nat.{ℕ, _+_, _-_, _*_, _/_, _<_, _≤_}
+use mathlib.Core.Path.{_≡_, refl, ap₂}
+use mathlib.Core.List.{List, [], _∷_}
+use Prim.Native.Nat.{ℕ, _+_, _-_, _*_, _≤_}
 use native.Mathlib.Omega.{arith}
 use lib.Dec.{ltb, leb}
-use lib.ListN.{length, drop}
+use lib.ListN.{length}
 use borrow.Author.Tests.{leb-true, leb-false, eqb-true, ltb-true, ltb-false}
 use Rattle.field.proofs.Records.{records-length}
 use Rattle.rules.specs.declared.AreaIndex.{AreaIndex}
 use Rattle.rules.specs.declared.Held.{Held}
 use Rattle.rules.specs.declared.Recorder.{Recorder}
-use Rattle.rules.specs.Values.{boundaries, used}
+use Rattle.rules.specs.Values.{maxMalformed, boundaries}
 use Rattle.rules.specs.Questions.{recorderQuestion4, scanRoom}
 use Rattle.rules.specs.Record.{question9}
 use Rattle.rules.specs.File.{decodeCheckpoint}
 use Rattle.rules.proofs.Tests.{test, and-left, all→}
 use Rattle.rules.proofs.Same.{sameArea-eq}
-use Rattle.scanlaws.proofs.Scans.{RecorderIs, recorder→, ScanIs, scan→}
-use Rattle.filelaws.proofs.Facts.{numbersOk→}
-use Rattle.filelaws.proofs.Ranges.{boundaries-small}
-use Rattle.table.specs.Tables.{framesIn, partsIn}
-use Rattle.index.specs.Index.{Tables, indexIn}
-use Rattle.index.specs.Needs.{scanSpace, scanIn}
-use Rattle.index.specs.Needs as index
-use Rattle.index.proofs.Questions.{Space, range, scan-is, long}
-use Rattle.index.proofs.Numbers.{first}
-use Rattle.parts.specs.declared.Counts.{Counts}
+use Rattle.scanlaws.proofs.Scans.{RecorderIs, recorder→}
+use Rattle.table.specs.Tables.{partsIn}
+use Rattle.index.specs.Needs.{scanSpace}
+use Rattle.index.proofs.Questions.{space, passes-long, passes-kinds}
+use Rattle.join.proofs.Ready.{scan-is, store-room, few-boundaries, few-checkpoints}
 use Rattle.parts.specs.Parts.{PartTables, partTables}
-use Rattle.parts.specs.Needs.{Room, wanted}
+use Rattle.parts.specs.Needs.{wanted}
 use Rattle.parts.proofs.Callers.{lent-from, wanted-from, room-from}
 use Rattle.recorder.specs.Recorder.{RecorderTables, recorderIn, recorderKinds}
 use Rattle.recorder.specs.Needs.{recorderHeld}
 use Rattle.recorder.specs.Needs as recorder
-use Rattle.recorder.proofs.Calls.{passes-roomy, passes-held, passes-long}
+use Rattle.recorder.proofs.Calls.{passes-roomy, passes-held, passes-long as recorder-long}
 use Rattle.absorb_questions.specs.Needs.{nineIn}
 use Rattle.take.specs.Needs.{AppendsFrom, HeldReady}
 use Rattle.absorb_commit.specs.Needs.{Ready}
@@ -48,41 +42,14 @@ wanted-fewer a b (p ∷ ps) h =
     (λ e. let g = ltb-false (p .at) b e in
     test (ltb (p .at) a) (λ f. let k = ltb-true (p .at) a f in let z : ⊥ = omega arith in absurd z) (λ f. rw (e, f) (omega arith)))
 
-module _ {x : AreaIndex} {t : Tables} {r : Recorder} {u : RecorderTables} {ms : List ℕ} (k : Ready x t r u ms) where
-  -- ---- the index
-  pub scan-ok : ScanIs (indexIn x t .scan)
-  scan-ok = scan→ (indexIn x t .scan) (k .scan)
-
-  space : Space x t
-  unfolding scanSpace scanRoom
-  space =
-      let s = all→ _ (k .space) in
-      record { checkpoints = leb-true _ _ (s .0); frames = leb-true _ _ (s .1 .0); parts = leb-true _ _ (s .1 .1 .0); malformed = k .room }
-
-  store-room : x .budget ≤ length (t .store)
-  unfolding scanSpace scanRoom
-  store-room = leb-true _ _ (all→ _ (k .space) .1 .1 .1 .0)
-
-  own-long : index.Long x (t .checkpoints) (t .frames) (t .parts) (t .malformed)
-  unfolding scanIn
-  own-long = long space _ (first _ _ (sym (scan-is x t) ∙ k .scan))
-
-  few-boundaries : boundaries (x .area) (x .interval) < 4294967296
-  few-boundaries =
-      let e = range (x .area) (k .area) .end in
-      let b = boundaries-small (x .area) (x .interval) (numbersOk→ (x .interval) (x .budget) (k .numbers) .low) in
-      omega arith
-
-  own-few : x .checkpoints ≤ boundaries (x .area) (x .interval)
-  own-few = let w = scan-ok .stretch .within in let n = records-length 24 decodeCheckpoint (x .checkpoints) (t .checkpoints) in omega arith
-
+module _ {x : AreaIndex} {cs fs st ps ls : List ℕ} {r : Recorder} {u : RecorderTables} {ms : List ℕ} (k : Ready x cs fs st ps ls r u ms) where
   -- ---- the recorder
-  pub recorder-ok : RecorderIs (recorderIn r u)
+  recorder-ok : RecorderIs (recorderIn r u)
   unfolding recorderHeld
   recorder-ok = recorder→ (recorderIn r u) (and-left (recorderQuestion4 (recorderIn r u)) (recorderKinds r u) (passes-held r u refl (k .recorder)))
 
   their-long : recorder.Long r (u .checkpoints) (u .frames) (u .parts)
-  their-long = passes-long r u refl (k .recorder)
+  their-long = recorder-long r u refl (k .recorder)
 
   their-store : r .budget ≤ length (u .store)
   unfolding scanSpace scanRoom
@@ -102,13 +69,14 @@ module _ {x : AreaIndex} {t : Tables} {r : Recorder} {u : RecorderTables} {ms : 
       let b = ap₂ boundaries areas intervals in omega arith
 
   -- ---- what the steps need
-  pub appends : AppendsFrom (x .checkpoints) (r .checkpoints) (x .checkpoints - r .first) (t .checkpoints) (u .checkpoints)
+  pub appends : AppendsFrom (x .checkpoints) (r .checkpoints) (x .checkpoints - r .first) cs (u .checkpoints)
   appends =
-      let o = own-few in let f = their-few in let j = k .joins in let b = few-boundaries in let s = space .checkpoints in
-      record { own = own-long .checkpoints; other = their-long .checkpoints; room = omega arith; few = omega arith }
+      let o = few-checkpoints (k .own) in let f = their-few in let j = k .joins in let b = few-boundaries (k .own) in
+      let s = space (k .own .roomy) .checkpoints in
+      record { own = passes-long (k .own) .checkpoints; other = their-long .checkpoints; room = omega arith; few = omega arith }
 
   abbrev ownTables : PartTables
-  ownTables = partTables (t .frames) (t .store) (t .parts)
+  ownTables = partTables fs st ps
 
   abbrev theirTables : PartTables
   theirTables = partTables (u .frames) (u .store) (u .parts)
@@ -116,7 +84,7 @@ module _ {x : AreaIndex} {t : Tables} {r : Recorder} {u : RecorderTables} {ms : 
   -- as many parts as checkpoints are appended, at most
   wanted-few : x .checkpoints + wanted (x .checkpoints) (partsIn (r .parts) (u .parts)) ≤ boundaries (x .area) (x .interval)
   wanted-few =
-      let o = own-few in let f = their-few in
+      let o = few-checkpoints (k .own) in let f = their-few in
       let n = records-length 24 decodeCheckpoint (r .checkpoints) (u .checkpoints) in
       let w = wanted-from (r .frames) (r .parts) theirTables (recorder-ok .held) in
       test (leb (x .checkpoints) (r .first + r .checkpoints))
@@ -128,14 +96,14 @@ module _ {x : AreaIndex} {t : Tables} {r : Recorder} {u : RecorderTables} {ms : 
   pub held-ready : HeldReady x (r .frames) (r .parts) ownTables theirTables
   held-ready =
       record {
-        own = own-long .frames;
+        own = passes-long (k .own) .frames;
         lent = lent-from (r .frames) (r .parts) theirTables (recorder-ok .held) (their-long .frames) (their-long .parts) their-store;
         room = λ c ef eh eu.
-            let sf = space .frames in let sp = space .parts in
-            let n = records-length 24 decodeCheckpoint (x .checkpoints) (t .checkpoints) in let w = wanted-few in
-            room-from (x .frames) (x .parts) ownTables (scan-ok .stretch .held) {c = c} _ (boundaries (x .area) (x .interval)) ef eh eu (k .kinds)
-            (omega arith) (omega arith) (omega arith) store-room few-boundaries;
+            let s = space (k .own .roomy) in let sf = s .frames in let sp = s .parts in
+            let n = records-length 24 decodeCheckpoint (x .checkpoints) cs in let w = wanted-few in
+            room-from (x .frames) (x .parts) ownTables (scan-is (k .own) .stretch .held) {c = c} _ (boundaries (x .area) (x .interval)) ef eh eu (passes-kinds (k .own))
+            (omega arith) (omega arith) (omega arith) (store-room (k .own)) (few-boundaries (k .own));
       }
 
-  pub own-malformed : (x .malformed * 4 ≤ length (t .malformed)) × (4096 * 4 ≤ length (t .malformed))
-  own-malformed = let m = k .room in (own-long .malformed, omega arith)
+  pub own-malformed : (x .malformed * 4 ≤ length ls) × (maxMalformed * 4 ≤ length ls)
+  own-malformed = let m = space (k .own .roomy) .malformed in (passes-long (k .own) .malformed, omega arith)

@@ -32,7 +32,7 @@ use Rattle.recorder.specs.Recorder.{RecorderTables, recorderIn}
 use Rattle.take.specs.Needs.{Put, AppendedFrom, heldTaken}
 use Rattle.absorb_questions.specs.Needs.{givenIn}
 use Rattle.absorb_commit.specs.Commit.{Written, written, absorbed, absorbedIn, Kept}
-use Rattle.absorb_commit.specs.Needs.{scanTables, Ready, frontOf, frontAt, TakesBelow, TakenBelow, numbersBy}
+use Rattle.absorb_commit.specs.Needs.{Ready, frontOf, frontAt, TakesBelow, TakenBelow, numbersBy}
 use Rattle.absorb_commit.proofs.Ready.{own-malformed}
 
 -- ---- numbers and tables
@@ -74,10 +74,10 @@ module _ (x : AreaIndex) (t : Tables) (r : Recorder) (u : RecorderTables) (image
     moves-is : ltb (frontOf x) (frontAt x n e) ≡ moves own theirs
     moves-is = rw (hn, he, counts)
 
-    pub takes-below : Ready x t r u ms → TakesBelow x n e (t .malformed) ms
+    pub takes-below : Ready x (t .checkpoints) (t .frames) (t .store) (t .parts) (t .malformed) r u ms → TakesBelow x n e (t .malformed) ms
     takes-below k =
         let m = own-malformed k in
-        record { area = k .area; own = m .0; room = m .1; rises = λ z. k .rises (sym moves-is ∙ z) }
+        record { area = k .own .roomy .area; own = m .0; room = m .1; rises = λ z. k .rises (sym moves-is ∙ z) }
 
     malformed-are : cond (ltb (frontOf x) (frontAt x n e)) (take maxMalformed (below (frontAt x n e) (givenIn ms))) (lsnsIn (x .malformed) (t .malformed)) ≡ after-scan .malformed
     malformed-are = rw (hn, he, counts)

@@ -1,8 +1,8 @@
 -- What the steps of an absorb need of the tables, and what they leave.
 use mathlib.Core.Path.{_≡_}
-use Prim.Native.Nat.{ℕ, _+_, _*_, _/_, _≤_}
+use Prim.Native.Nat.{ℕ, _+_, _*_, _≤_}
 use mathlib.Core.Bool.{true, cond}
-use mathlib.Core.List.{List, []}
+use mathlib.Core.List.{List}
 use mathlib.Core.Option.{Option}
 use lib.Dec.{ltb}
 use lib.ListN.{length, take}
@@ -12,36 +12,29 @@ use Rattle.rules.specs.declared.EndState.{EndState}
 use Rattle.rules.specs.declared.ImageId.{ImageId}
 use Rattle.rules.specs.declared.Recorder.{Recorder}
 use Rattle.rules.specs.Tests.{orElse}
-use Rattle.rules.specs.Values.{maxMalformed, max32, boundaries, frontierOf}
+use Rattle.rules.specs.Values.{maxMalformed, max32, frontierOf}
 use Rattle.rules.specs.Sections.{rising, ownLsn, anyLsn}
-use Rattle.rules.specs.Questions.{areaOk, numbersOk, scanOk}
+use Rattle.rules.specs.Questions.{areaOk}
 use Rattle.rules.specs.Record.{below, moves}
 use Rattle.rules.specs.File.{encodeLsn}
 use Rattle.table.specs.Tables.{lsnsIn}
-use Rattle.index.specs.Index.{Tables, tables, indexIn, kindsIn}
-use Rattle.index.specs.Needs.{scanSpace}
+use Rattle.index.specs.Index.{tables, indexIn}
+use Rattle.index.specs.Needs.{Passes}
 use Rattle.sections.specs.Numbers.{endIn, idIn, idFrom}
 use Rattle.parts.specs.declared.Counts.{Counts}
 use Rattle.recorder.specs.Recorder.{RecorderTables, recorderIn, recorderRefusal}
 use Rattle.take.specs.Needs.{Put}
 use Rattle.absorb_questions.specs.Needs.{givenIn, nineIn}
 
--- the tables of a scan: an index's without hints and confirmations
-abbrev pub scanTables : List ℕ → List ℕ → List ℕ → List ℕ → List ℕ → Tables
-scanTables a b c d e = tables a b c d e [] []
-
--- 1 to 4 of the index as far as its scan, 1 to 4 of the recorder, 9, and of 10 and 12 what is used
-pub record Ready (x : AreaIndex) (t : Tables) (r : Recorder) (u : RecorderTables) (ms : List ℕ) : Type 0 where
-  pub area : areaOk (x .area) ≡ true
-  pub numbers : numbersOk (x .interval) (x .budget) ≡ true
-  pub space : scanSpace (boundaries (x .area) (x .interval)) (x .budget) (t .checkpoints) (t .frames) (t .store) (t .parts) ≡ true
-  pub room : maxMalformed ≤ length (t .malformed) / 4
-  pub scan : scanOk (indexIn x t .scan) ≡ true
-  pub kinds : kindsIn x t ≡ true
+-- 1 to 4 of both, the index's with some tables of hints and confirmations, 9, and of 10 and 12 what is used
+pub record Ready (x : AreaIndex) (cs fs st ps ls : List ℕ) (r : Recorder) (u : RecorderTables) (ms : List ℕ) : Type 0 where
+  pub hints : List ℕ
+  pub confirmed : List ℕ
+  pub own : Passes x (tables cs fs st ps ls hints confirmed)
   pub recorder : recorderRefusal r u ≡ 0
   pub same : nineIn x r ≡ true
   pub joins : r .first ≤ x .checkpoints
-  pub rises : moves (indexIn x t .scan) (recorderIn r u) ≡ true → rising ownLsn anyLsn 0 (max32 + 1) (givenIn ms) ≡ true
+  pub rises : moves (indexIn x (tables cs fs st ps ls hints confirmed) .scan) (recorderIn r u) ≡ true → rising ownLsn anyLsn 0 (max32 + 1) (givenIn ms) ≡ true
 
 -- ---- malformed LSNs
 -- the frontier of the index, and that of n checkpoints with the end state e

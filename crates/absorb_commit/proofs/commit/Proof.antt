@@ -1,10 +1,17 @@
-use Rattle.index.specs.Index.{tables}
+use Prim.Native.Nat.{ℕ}
+use mathlib.Core.List.{List}
+use Rattle.index.specs.Index.{Tables, tables}
 use Rattle.absorb_questions.proofs.Twelve.{end-is}
 use Rattle.absorb_commit.proofs.Ready.{appends, held-ready}
 use Rattle.absorb_commit.proofs.Steps.{takes-below, committed}
 use borrow.Author.Needs.{needs}
 use Rattle.absorb_commit.proofs.commit.Statement.{statement}
 use Rattle.absorb_commit.proofs.commit.Tie as tie
+
+-- the tables as they are lent, with some of hints and confirmations
+abbrev lent : tie.Start → List ℕ → List ℕ → Tables
+lent s hints confirmed =
+    let a = s .args in tables (a .checkpoints .now) (a .frames .now) (a .store .now) (a .parts .now) (a .malformed .now) hints confirmed
 
 -- where the end state was found, and what was known before
 abbrev ended : tie.After-append-from → tie.After-or-else
@@ -31,7 +38,7 @@ take-below-requires c κs =
     let more : tie.After-append-from = search in
     let end = ended more in
     let start = begin (read end) in
-    takes-below _ _ _ _ (start .args .image) _ (more .append-from .ensures .count) (end-is _ (read end .end-of .ensures) (end .or-else .ensures)) (start .pre)
+    takes-below _ (lent start (start .pre .hints) (start .pre .confirmed)) _ _ (start .args .image) _ (more .append-from .ensures .count) (end-is _ (read end .end-of .ensures) (end .or-else .ensures)) (start .pre)
 
 returns : tie.Need-returns
 returns c = λ hints confirmed kept.
@@ -42,7 +49,7 @@ returns c = λ hints confirmed kept.
     let end = ended more in
     let start = begin (read end) in
     let a = start .args in
-    committed (a .x) (tables (a .checkpoints .now) (a .frames .now) (a .store .now) (a .parts .now) (a .malformed .now) hints confirmed) (a .r) _ (a .image) (a .given .now) _
+    committed (a .x) (lent start hints confirmed) (a .r) _ (a .image) (a .given .now) _
     (end-is _ (read end .end-of .ensures) (end .or-else .ensures)) (more .append-from .ensures) (second .take-held .ensures) (third .take-below .ensures) (fourth .numbers .ensures) kept
 
 pub commit-spec : {M : Type 1} → statement M
