@@ -68,27 +68,12 @@ module _ (r : Recorder) (t : RecorderTables) (lsn threshold malformed : ℕ) (f 
   unfolding recordNumber
   number-no h = sym (rw (← e, ne-eqb n 0 h))
 
-  module _ (z : n ≡ 0) {g : Bool} (p : g ≡ dueIn r lsn len) where
-    pub number-5 : not g ≡ true → 5 ≡ recordNumber r t lsn threshold malformed f len
-    unfolding recordNumber firstNo
-    number-5 h = sym (rw (← e, eq-eqb n 0 z, ← p, not-true g h))
-
-    module _ (m : not g ≡ false) {c : Checkpoint} (last : c ≡ lastCheckpoint (recorderIn r t .checkpoints)) {k : Bool} (q : k ≡ risesIn c (r .first + r .checkpoints) (r .interval) threshold malformed) where
-      six : k ≡ risesIn (lastCheckpoint (recorderIn r t .checkpoints)) (r .first + r .checkpoints) (r .interval) threshold malformed
-      six = rw last at q
-
-      pub number-6 : not k ≡ true → 6 ≡ recordNumber r t lsn threshold malformed f len
-      unfolding recordNumber firstNo
-      number-6 h = sym (rw (← e, eq-eqb n 0 z, ← p, not-false g m, ← six, not-true k h))
-
-      module _ (l : not k ≡ false) {w : Bool} (s : w ≡ startsIn (r .area) lsn f) where
-        pub number-7 : not w ≡ true → 7 ≡ recordNumber r t lsn threshold malformed f len
-        unfolding recordNumber firstNo
-        number-7 h = sym (rw (← e, eq-eqb n 0 z, ← p, not-false g m, ← six, not-false k l, ← s, not-true w h))
-
-        pub number-0 : not w ≡ false → 0 ≡ recordNumber r t lsn threshold malformed f len
-        unfolding recordNumber firstNo
-        number-0 h = sym (rw (← e, eq-eqb n 0 z, ← p, not-false g m, ← six, not-false k l, ← s, not-false w h))
+  -- 5 to 7 where 1 to 4 give no number
+  pub number-then : {a b c : Bool} {last : Checkpoint} {m : ℕ} → n ≡ 0 → last ≡ lastCheckpoint (recorderIn r t .checkpoints) → a ≡ dueIn r lsn len
+      → b ≡ risesIn last (r .first + r .checkpoints) (r .interval) threshold malformed → c ≡ startsIn (r .area) lsn f → m ≡ firstNo (ask a 5 ∷ ask b 6 ∷ ask c 7 ∷ [])
+      → m ≡ recordNumber r t lsn threshold malformed f len
+  unfolding recordNumber
+  number-then z l p q s h = h ∙ rw (p, q, l, s) (sym (rw (← e, eq-eqb n 0 z)))
 
 -- ---- the call by its number
 out-after : (t : RecorderTables) (n m : ℕ) (x : values.Recorder)

@@ -17,6 +17,7 @@ use rules::REPLAY_SECTORS;
 use rules::Recorder;
 use rules::SECTOR_BYTES;
 use rules::UnderAssembly;
+use sections::ask;
 use sections::last_checkpoint;
 ghost use mathlib.Core.Path.{_≡_};
 ghost use mathlib.Core.Bool.{true};
@@ -157,19 +158,13 @@ fn record_number(
     if number != 0 {
         return number;
     }
-    if !due(r, lsn, len) {
-        return 5;
-    }
+    let area = r.area;
     let j = r.first as u64 + r.checkpoints as u64;
     let last = last_checkpoint(checkpoints, r.checkpoints as usize);
-    if !rises(last, j, r.interval, threshold, malformed) {
-        return 6;
-    }
-    let area = r.area;
-    if !starts(area, lsn, frame) {
-        return 7;
-    }
-    0
+    let five = due(r, lsn, len);
+    let six = rises(last, j, r.interval, threshold, malformed);
+    let seven = starts(area, lsn, frame);
+    ask(ask(ask(0, five, 5), six, 6), seven, 7)
 }
 
 // One checkpoint more.

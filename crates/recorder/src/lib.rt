@@ -210,7 +210,7 @@ pub fn recorder(
 }
 
 // ---- finish
-fn with_mode(r: Recorder, mode: Mode) -> Recorder
+pub fn with_mode(r: Recorder, mode: Mode) -> Recorder
     ensures { λ q. ⌜ q ≡ modeOf r mode ⌝ }
 {
     let area = r.area;

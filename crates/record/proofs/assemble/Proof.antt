@@ -1,4 +1,5 @@
 use mir.Syntax.{w32}
+use mir.Val.{SFits}
 use mir.ValLaws.{toZ-ofZ}
 use native.Mathlib.Omega.{arith}
 use Rattle.record.proofs.Writing.{assembled-none, assembled-near, assembled-far}
@@ -7,13 +8,42 @@ use Rattle.record.proofs.assemble.Statement.{statement}
 use Rattle.record.proofs.assemble.Tie as tie
 
 returns : tie.Need-returns
-returns c = assembled-none (c .before .before .before .before .before .before .pre .0) (λ i. c .before .before .before .before .slice-known .given i .fits) (λ i. c .before .before .slice-known3 .given i .fits) _ _ _ (cc)
+returns c =
+    let ps : tie.After-slice-known3 = search in
+    let fs : tie.After-slice-known = search in
+    let start : tie.Start = search in
+    assembled-none (start .pre .0) (λ i. fs .slice-known .given i .fits) (λ i. ps .slice-known3 .given i .fits) _ _ _ (cc)
 
 returns-2 : tie.Need-returns-2
-returns-2 c = assembled-near (c .before .before .before .before .before .before .before .before .before .pre .0) (λ i. c .before .before .before .before .before .before .before .slice-known .given i .fits) (λ i. c .before .before .before .before .before .slice-known3 .given i .fits) _ _ _ _ (c .before .before .before .frame .given .1) (rw (c .before .less .ensures) at (c .if1 .taken))
+returns-2 c =
+    let back : tie.After-less = search in
+    let found : tie.After-frame = search in
+    let ps : tie.After-slice-known3 = search in
+    let fs : tie.After-slice-known = search in
+    let start : tie.Start = search in
+    assembled-near (start .pre .0) (λ i. fs .slice-known .given i .fits) (λ i. ps .slice-known3 .given i .fits) _ _ _ _ (found .frame .given .1)
+    (omega (arith, back .less .ensures, c .if1 .taken))
+
+abbrev kept : tie.After-add-part → tie.Else1
+kept p = search
+
+abbrev found : tie.Else1 → tie.After-frame
+found p = search
+
+-- the remaining bytes fit their type
+sized : (p : tie.After-add-part) → SFits w32 (found (kept p) .frame .given .0 .0 .remaining)
+sized p = search needs
 
 returns-3 : tie.Need-returns-3
-returns-3 c = assembled-far (c .before .before .before .before .before .before .before .before .before .before .before .before .before .before .before .before .before .before .before .before .before .pre .0) (λ i. c .before .before .before .before .before .before .before .before .before .before .before .before .before .before .before .before .before .before .before .slice-known .given i .fits) (λ i. c .before .before .before .before .before .before .before .before .before .before .before .before .before .before .before .before .before .slice-known3 .given i .fits) _ _ _ _ (c .before .before .before .before .before .before .before .before .before .before .before .before .before .before .before .frame .given .1) (rw (c .before .before .before .before .before .before .before .before .before .before .before .before .before .less .ensures) at (c .before .before .before .before .before .before .before .before .before .before .before .before .if1 .left)) (toZ-ofZ w32 _ (search needs)) (c .before .before .before .before .before .before .add-part .ensures)
+returns-3 c =
+    let done : tie.After-add-part = search in
+    let far = kept done in
+    let back : tie.After-less = far .before in
+    let ps : tie.After-slice-known3 = search in
+    let fs : tie.After-slice-known = search in
+    let start : tie.Start = search in
+    assembled-far (start .pre .0) (λ i. fs .slice-known .given i .fits) (λ i. ps .slice-known3 .given i .fits) _ _ _ _ (found far .frame .given .1)
+    (omega (arith, back .less .ensures, far .if1 .left)) (toZ-ofZ w32 _ (sized done)) (done .add-part .ensures)
 
 pub assemble-spec : {M : Type 1} → statement M
 assemble-spec =

@@ -1,34 +1,47 @@
+use mathlib.Core.Path.{refl}
 use native.Mathlib.Omega.{arith}
+use Rattle.sections.proofs.Questions.{asked-all}
 use Rattle.index.proofs.Questions.{range}
 use Rattle.recorder.proofs.Calls.{passes-roomy, passes-long}
-use Rattle.record.proofs.Recording.{number-no, number-5, number-6, number-7, number-0}
+use Rattle.record.proofs.Recording.{number-no, number-then}
 use borrow.Author.Needs.{needs}
 use Rattle.record.proofs.record_number.Statement.{statement}
 use Rattle.record.proofs.record_number.Tie as tie
 
+abbrev asked : tie.Else1 → tie.After-recorder-refuses
+asked p = search
+
 returns : tie.Need-returns
 returns c = number-no _ _ _ _ _ _ _ (c .before .recorder-refuses .ensures) (c .if1 .taken)
 
-due-requires : tie.Need-due-requires
-due-requires c κs = ((let g = range _ (passes-roomy _ _ (c .before .recorder-refuses .ensures) (c .if1 .left) .area) in omega arith), passes-long _ _ (c .before .recorder-refuses .ensures) (c .if1 .left) .few)
-
-returns-2 : tie.Need-returns-2
-returns-2 c = number-5 _ _ _ _ _ _ _ (c .before .before .before .recorder-refuses .ensures) (c .before .before .if1 .left) (c .before .due .ensures) (c .if2 .taken)
-
 last-checkpoint-requires : tie.Need-last-checkpoint-requires
-last-checkpoint-requires c κs = passes-long _ _ (c .before .before .before .before .before .before .recorder-refuses .ensures) (c .before .before .before .before .before .if1 .left) .checkpoints
+last-checkpoint-requires c κs =
+    let passed : tie.Else1 = search in
+    passes-long _ _ (asked passed .recorder-refuses .ensures) (passed .if1 .left) .checkpoints
+
+due-requires : tie.Need-due-requires
+due-requires c κs =
+    let passed : tie.Else1 = search in
+    let number = asked passed .recorder-refuses .ensures in
+    ((let g = range _ (passes-roomy _ _ number (passed .if1 .left) .area) in omega arith), passes-long _ _ number (passed .if1 .left) .few)
 
 rises-requires : tie.Need-rises-requires
-rises-requires c κs = passes-long _ _ (c .before .before .before .before .before .before .before .recorder-refuses .ensures) (c .before .before .before .before .before .before .if1 .left) .few
+rises-requires c κs =
+    let passed : tie.Else1 = search in
+    passes-long _ _ (asked passed .recorder-refuses .ensures) (passed .if1 .left) .few
 
-returns-3 : tie.Need-returns-3
-returns-3 c = number-6 _ _ _ _ _ _ _ (c .before .before .before .before .before .before .before .before .before .recorder-refuses .ensures) (c .before .before .before .before .before .before .before .before .if1 .left) (c .before .before .before .before .before .before .before .due .ensures) (c .before .before .before .before .before .before .if2 .left) (c .before .before .last-checkpoint .ensures) (c .before .rises .ensures) (c .if3 .taken)
-
-returns-4 : tie.Need-returns-4
-returns-4 c = number-7 _ _ _ _ _ _ _ (c .before .before .before .before .before .before .before .before .before .before .before .before .recorder-refuses .ensures) (c .before .before .before .before .before .before .before .before .before .before .before .if1 .left) (c .before .before .before .before .before .before .before .before .before .before .due .ensures) (c .before .before .before .before .before .before .before .before .before .if2 .left) (c .before .before .before .before .before .last-checkpoint .ensures) (c .before .before .before .before .rises .ensures) (c .before .before .before .if3 .left) (c .before .starts .ensures) (c .if4 .taken)
-
-returns-5 : tie.Need-returns-5
-returns-5 c = number-0 _ _ _ _ _ _ _ (c .before .before .before .before .before .before .before .before .before .before .before .before .recorder-refuses .ensures) (c .before .before .before .before .before .before .before .before .before .before .before .if1 .left) (c .before .before .before .before .before .before .before .before .before .before .due .ensures) (c .before .before .before .before .before .before .before .before .before .if2 .left) (c .before .before .before .before .before .last-checkpoint .ensures) (c .before .before .before .before .rises .ensures) (c .before .before .before .if3 .left) (c .before .starts .ensures) (c .if4 .left)
+returns-2 : tie.Need-returns-2
+returns-2 c =
+    let three : tie.After-ask3 = search in
+    let two : tie.After-ask2 = search in
+    let one : tie.After-ask = search in
+    let seven : tie.After-starts = search in
+    let six : tie.After-rises = search in
+    let five : tie.After-due = search in
+    let last : tie.After-last-checkpoint = search in
+    let passed : tie.Else1 = search in
+    number-then _ _ _ _ _ _ _ (asked passed .recorder-refuses .ensures) (passed .if1 .left) (last .last-checkpoint .ensures) (five .due .ensures) (six .rises .ensures)
+    (seven .starts .ensures) (asked-all _ refl (rw (three .ask3 .ensures, two .ask2 .ensures, one .ask .ensures)))
 
 pub record-number-spec : {M : Type 1} → statement M
 record-number-spec =
@@ -36,15 +49,15 @@ record-number-spec =
     (tie.spec
     (λ c κs. search needs)
     returns
-    due-requires
-    returns-2
     (λ c. search needs)
     (λ c. search needs)
     (λ c. search needs)
     (λ c. search needs)
     last-checkpoint-requires
+    due-requires
     rises-requires
-    returns-3
     (λ c κs. search needs)
-    returns-4
-    returns-5)
+    (λ c κs. search needs)
+    (λ c κs. search needs)
+    (λ c κs. search needs)
+    returns-2)
