@@ -1,0 +1,108 @@
+use Rattle.index.specs.Index.{Tables, tables}
+use Rattle.index.specs.Lent.{TableBytes}
+use Rattle.absorb_commit.proofs.Facts.{ready}
+use Rattle.absorb.proofs.Calls.{few, absorbs, absorb-refused, absorb-stopped, absorb-done}
+use borrow.Author.Needs.{needs}
+use Rattle.absorb.proofs.absorb.Statement.{statement}
+use Rattle.absorb.proofs.absorb.Tie as tie
+
+abbrev begin : tie.After-absorb-refuses → tie.Start
+begin p = search
+
+-- the tables as they are lent, which are bytes
+abbrev lent : tie.Start → Tables
+lent s =
+    let a = s .args in
+    tables (a .checkpoints .now) (a .frames .now) (a .store .now) (a .parts .now) (a .malformed .now) (a .hints .now) (a .confirmed .now)
+
+bytes : (p : tie.After-absorb-refuses) → TableBytes (lent (begin p))
+bytes p =
+    let ks : tie.After-shared-slice-known3 = search in
+    let hs : tie.After-shared-slice-known2 = search in
+    let ms : tie.After-slice-known5 = search in
+    let ps : tie.After-slice-known4 = search in
+    let st : tie.After-slice-known3 = search in
+    let fs : tie.After-slice-known2 = search in
+    let cs : tie.After-slice-known = search in
+    record {
+      checkpoints = λ i. cs .slice-known .given i .fits;
+      frames = λ i. fs .slice-known2 .given i .fits;
+      store = λ i. st .slice-known3 .given i .fits;
+      parts = λ i. ps .slice-known4 .given i .fits;
+      malformed = λ i. ms .slice-known5 .given i .fits;
+      hints = λ i. hs .shared-slice-known2 .given i .fits;
+      confirmed = λ i. ks .shared-slice-known3 .given i .fits;
+    }
+
+-- the recorder is not stopped, and nothing refuses
+abbrev goes : tie.After-drain → tie.Else2
+goes p = search
+
+abbrev mode : tie.Else2 → tie.After-is-stopped
+mode p = search
+
+abbrev none : tie.Else2 → tie.Else1
+none p = search
+
+abbrev asked : tie.Else1 → tie.After-absorb-refuses
+asked p = search
+
+returns : tie.Need-returns
+returns c =
+    let after : tie.After-stop-recording = search in
+    let refused : tie.Then1 = search in
+    let number : tie.After-absorb-refuses = search in
+    absorb-refused _ _ _ _ _ _ (number .absorb-refuses .ensures) (refused .if1 .taken) (after .stop-recording .ensures)
+
+returns-2 : tie.Need-returns-2
+returns-2 c =
+    let stopped : tie.After-is-stopped = search in
+    let accepted : tie.Else1 = search in
+    absorb-stopped _ _ _ _ _ _ (asked accepted .absorb-refuses .ensures) (accepted .if1 .left) (bytes (asked accepted)) (stopped .is-stopped .ensures) (c .if2 .taken)
+
+drain-requires : tie.Need-drain-requires
+drain-requires c κs =
+    let accepted : tie.Else1 = search in
+    few _ (lent (begin (asked accepted))) _ _ _ _ (asked accepted .absorb-refuses .ensures) (accepted .if1 .left)
+
+commit-requires : tie.Need-commit-requires
+commit-requires c κs =
+    let ended : tie.After-drain = search in
+    let going = goes ended in let accepted = none going in
+    ready (absorbs _ (lent (begin (asked accepted))) _ _ _ _ (asked accepted .absorb-refuses .ensures) (accepted .if1 .left) (mode going .is-stopped .ensures) (going .if2 .left))
+
+returns-3 : tie.Need-returns-3
+returns-3 c =
+    let done : tie.After-commit = search in
+    let ended : tie.After-drain = search in
+    let going = goes ended in let accepted = none going in
+    absorb-done _ _ _ _ _ _ (asked accepted .absorb-refuses .ensures) (accepted .if1 .left) (bytes (asked accepted)) (mode going .is-stopped .ensures) (going .if2 .left)
+    (ended .drain .ensures) (done .commit .ensures)
+
+pub absorb-spec : {M : Type 1} → statement M
+absorb-spec =
+    tie.close
+    (tie.spec
+    (λ c κs. search needs)
+    (λ c κs. search needs)
+    (λ c. search needs)
+    (λ c. search needs)
+    (λ c. search needs)
+    (λ c. search needs)
+    (λ c. search needs)
+    returns
+    (λ c κs. search needs)
+    (λ c. search needs)
+    (λ c. search needs)
+    (λ c. search needs)
+    (λ c. search needs)
+    (λ c. search needs)
+    returns-2
+    drain-requires
+    commit-requires
+    (λ c. let place : tie.After-checkpoints = search in place .checkpoints .given)
+    (λ c. let place : tie.After-frames = search in place .frames .given)
+    (λ c. let place : tie.After-store = search in place .store .given)
+    (λ c. let place : tie.After-parts = search in place .parts .given)
+    (λ c. let place : tie.After-malformed = search in place .malformed .given)
+    returns-3)

@@ -1,0 +1,146 @@
+// Absorbing a recorder into an index, in their tables.
+use absorb_commit::commit;
+use absorb_refuses::absorb_refuses;
+use absorb_refuses::is_stopped;
+use recorder::with_mode;
+use rules::AreaIndex;
+use rules::ImageId;
+use rules::Mode;
+use rules::Recorder;
+ghost use mathlib.Core.Path.{_≡_};
+ghost use mathlib.Core.Bool.{cond};
+ghost use Prim.Native.Nat.{_+_, _≤_};
+ghost use lib.Dec.{eqb};
+ghost use Rattle.rules.specs.declared.Mode.the-variants.{Stopped};
+ghost use Rattle.rules.specs.Record.{drained};
+ghost use Rattle.index.specs.Index.{tables};
+ghost use Rattle.recorder.specs.Recorder.{recorderTables};
+ghost use Rattle.recorder.specs.Needs.{modeOf};
+ghost use Rattle.absorb.specs.Absorb.{out, absorbIn};
+ghost use Rattle.absorb.specs.Needs.{drainedOf};
+
+// The refusal number, 0 where it is accepted, and the numbers of both afterwards.
+pub struct Absorbed {
+    pub number: u32,
+    pub index: AreaIndex,
+    pub recorder: Recorder,
+}
+
+// ---- the recorder afterwards
+// 8 stops the recorder; another refusal leaves it.
+fn stop_recording(r: Recorder, number: u32) -> Recorder
+    ensures { λ q. ⌜ q ≡ cond (eqb number 8) (modeOf r Stopped) r ⌝ }
+{
+    if number != 8 {
+        return r;
+    }
+    with_mode(r, Mode::Stopped)
+}
+
+// The mode of an emptied recorder: stopped if finished.
+fn drained(mode: Mode) -> Mode
+    ensures { λ q. ⌜ q ≡ drained mode ⌝ }
+{
+    match mode {
+        Mode::Running => Mode::Running,
+        Mode::Finished(_) => Mode::Stopped,
+        Mode::Stopped => Mode::Stopped,
+    }
+}
+
+// The recorder emptied.
+fn drain(r: Recorder) -> Recorder
+    requires { ⌜ r .first + r .checkpoints ≤ 4294967295 ⌝ }
+    ensures { λ q. ⌜ q ≡ drainedOf r ⌝ }
+{
+    let area = r.area;
+    let held = r.mode;
+    let mode = drained(held);
+    Recorder {
+        area,
+        interval: r.interval,
+        budget: r.budget,
+        first: r.first + r.checkpoints,
+        from: r.from,
+        checkpoints: 0,
+        frames: 0,
+        parts: 0,
+        mode,
+    }
+}
+
+// ---- the call
+// What the recorder r has, only read, into the index x; image is the image that was read, and given the malformed LSNs of the reading.
+pub fn absorb(
+    x: AreaIndex,
+    r: Recorder,
+    image: ImageId,
+    given: &[u8],
+    checkpoints: &mut [u8],
+    frames: &mut [u8],
+    store: &mut [u8],
+    parts: &mut [u8],
+    malformed: &mut [u8],
+    hints: &[u8],
+    confirmed: &[u8],
+    new_checkpoints: &[u8],
+    new_frames: &[u8],
+    new_store: &[u8],
+    new_parts: &[u8],
+) -> Absorbed
+    ensures { λ a. ⌜ out a (tables (now (checkpoints .exit)) (now (frames .exit)) (now (store .exit)) (now (parts .exit)) (now (malformed .exit)) (now (hints .entry)) (now (confirmed .entry))) ≡ absorbIn x (tables (now (checkpoints .entry)) (now (frames .entry)) (now (store .entry)) (now (parts .entry)) (now (malformed .entry)) (now (hints .entry)) (now (confirmed .entry))) image (now (given .entry)) r (recorderTables (now («new_checkpoints» .entry)) (now («new_frames» .entry)) (now («new_store» .entry)) (now («new_parts» .entry))) ⌝ }
+{
+    let number = absorb_refuses(
+        x,
+        r,
+        image,
+        given,
+        checkpoints,
+        frames,
+        store,
+        parts,
+        malformed,
+        hints,
+        confirmed,
+        new_checkpoints,
+        new_frames,
+        new_store,
+        new_parts,
+    );
+    if number != 0 {
+        return Absorbed {
+            number,
+            index: x,
+            recorder: stop_recording(r, number),
+        };
+    }
+    let mode = r.mode;
+    if is_stopped(mode) {
+        return Absorbed {
+            number: 0,
+            index: x,
+            recorder: r,
+        };
+    }
+    let recorder = drain(r);
+    let index = commit(
+        x,
+        r,
+        image,
+        given,
+        checkpoints,
+        frames,
+        store,
+        parts,
+        malformed,
+        new_checkpoints,
+        new_frames,
+        new_store,
+        new_parts,
+    );
+    Absorbed {
+        number: 0,
+        index,
+        recorder,
+    }
+}
