@@ -1,29 +1,28 @@
 -- What record answers, by the numbers that refuse, and the tables afterwards. Assumes nothing.
 use mathlib.Core.Path.{_≡_, refl, sym, ap, _∙_}
-use mathlib.Core.Bool.{Bool, true, false, _&&_, not, cond, and-true, and-assoc}
+use mathlib.Core.Bool.{Bool, true, _&&_, cond, and-true}
 use mathlib.Core.List.{List, [], _∷_, _++_}
 use mathlib.Core.Option.{Option, none, some}
 use Prim.Native.Nat.{ℕ, _+_, _-_, _*_, _/_, _<_, _≤_}
 use native.Mathlib.Omega.{arith}
-use borrow.Author.Tests.{eq-eqb, ne-eqb, eqb-true, eqb-false, leb-true, ltb-true, not-true, not-false}
-use lib.Dec.{eqb, leb, ltb}
-use lib.ListN.{length, take}
+use borrow.Author.Tests.{eq-eqb, ne-eqb, eqb-true, eqb-false, leb-true, ltb-true}
+use lib.Dec.{eqb, ltb}
+use lib.ListN.{length}
 use lib.Seq.{sets}
 use Rattle.field.specs.Records.{bytesOf, Bytes}
 use Rattle.field.proofs.Records.{records-length}
 use Rattle.field.proofs.Format.{bytesOf-append, bytesOf-one, bytes-records}
 use Rattle.fnv.specs.Fnv.{fnv64}
-use Rattle.rules.specs.declared.Area.{Area}
 use Rattle.rules.specs.declared.Checkpoint.{Checkpoint}
 use Rattle.rules.specs.declared.Recorder.{Recorder}
 use Rattle.rules.specs.declared.UnderAssembly.{UnderAssembly}
 use Rattle.rules.specs.declared.UnderAssembly.the-variants.{Nothing, Frame}
-use Rattle.rules.specs.Tests.{all, each, Ask, ask, firstNo, Answer, Refused, Accepted, after}
-use Rattle.rules.specs.Values.{lim, lsnOf, boundaries, lastCheckpoint, used}
+use Rattle.rules.specs.Tests.{all, each, Ask, ask, firstNo, Refused, Accepted, after}
+use Rattle.rules.specs.Values.{lsnOf, boundaries, lastCheckpoint, used}
 use Rattle.rules.specs.Values as values
 use Rattle.rules.specs.Questions.{recorderFourOf, recorderQuestion4, scanRoom}
 use Rattle.rules.specs.Record.{Assembling, isRunning, question5, question6, question7, backOf, assembled, recorded, recordAt}
-use Rattle.rules.specs.File.{decodeCheckpoint, decodeHeld, encodeCheckpoint, over}
+use Rattle.rules.specs.File.{decodeCheckpoint, encodeCheckpoint}
 use Rattle.rules.proofs.Tests.{test, asked, and-left, and-right}
 use Rattle.rules.proofs.Walk.{length-snoc}
 use Rattle.scanlaws.proofs.Scans.{boundary-in, recorder→}
@@ -37,14 +36,13 @@ use Rattle.index.proofs.Questions.{range}
 use Rattle.parts.specs.declared.Counts.{Counts}
 use Rattle.parts.specs.Parts.{PartTables, partTables, storedIn, countsOf, storedOver, Held, held, heldFrom}
 use Rattle.parts.specs.Needs.{Room}
-use Rattle.parts.proofs.Frames.{count}
 use Rattle.parts.proofs.Stored.{over-more}
 use Rattle.parts.proofs.Callers.{room-from}
 use Rattle.recorder.specs.declared.Recorded.the-variants as recorded
 use Rattle.recorder.specs.Recorder.{RecorderTables, recorderTables, recorderRoom, recorderIn, recorderKinds, recorderRefusal, recorderFrom, recorderOver}
 use Rattle.recorder.specs.Needs.{recorderHeld, Roomy, Long}
 use Rattle.recorder.proofs.Calls.{passes-roomy, passes-held, passes-long}
-use Rattle.record.specs.Record.{assemblingIn, RecorderOut, recorderOut, recordOut, recordIn}
+use Rattle.record.specs.Record.{assemblingIn, recorderOut, recordOut, recordIn}
 use Rattle.record.specs.Needs.{dueIn, risesIn, startsIn, assembledIn, recordNumber, advancedOf}
 
 -- ---- 5 to 7

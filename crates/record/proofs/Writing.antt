@@ -1,14 +1,9 @@
 -- What record writes: a checkpoint, and the part of a frame under assembly. Assumes nothing.
-use mathlib.Core.Path.{_≡_, refl, sym, ap, _∙_}
-use mathlib.Core.Bool.{Bool, true, false, cond}
-use mathlib.Core.List.{List, [], _∷_, _++_, append-nil}
-use mathlib.Core.Option.{none, some}
-use Prim.Native.Nat.{ℕ, _+_, _-_, _*_, _<_, _≤_}
-use native.Mathlib.Omega.{arith}
+use mathlib.Core.Path.{_≡_, _∙_}
+use mathlib.Core.List.{List, [], _∷_, append-nil}
+use Prim.Native.Nat.{ℕ, _+_, _-_, _<_, _≤_}
 use borrow.Author.Tests.{le-ltb, lt-ltb}
-use lib.Dec.{ltb}
 use lib.IntN.{ℤ}
-use lib.ListN.{length}
 use lib.Seq.{sets}
 use Rattle.field.specs.Number.{put}
 use Rattle.field.specs.Records.{Bytes}
@@ -17,7 +12,7 @@ use Rattle.rules.specs.declared.Assembling as declared
 use Rattle.rules.specs.declared.Checkpoint.{Checkpoint}
 use Rattle.rules.specs.declared.UnderAssembly.{UnderAssembly}
 use Rattle.rules.specs.declared.UnderAssembly.the-variants.{Nothing, Frame}
-use Rattle.rules.specs.PartRule.{Stored, addPart}
+use Rattle.rules.specs.PartRule.{addPart}
 use Rattle.rules.specs.File.{encodeCheckpoint}
 use Rattle.parts.specs.declared.Counts.{Counts}
 use Rattle.parts.specs.Parts.{PartTables, storedIn, Held, held, heldFrom}
