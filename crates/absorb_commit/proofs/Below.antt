@@ -1,6 +1,6 @@
 -- The given malformed LSNs that are taken are the first ones. Assumes nothing.
 use mathlib.Core.Path.{_≡_, refl, sym, ap, _∙_}
-use mathlib.Core.Bool.{Bool, true, false, cond}
+use mathlib.Core.Bool.{Bool, true, false}
 use mathlib.Core.List.{List, [], _∷_}
 use mathlib.Core.Option.{Option}
 use Prim.Native.Nat.{ℕ, suc, _+_, _*_, _/_, _≤_, min}
@@ -8,8 +8,7 @@ use native.Mathlib.Omega.{arith}
 use lib.Dec.{ltb, leb}
 use lib.ListN.{length, take, length-take}
 use lib.Seq.{take-take, take-all}
-use borrow.Author.Tests.{ltb-true, ltb-false, leb-true, leb-false}
-use Rattle.field.specs.Records.{records}
+use borrow.Author.Tests.{ltb-false, leb-true, leb-false}
 use Rattle.field.proofs.Records.{records-length, take-records}
 use Rattle.rules.specs.declared.AreaIndex.{AreaIndex}
 use Rattle.rules.specs.declared.EndState.{EndState}

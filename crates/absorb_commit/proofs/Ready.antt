@@ -29,7 +29,7 @@ use Rattle.recorder.specs.Needs.{recorderHeld}
 use Rattle.recorder.specs.Needs as recorder
 use Rattle.recorder.proofs.Calls.{passes-roomy, passes-held, passes-long as recorder-long}
 use Rattle.absorb_questions.specs.Needs.{nineIn}
-use Rattle.take.specs.Needs.{AppendsFrom, HeldReady}
+use Rattle.take.specs.Needs.{Appends, PartsReady}
 use Rattle.absorb_commit.specs.Needs.{Ready}
 
 -- fewer parts are for later checkpoints
@@ -69,7 +69,7 @@ module _ {x : AreaIndex} {cs fs st ps ls : List ℕ} {r : Recorder} {u : Recorde
       let b = ap₂ boundaries areas intervals in omega arith
 
   -- ---- what the steps need
-  pub appends : AppendsFrom (x .checkpoints) (r .checkpoints) (x .checkpoints - r .first) cs (u .checkpoints)
+  pub appends : Appends (x .checkpoints) (r .checkpoints) (x .checkpoints - r .first) cs (u .checkpoints)
   appends =
       let o = few-checkpoints (k .own) in let f = their-few in let j = k .joins in let b = few-boundaries (k .own) in
       let s = space (k .own .roomy) .checkpoints in
@@ -93,8 +93,8 @@ module _ {x : AreaIndex} {cs fs st ps ls : List ℕ} {r : Recorder} {u : Recorde
       let z = w (r .first + r .checkpoints) (omega arith) in
       let y = wanted-fewer (r .first + r .checkpoints) (x .checkpoints) (partsIn (r .parts) (u .parts)) (omega arith) in omega arith)
 
-  pub held-ready : HeldReady x (r .frames) (r .parts) ownTables theirTables
-  held-ready =
+  pub parts-ready : PartsReady x (r .frames) (r .parts) ownTables theirTables
+  parts-ready =
       record {
         own = passes-long (k .own) .frames;
         lent = lent-from (r .frames) (r .parts) theirTables (recorder-ok .held) (their-long .frames) (their-long .parts) their-store;

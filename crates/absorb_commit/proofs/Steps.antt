@@ -1,37 +1,35 @@
 -- The steps of an absorb, put together. Assumes nothing.
 use mathlib.Core.Path.{_≡_, refl, sym, ap, _∙_}
-use mathlib.Core.Bool.{Bool, true, false, cond}
-use mathlib.Core.List.{List, [], _∷_, _++_}
+use mathlib.Core.Bool.{cond}
+use mathlib.Core.List.{List, _++_}
 use mathlib.Core.Option.{Option}
-use Prim.Native.Nat.{ℕ, _+_, _-_, _*_, _≤_}
-use native.Mathlib.Omega.{arith}
+use Prim.Native.Nat.{ℕ, _+_, _-_}
 use lib.Dec.{ltb}
 use lib.ListN.{length, take, drop}
 use Rattle.field.specs.Records.{bytesOf}
 use Rattle.field.proofs.Records.{records-length}
 use Rattle.rules.specs.declared.AreaIndex.{AreaIndex}
-use Rattle.rules.specs.declared.Checkpoint.{Checkpoint}
 use Rattle.rules.specs.declared.End.{End}
 use Rattle.rules.specs.declared.End.the-variants.{Open, Closed}
 use Rattle.rules.specs.declared.EndState.{EndState}
 use Rattle.rules.specs.declared.ImageId.{ImageId}
 use Rattle.rules.specs.declared.Recorder.{Recorder}
 use Rattle.rules.specs.Tests.{orElse}
-use Rattle.rules.specs.Values.{Scan, Index, maxMalformed}
+use Rattle.rules.specs.Values.{Scan, maxMalformed}
 use Rattle.rules.specs.Values as values
 use Rattle.rules.specs.PartRule.{Stored, addParts}
 use Rattle.rules.specs.Questions.{endOf}
-use Rattle.rules.specs.Record.{below, joined, moves, takenMalformed, takenStored}
-use Rattle.rules.specs.File.{encodeCheckpoint, encodeFrameHeader, encodeHeld, encodeLsn, encodeHint, encodeConfirmation, decodeCheckpoint, decodeHint, decodeConfirmation, over}
-use Rattle.table.specs.Tables.{checkpointsIn, lsnsIn, framesIn, partsIn, hintsIn, confirmationsIn}
-use Rattle.index.specs.Index.{Tables, tables, indexIn, storeOf, numbersFrom, tablesFrom}
+use Rattle.rules.specs.Record.{below, moves}
+use Rattle.rules.specs.File.{encodeCheckpoint, encodeFrameHeader, encodeHeld, encodeLsn, decodeCheckpoint, decodeHint, decodeConfirmation, over}
+use Rattle.table.specs.Tables.{lsnsIn, hintsIn, confirmationsIn}
+use Rattle.index.specs.Index.{Tables, tables, indexIn, storeOf, numbersFrom}
 use Rattle.sections.specs.Numbers.{endIn, endFrom, idIn, idFrom}
 use Rattle.parts.specs.declared.Counts.{Counts}
-use Rattle.parts.specs.Parts.{PartTables, partTables, storedIn, Held, held, heldFrom}
+use Rattle.parts.specs.Parts.{partTables, storedIn, Held, held, heldFrom}
 use Rattle.recorder.specs.Recorder.{RecorderTables, recorderIn}
-use Rattle.take.specs.Needs.{Put, AppendedFrom, heldTaken}
+use Rattle.take.specs.Needs.{Appended, partsTaken}
 use Rattle.absorb_questions.specs.Needs.{givenIn}
-use Rattle.absorb_commit.specs.Commit.{Written, written, absorbed, absorbedIn, Kept}
+use Rattle.absorb_commit.specs.Commit.{written, absorbed, absorbedIn, Kept}
 use Rattle.absorb_commit.specs.Needs.{Ready, frontOf, frontAt, TakesBelow, TakenBelow, numbersBy}
 use Rattle.absorb_commit.proofs.Ready.{own-malformed}
 
@@ -84,8 +82,8 @@ module _ (x : AreaIndex) (t : Tables) (r : Recorder) (u : RecorderTables) (image
 
   module _ {n m : ℕ} {c : Counts} (e : End) {y : AreaIndex} {cs fs st ps ls : List ℕ}
       (p0 : endIn e ≡ orElse (endOf (r .mode)) (endIn (x .ending)))
-      (p1 : AppendedFrom (x .checkpoints) (r .checkpoints) (x .checkpoints - r .first) (t .checkpoints) (u .checkpoints) n cs)
-      (p2 : held c (partTables fs st ps) ≡ heldTaken x (r .frames) (r .parts) (partTables (t .frames) (t .store) (t .parts)) (partTables (u .frames) (u .store) (u .parts)))
+      (p1 : Appended (x .checkpoints) (r .checkpoints) (x .checkpoints - r .first) (t .checkpoints) (u .checkpoints) n cs)
+      (p2 : held c (partTables fs st ps) ≡ partsTaken x (r .frames) (r .parts) (partTables (t .frames) (t .store) (t .parts)) (partTables (u .frames) (u .store) (u .parts)))
       (p3 : TakenBelow x n (endIn e) (t .malformed) ms m ls)
       (p4 : y ≡ numbersBy x image n c m e) where
     parts-done : held c (partTables fs st ps) ≡ heldFrom after-stored (partTables (t .frames) (t .store) (t .parts))

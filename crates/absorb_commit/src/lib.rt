@@ -11,10 +11,10 @@ use rules::ImageId;
 use rules::MAX_MALFORMED_WARNINGS;
 use rules::Recorder;
 use sections::frontier_of;
-use take::append_from;
+use take::append_checkpoints;
 use take::image_of;
-use take::take_held;
 use take::take_malformed;
+use take::take_parts;
 ghost use mathlib.Core.Path.{_≡_};
 ghost use mathlib.Core.List.{List};
 ghost use Prim.Native.Nat.{ℕ};
@@ -100,14 +100,14 @@ pub fn commit(
     let ending = x.ending;
     let skip = x.checkpoints - r.first;
     let end = or_else(end_of(mode), ending);
-    let n = append_from(
+    let n = append_checkpoints(
         checkpoints,
         x.checkpoints,
         new_checkpoints,
         r.checkpoints,
         skip,
     );
-    let c = take_held(
+    let c = take_parts(
         x,
         r.frames,
         r.parts,

@@ -1,13 +1,13 @@
 -- What each step of a merge needs of the tables, where nothing refuses. Assumes nothing.
-use mathlib.Core.Path.{_≡_, refl, sym, ap, _∙_}
-use mathlib.Core.Bool.{Bool, true, false, cond}
-use Prim.Native.Nat.{ℕ, _+_, _*_, _/_, _<_, _≤_}
+use mathlib.Core.Path.{_≡_, ap}
+use mathlib.Core.Bool.{Bool, cond}
+use Prim.Native.Nat.{ℕ, _≤_}
 use native.Mathlib.Omega.{arith}
-use lib.ListN.{length}
 use Rattle.field.proofs.Records.{records-length}
 use Rattle.rules.specs.declared.AreaIndex.{AreaIndex}
 use Rattle.rules.specs.Sections.{confirmationsOk, confirmedLsn, confirmationOk}
 use Rattle.rules.specs.File.{decodeLsn, decodeHint, decodeConfirmation}
+use Rattle.rules.proofs.Tests.{test}
 use Rattle.scanlaws.proofs.Scans.{malformed-length}
 use Rattle.hintlaws.proofs.Rising.{rising→, rises-from}
 use Rattle.table.specs.Tables.{confirmationsIn}
@@ -16,7 +16,7 @@ use Rattle.index.specs.Needs.{Passes}
 use Rattle.index.proofs.Questions.{space, passes-long, passes-hints}
 use Rattle.confirm.specs.Kept.{Rising}
 use Rattle.join.specs.Needs.{furtherIn, Joins}
-use Rattle.join.proofs.Ready.{scan-is, hinting-is, hint-room, confirmed-room, areas, other-few, further-fewer}
+use Rattle.join.proofs.Ready.{scan-is, hinting-is, hint-room, confirmed-room, areas, few-boundaries, few-checkpoints, other-few}
 use Rattle.join.proofs.Held.{lent, room}
 use Rattle.parts.specs.Parts.{partTables}
 use Rattle.take.specs.Needs.{Appends, Takes, PartsReady, HintsReady}
@@ -26,11 +26,12 @@ few-malformed {y} {u} p =
     let m = malformed-length _ _ _ _ (scan-is p .malformed) in let n = records-length 4 decodeLsn (y .malformed) (u .malformed) in omega arith
 
 module _ {x y : AreaIndex} {t u : Tables} {go : Bool} (j : Joins x t y u) (g : go ≡ furtherIn x y) where
-  pub appends : Appends go (x .checkpoints) (y .checkpoints) (t .checkpoints) (u .checkpoints)
-  appends =
-      let l = passes-long (j .own) in let k = passes-long (j .other) in
-      let s = space (j .own .roomy) .checkpoints in let o = other-few j in
-      record { own = l .checkpoints; other = k .checkpoints; room = λ e. (further-fewer j (sym g ∙ e), omega arith) }
+  pub appends : {k : ℕ} → k ≡ cond go (y .checkpoints) 0 → Appends (x .checkpoints) k (x .checkpoints) (t .checkpoints) (u .checkpoints)
+  appends {k} q =
+      let l = passes-long (j .own) .checkpoints in let m = passes-long (j .other) .checkpoints in
+      let s = space (j .own .roomy) .checkpoints in let o = other-few j in let b = few-boundaries (j .own) in let n = few-checkpoints (j .own) in
+      test go (λ e. let z : k ≡ y .checkpoints = rw e at q in record { own = l; other = omega arith; room = omega arith; few = omega arith })
+      (λ e. let z : k ≡ 0 = rw e at q in record { own = l; other = omega arith; room = omega arith; few = omega arith })
 
   pub takes : Takes (x .malformed) (y .malformed) (t .malformed) (u .malformed)
   takes =
@@ -38,8 +39,9 @@ module _ {x y : AreaIndex} {t u : Tables} {go : Bool} (j : Joins x t y u) (g : g
       let s = space (j .own .roomy) .malformed in let m = few-malformed (j .other) in
       record { own = l .malformed; other = k .malformed; room = omega arith }
 
-  pub parts-ready : PartsReady go x y (partTables (t .frames) (t .store) (t .parts)) (partTables (u .frames) (u .store) (u .parts))
-  parts-ready = record { own = passes-long (j .own) .frames; lent = lent j g; room = room j g }
+  pub parts-ready : {h : ℕ} → h ≡ cond go (y .parts) 0
+      → PartsReady x (y .frames) h (partTables (t .frames) (t .store) (t .parts)) (partTables (u .frames) (u .store) (u .parts))
+  parts-ready q = rw q (record { own = passes-long (j .own) .frames; lent = lent j g; room = room j g })
 
   pub hints-ready : HintsReady (x .area) (x .hints) (y .hints) (t .hints) (u .hints)
   hints-ready =

@@ -1,9 +1,10 @@
 -- The steps of a merge, put together. Assumes nothing.
 use mathlib.Core.Path.{_≡_, refl, sym, ap, _∙_}
-use mathlib.Core.Bool.{Bool, true, false, _&&_, cond}
-use mathlib.Core.List.{List, [], _∷_, _++_, append-assoc}
+use mathlib.Core.Bool.{Bool, cond}
+use mathlib.Core.List.{List, _++_, append-nil}
 use Prim.Native.Nat.{ℕ, _-_, _*_}
-use lib.ListN.{length, replicate}
+use lib.ListN.{length, drop, replicate}
+use lib.Seq.{drop-nil}
 use borrow.Author.Tests.{eq-eqb, ne-eqb}
 use Rattle.field.specs.Records.{records, bytesOf}
 use Rattle.field.proofs.Format.{bytesOf-length}
@@ -11,7 +12,7 @@ use Rattle.field.proofs.Records.{records-length}
 use Rattle.rules.specs.declared.AreaIndex.{AreaIndex}
 use Rattle.rules.specs.declared.End.{End}
 use Rattle.rules.specs.declared.End.the-variants.{Open, Closed}
-use Rattle.rules.specs.Tests.{Answer, Accepted, after}
+use Rattle.rules.specs.Tests.{Accepted, after}
 use Rattle.rules.specs.Values.{Scan, Index, isChecked}
 use Rattle.rules.specs.PartRule.{Stored, addParts}
 use Rattle.rules.specs.Hints.{keepAll}
@@ -20,18 +21,17 @@ use Rattle.rules.specs.Merge.{further, mergedScan, merged, merge}
 use Rattle.rules.proofs.Tests.{test}
 use Rattle.hintlaws.specs.Passes.{Begins}
 use Rattle.filelaws.proofs.Layouts.{confirmation-layout}
-use Rattle.table.specs.Tables.{checkpointsIn, lsnsIn, framesIn, partsIn, hintsIn, confirmationsIn}
-use Rattle.index.specs.Index.{Tables, tables, indexIn, storeOf, kindsIn, kinded, roomOf, numbersFrom, tablesCleared, Out, out, outOf}
+use Rattle.table.specs.Tables.{checkpointsIn, partsIn, confirmationsIn}
+use Rattle.index.specs.Index.{Tables, tables, indexIn, storeOf, numbersFrom, tablesCleared, Out, out, outOf}
 use Rattle.sections.specs.Numbers.{endIn, endFrom, idFrom}
-use Rattle.index.specs.declared.Made.{Made}
 use Rattle.index.specs.declared.Made.the-variants as made
 use Rattle.join.specs.Join.{mergeRefusal}
 use Rattle.join.specs.Needs.{furtherIn}
 use Rattle.join.proofs.Refusal.{further-is, asked-after}
 use Rattle.parts.specs.declared.Counts.{Counts}
-use Rattle.parts.specs.Parts.{PartTables, partTables, storedIn, Held, held, heldFrom}
+use Rattle.parts.specs.Parts.{partTables, storedIn, Held, held, heldFrom}
 use Rattle.merge.specs.Merge.{hintsWritten, mergeIn}
-use Rattle.take.specs.Needs.{withRest, Appended, Taken, partsTaken, Listed, listed, clearedUpTo, hintsJoined, numbersBy}
+use Rattle.take.specs.Needs.{Appended, Taken, partsTaken, Listed, listed, clearedUpTo, hintsJoined, numbersBy}
 use Rattle.merge.specs.Needs.{outIndex, mergedIn}
 
 -- ---- answer and tables
@@ -72,9 +72,12 @@ module _ (x y : AreaIndex) (t u : Tables) {go : Bool} (g : go ≡ furtherIn x y)
   go-is : go ≡ further own other
   go-is = g ∙ further-is x t y u
 
-  checkpoints-are : withRest go (own .checkpoints) (other .checkpoints) ≡ after-scan .checkpoints
-  unfolding withRest mergedScan
-  checkpoints-are = rw go-is (test (further own other) (λ e. rw e) (λ e. rw e))
+  checkpoints-are : {k : ℕ} → k ≡ cond go (y .checkpoints) 0
+      → own .checkpoints ++ drop (x .checkpoints) (checkpointsIn k (u .checkpoints)) ≡ after-scan .checkpoints
+  unfolding mergedScan records
+  checkpoints-are q =
+      rw (q, go-is)
+      (test (further own other) (λ e. rw (e, records-length 24 decodeCheckpoint (x .checkpoints) (t .checkpoints))) (λ e. rw (e, drop-nil, append-nil)))
 
   malformed-are : cond go (other .malformed) (own .malformed) ≡ after-scan .malformed
   unfolding mergedScan
@@ -87,14 +90,17 @@ module _ (x y : AreaIndex) (t u : Tables) {go : Bool} (g : go ≡ furtherIn x y)
   abbrev after-stored : Stored
   after-stored = record { frames = after-scan .frames; parts = after-scan .parts }
 
-  stored-are : addParts (x .budget) (other .frames) (x .checkpoints) (partsIn (cond go (y .parts) 0) (u .parts)) (storedIn (x .frames) (x .parts) (partTables (t .frames) (t .store) (t .parts))) ≡ after-stored
+  stored-are : {h : ℕ} → h ≡ cond go (y .parts) 0
+      → addParts (x .budget) (other .frames) (x .checkpoints) (partsIn h (u .parts)) (storedIn (x .frames) (x .parts) (partTables (t .frames) (t .store) (t .parts))) ≡ after-stored
   unfolding mergedScan addParts records
-  stored-are =
-      rw go-is (test (further own other) (λ e. rw (e, records-length 24 decodeCheckpoint (x .checkpoints) (t .checkpoints))) (λ e. rw e))
+  stored-are q =
+      rw (q, go-is)
+      (test (further own other) (λ e. rw (e, records-length 24 decodeCheckpoint (x .checkpoints) (t .checkpoints))) (λ e. rw e))
 
-  module _ {n m s d : ℕ} {c : Counts} {r : AreaIndex} {cs fs st ps ms hs ks : List ℕ}
-      (p1 : Appended go (x .checkpoints) (y .checkpoints) (t .checkpoints) (u .checkpoints) n cs)
-      (p2 : held c (partTables fs st ps) ≡ partsTaken go x y (partTables (t .frames) (t .store) (t .parts)) (partTables (u .frames) (u .store) (u .parts)))
+  module _ {k h n m s d : ℕ} {c : Counts} {r : AreaIndex} {cs fs st ps ms hs ks : List ℕ}
+      (ek : k ≡ cond go (y .checkpoints) 0) (eh : h ≡ cond go (y .parts) 0)
+      (p1 : Appended (x .checkpoints) k (x .checkpoints) (t .checkpoints) (u .checkpoints) n cs)
+      (p2 : held c (partTables fs st ps) ≡ partsTaken x (y .frames) h (partTables (t .frames) (t .store) (t .parts)) (partTables (u .frames) (u .store) (u .parts)))
       (p3 : Taken go (x .malformed) (y .malformed) (t .malformed) (u .malformed) m ms)
       (p4 : listed s hs ≡ hintsJoined (x .area) (x .most) (x .hints) (y .hints) (t .hints) (u .hints))
       (p5 : Begins 16 encodeConfirmation (keepAll (isChecked (x .fingerprint)) (x .most) (confirmationsIn (x .confirmed) (t .confirmed)) (confirmationsIn (y .confirmed) (u .confirmed))) d (t .confirmed) ks)
@@ -103,8 +109,7 @@ module _ (x y : AreaIndex) (t u : Tables) {go : Bool} (g : go ≡ furtherIn x y)
     after-index = merged (indexIn x t) (indexIn y u)
 
     parts-done : held c (partTables fs st ps) ≡ heldFrom after-stored (partTables (t .frames) (t .store) (t .parts))
-    unfolding partsTaken
-    parts-done = p2 ∙ rw stored-are
+    parts-done = p2 ∙ rw (stored-are eh)
 
     hints-here : listed s hs ≡ clearedUpTo (hintsWritten x y) (after-index .hinting .hints) (t .hints)
     unfolding hintsJoined hintsWritten merged
@@ -124,7 +129,7 @@ module _ (x y : AreaIndex) (t u : Tables) {go : Bool} (g : go ≡ furtherIn x y)
         let e0 : x .area ≡ after-scan .area = sym (area-kept own other) in
         let e1 : x .interval ≡ after-scan .interval = sym (interval-kept own other) in
         let e2 : x .budget ≡ after-scan .budget = sym (budget-kept own other) in
-        let e3 : n ≡ length (after-scan .checkpoints) = p1 .count ∙ ap length checkpoints-are in
+        let e3 : n ≡ length (after-scan .checkpoints) = p1 .count ∙ ap length (checkpoints-are ek) in
         let e4 : c .frames ≡ length (after-scan .frames) = ap (λ (h : Held). h .counts .frames) parts-done in
         let e5 : c .parts ≡ length (after-scan .parts) = ap (λ (h : Held). h .counts .parts) parts-done in
         let e6 : m ≡ length (after-scan .malformed) = p3 .count ∙ ap length malformed-are in
@@ -152,7 +157,7 @@ module _ (x y : AreaIndex) (t u : Tables) {go : Bool} (g : go ≡ furtherIn x y)
     unfolding mergedIn merged
     committed =
         let q = numbers-are in
-        let e0 : cs ≡ over (bytesOf encodeCheckpoint (after-scan .checkpoints)) (t .checkpoints) = p1 .bytes ∙ rw checkpoints-are in
+        let e0 : cs ≡ over (bytesOf encodeCheckpoint (after-scan .checkpoints)) (t .checkpoints) = p1 .bytes ∙ rw (checkpoints-are ek) in
         let e1 : fs ≡ over (bytesOf encodeFrameHeader (after-scan .frames)) (t .frames) = ap (λ (h : Held). h .tables .frames) parts-done in
         let e2 : st ≡ over (storeOf (after-scan .frames)) (t .store) = ap (λ (h : Held). h .tables .store) parts-done in
         let e3 : ps ≡ over (bytesOf encodeHeld (after-scan .parts)) (t .parts) = ap (λ (h : Held). h .tables .parts) parts-done in

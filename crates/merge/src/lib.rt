@@ -4,6 +4,7 @@ use index::Made;
 use index::is_checked;
 use join::further;
 use join::merge_refuses;
+use join::taken;
 use rules::AreaIndex;
 use take::append_checkpoints;
 use take::join_hints;
@@ -42,17 +43,19 @@ fn commit(
     let go = further(x, y);
     let area = x.area;
     let known = x.fingerprint;
+    let k = taken(go, y.checkpoints);
+    let h = taken(go, y.parts);
     let n = append_checkpoints(
         checkpoints,
         x.checkpoints,
         other_checkpoints,
-        y.checkpoints,
-        go,
+        k,
+        x.checkpoints,
     );
     let c = take_parts(
-        go,
         x,
-        y,
+        y.frames,
+        h,
         other_frames,
         other_store,
         other_parts,

@@ -1,22 +1,22 @@
 -- Records copied behind those of a table, or over them. Assumes nothing.
-use mathlib.Core.Path.{_≡_, refl, sym, ap, _∙_}
-use mathlib.Core.Bool.{Bool, true, false, cond}
-use mathlib.Core.List.{List, [], _∷_, _++_, append-assoc, append-nil}
-use Prim.Native.Nat.{ℕ, _+_, _-_, _*_, _≤_, _<_}
-use native.Mathlib.Nat.{zero-mul, add-zero, add-mul, mul-le-mul-right}
+use mathlib.Core.Path.{_≡_, sym, ap, _∙_}
+use mathlib.Core.Bool.{Bool, cond}
+use mathlib.Core.List.{List, _++_, append-assoc}
+use Prim.Native.Nat.{ℕ, _+_, _-_, _*_, _≤_}
+use native.Mathlib.Nat.{add-mul, mul-le-mul-right}
 use native.Mathlib.Omega.{arith}
 use lib.Dec.{leb}
 use lib.ListN.{length, take, drop, length-append, length-drop, take-append-drop, drop-of-length-le}
-use lib.Seq.{length-take-le, drop-nil}
+use lib.Seq.{length-take-le}
 use borrow.Author.Tests.{leb-true, leb-false}
 use Rattle.field.specs.Records.{records, bytesOf, Bytes}
 use Rattle.field.proofs.Bytes.{bytes-drop}
 use Rattle.field.proofs.Format.{Layout, bytes-records, bytesOf-append}
 use Rattle.field.proofs.Records.{records-length, drop-records}
-use Rattle.rules.specs.File.{decodeCheckpoint, decodeLsn, over}
 use Rattle.rules.proofs.Tests.{test}
 use Rattle.filelaws.proofs.Layouts.{checkpoint-layout, lsn-layout}
-use Rattle.take.specs.Needs.{Put, withRest, AppendsFrom, AppendedFrom, Appends, Appended, Takes, Taken}
+use Rattle.rules.specs.File.{over}
+use Rattle.take.specs.Needs.{Put, Appends, Appended, Takes, Taken}
 
 -- the first bytes of a table over it
 over-first : (k : ℕ) (t : List ℕ) → k ≤ length t → t ≡ over (take k t) t
@@ -59,16 +59,9 @@ module _ {A : Type 0} {w : ℕ} {d : List ℕ → A} {e : A → List ℕ} {Fits 
         bytes = q ∙ rw (f, n', append-assoc);
       }
 
-pub appended-from : {n m i k : ℕ} {t' : List ℕ} (t u : List ℕ) → AppendsFrom n m i t u → Bytes t → Bytes u → k ≡ m - i
-    → t' ≡ take (n * 24) t ++ (take (k * 24) (drop ((m - k) * 24) u) ++ drop (n * 24 + k * 24) t) → AppendedFrom n m i t u (n + k) t'
-appended-from {n} {m} {i} {k} t u a b c p q = put-from checkpoint-layout n m i k t u b c (a .own) (a .other) p q
-
--- where go holds, those past the own
-pub appended : (go : Bool) (n m k : ℕ) {r : ℕ} {t' : List ℕ} (t u : List ℕ) → k ≡ cond go m 0 → AppendedFrom n k n t u r t' → Appended go n m t u r t'
-unfolding withRest records
-appended go n m k t u p q =
-    test go (λ g. let k' : k ≡ m = rw g at p in rw (g, records-length 24 decodeCheckpoint n t) (rw k' at q))
-    (λ g. let k' : k ≡ 0 = rw g at p in rw g (rw (k', drop-nil, append-nil) at q))
+pub appended : {n m i k : ℕ} {t' : List ℕ} (t u : List ℕ) → Appends n m i t u → Bytes t → Bytes u → k ≡ m - i
+    → t' ≡ take (n * 24) t ++ (take (k * 24) (drop ((m - k) * 24) u) ++ drop (n * 24 + k * 24) t) → Appended n m i t u (n + k) t'
+appended {n} {m} {i} {k} t u a b c p q = put-from checkpoint-layout n m i k t u b c (a .own) (a .other) p q
 
 pub malformed-taken : (go : Bool) {n m k r : ℕ} {t' : List ℕ} (t u : List ℕ) → Takes n m t u → Bytes t → Bytes u → k ≡ cond go m 0 → r ≡ cond go m n
     → t' ≡ take (k * 4) u ++ drop (k * 4) t → Taken go n m t u r t'
@@ -78,18 +71,9 @@ malformed-taken go {n} {m} {k} {r} {t'} t u a b c p s e =
     (λ g. let k' : k ≡ 0 = rw g at p in let s' : r ≡ n = rw g at s in let t'' : t' ≡ t = rw k' at e in rw (g, s', t'') (put-same lsn-layout n t b (a .own)))
 
 -- ---- room
-module _ {n m i k : ℕ} {t u : List ℕ} (a : AppendsFrom n m i t u) (p : k ≡ m - i) where
+module _ {n m i k : ℕ} {t u : List ℕ} (a : Appends n m i t u) (p : k ≡ m - i) where
   pub append-room : (n * 24 + k * 24 ≤ length t) × ((m - k) * 24 + k * 24 ≤ length u)
   append-room = let r = a .room in let o = a .other in (omega arith, omega arith)
-
--- where go holds
-pub appends-from : (go : Bool) {n m k : ℕ} {t u : List ℕ} → Appends go n m t u → k ≡ cond go m 0 → n ≤ 4294967295 → m ≤ 4294967295 → AppendsFrom n k n t u
-appends-from go {n} {m} {k} a p h g =
-    let o = a .own in let r = a .other in
-    test go
-    (λ e. let k' : k ≡ m = rw e at p in let z = a .room e in let z0 = z .0 in let z1 = z .1 in
-    record { own = o; other = omega arith; room = omega arith; few = omega arith })
-    (λ e. let k' : k ≡ 0 = rw e at p in record { own = o; other = omega arith; room = omega arith; few = omega arith })
 
 pub malformed-room : (go : Bool) {n m k : ℕ} {t u : List ℕ} → Takes n m t u → k ≡ cond go m 0 → (k * 4 ≤ length u) × (k * 4 ≤ length t)
 malformed-room go {n} {m} {k} a p =

@@ -1,6 +1,6 @@
 -- What the steps of a merge need of the tables, and what they leave.
 use mathlib.Core.Path.{_≡_}
-use Prim.Native.Nat.{ℕ, _+_, _-_, _*_, _/_, _≤_, _<_}
+use Prim.Native.Nat.{ℕ, _+_, _-_, _*_, _/_, _≤_}
 use mathlib.Core.Bool.{Bool, true, cond}
 use mathlib.Core.List.{List, _++_}
 use lib.Dec.{eqb}
@@ -8,7 +8,6 @@ use lib.ListN.{length, drop, replicate}
 use Rattle.field.specs.Records.{bytesOf}
 use Rattle.rules.specs.declared.Area.{Area}
 use Rattle.rules.specs.declared.AreaIndex.{AreaIndex}
-use Rattle.rules.specs.declared.Checkpoint.{Checkpoint}
 use Rattle.rules.specs.declared.Hint.{Hint}
 use Rattle.rules.specs.Tests.{orElse}
 use Rattle.rules.specs.Values.{used}
@@ -29,27 +28,15 @@ pub record Put {A : Type 0} (e : A → List ℕ) (xs : List A) (r : ℕ) (old ne
   pub bytes : new ≡ over (bytesOf e xs) old
 
 -- ---- checkpoints
--- those of another table, m from number i on, behind the n of t
-pub record AppendsFrom (n m i : ℕ) (t u : List ℕ) : Type 0 where
+-- of the m of another table those from number i on, behind the n of t
+pub record Appends (n m i : ℕ) (t u : List ℕ) : Type 0 where
   pub own : n * 24 ≤ length t
   pub other : m * 24 ≤ length u
   pub room : (n + (m - i)) * 24 ≤ length t
   pub few : n + (m - i) ≤ 4294967295
 
-abbrev pub AppendedFrom : ℕ → ℕ → ℕ → List ℕ → List ℕ → ℕ → List ℕ → Type 0
-AppendedFrom n m i t u r t' = Put encodeCheckpoint (checkpointsIn n t ++ drop i (checkpointsIn m u)) r t t'
-
--- the own ones, and where go holds the rest of the other's
-unfoldable pub withRest : Bool → List Checkpoint → List Checkpoint → List Checkpoint
-withRest go own other = cond go (own ++ drop (length own) other) own
-
-pub record Appends (go : Bool) (n m : ℕ) (t u : List ℕ) : Type 0 where
-  pub own : n * 24 ≤ length t
-  pub other : m * 24 ≤ length u
-  pub room : go ≡ true → (n ≤ m) × (m * 24 ≤ length t)
-
-abbrev pub Appended : Bool → ℕ → ℕ → List ℕ → List ℕ → ℕ → List ℕ → Type 0
-Appended go n m t u r t' = Put encodeCheckpoint (withRest go (checkpointsIn n t) (checkpointsIn m u)) r t t'
+abbrev pub Appended : ℕ → ℕ → ℕ → List ℕ → List ℕ → ℕ → List ℕ → Type 0
+Appended n m i t u r t' = Put encodeCheckpoint (checkpointsIn n t ++ drop i (checkpointsIn m u)) r t t'
 
 -- ---- malformed LSNs
 pub record Takes (n m : ℕ) (t u : List ℕ) : Type 0 where
@@ -62,21 +49,15 @@ Taken go n m t u r t' = Put encodeLsn (cond go (lsnsIn m u) (lsnsIn n t)) r t t'
 
 -- ---- frames and parts
 -- of another list, f frames and h parts
-pub record HeldReady (x : AreaIndex) (f h : ℕ) (t u : PartTables) : Type 0 where
+pub record PartsReady (x : AreaIndex) (f h : ℕ) (t u : PartTables) : Type 0 where
   pub own : x .frames * 8 ≤ length (t .frames)
   pub lent : Lent f h u
   pub room : (c : Counts) → c .frames ≡ x .frames → c .parts ≡ x .parts → c .used ≡ used (framesIn (x .frames) (t .frames) (t .store))
       → Room (wanted (x .checkpoints) (partsIn h (u .parts))) (x .budget) c t
 
-abbrev pub heldTaken : AreaIndex → ℕ → ℕ → PartTables → PartTables → Held
-heldTaken x f h t u =
+abbrev pub partsTaken : AreaIndex → ℕ → ℕ → PartTables → PartTables → Held
+partsTaken x f h t u =
     heldFrom (addParts (x .budget) (framesIn f (u .frames) (u .store)) (x .checkpoints) (partsIn h (u .parts)) (storedIn (x .frames) (x .parts) t)) t
-
-abbrev pub PartsReady : Bool → AreaIndex → AreaIndex → PartTables → PartTables → Type 0
-PartsReady go x y t u = HeldReady x (y .frames) (cond go (y .parts) 0) t u
-
-unfoldable pub partsTaken : Bool → AreaIndex → AreaIndex → PartTables → PartTables → Held
-partsTaken go x y t u = heldTaken x (y .frames) (cond go (y .parts) 0) t u
 
 -- ---- hints
 pub record HintsReady (a : Area) (n m : ℕ) (t u : List ℕ) : Type 0 where

@@ -1,4 +1,4 @@
-// The steps of a merge: what is taken of the other list, by value and table by table.
+// The steps of a merge, of which an absorb takes some: what is taken of the other list, by value and table by table.
 use field::copy_first;
 use field::copy_part;
 use hintsort::merge_hints;
@@ -19,7 +19,7 @@ ghost use Rattle.rules.specs.Merge.{mergedFingerprint};
 ghost use Rattle.rules.specs.declared.Fingerprint.the-variants.{Unknown};
 ghost use Rattle.sections.specs.Numbers.{idIn, idFrom};
 ghost use Rattle.parts.specs.Parts.{partTables, held};
-ghost use Rattle.take.specs.Needs.{AppendsFrom, AppendedFrom, Appends, Appended, Takes, Taken, HeldReady, heldTaken, PartsReady, partsTaken, HintsReady, hintsJoined, numbersBy, listed};
+ghost use Rattle.take.specs.Needs.{Appends, Appended, Takes, Taken, PartsReady, partsTaken, HintsReady, hintsJoined, numbersBy, listed};
 
 // ---- by value
 // m where go holds, else n.
@@ -77,23 +77,15 @@ fn ending_of(go: bool, a: End, b: End) -> End
 
 // ---- table by table
 // The other's checkpoints from number i on behind the n of t. Answers how many there are then.
-pub fn append_from(t: &mut [u8], n: u32, other: &[u8], m: u32, i: u32) -> u32
-    requires { ⌜ AppendsFrom n m i (now t) (now other) ⌝ }
-    ensures { λ r. ⌜ AppendedFrom n m i (now (t .entry)) (now (other .entry)) r (now (t .exit)) ⌝ }
+pub fn append_checkpoints(t: &mut [u8], n: u32, other: &[u8], m: u32, i: u32) -> u32
+    requires { ⌜ Appends n m i (now t) (now other) ⌝ }
+    ensures { λ r. ⌜ Appended n m i (now (t .entry)) (now (other .entry)) r (now (t .exit)) ⌝ }
 {
     let k = past(m, i);
     let at = n as usize * 24;
     let from = (m - k) as usize * 24;
     copy_part(t, at, other, from, k as usize * 24);
     n + k
-}
-
-// The other's checkpoints past the first n, where go holds, behind the n of t. Answers how many there are then.
-pub fn append_checkpoints(t: &mut [u8], n: u32, other: &[u8], m: u32, go: bool) -> u32
-    requires { ⌜ Appends go n m (now t) (now other) ⌝ }
-    ensures { λ r. ⌜ Appended go n m (now (t .entry)) (now (other .entry)) r (now (t .exit)) ⌝ }
-{
-    append_from(t, n, other, taken(go, m), n)
 }
 
 // The other's malformed LSNs over those of t, where go holds. Answers how many there are then.
@@ -106,8 +98,8 @@ pub fn take_malformed(t: &mut [u8], n: u32, other: &[u8], m: u32, go: bool) -> u
     chosen(go, m, n)
 }
 
-// The own frames and parts, and the first h parts of another list, with f frames, for the checkpoints that are appended.
-pub fn take_held(
+// The own frames and parts, and of the h parts of another list, which has f frames, those for the checkpoints that are appended.
+pub fn take_parts(
     x: AreaIndex,
     f: u32,
     h: u32,
@@ -118,8 +110,8 @@ pub fn take_held(
     store: &mut [u8],
     parts: &mut [u8],
 ) -> Counts
-    requires { ⌜ HeldReady x f h (partTables (now frames) (now store) (now parts)) (partTables (now headers) (now other) (now theirs)) ⌝ }
-    ensures { λ r. ⌜ held r (partTables (now (frames .exit)) (now (store .exit)) (now (parts .exit))) ≡ heldTaken x f h (partTables (now (frames .entry)) (now (store .entry)) (now (parts .entry))) (partTables (now (headers .entry)) (now (other .entry)) (now (theirs .entry))) ⌝ }
+    requires { ⌜ PartsReady x f h (partTables (now frames) (now store) (now parts)) (partTables (now headers) (now other) (now theirs)) ⌝ }
+    ensures { λ r. ⌜ held r (partTables (now (frames .exit)) (now (store .exit)) (now (parts .exit))) ≡ partsTaken x f h (partTables (now (frames .entry)) (now (store .entry)) (now (parts .entry))) (partTables (now (headers .entry)) (now (other .entry)) (now (theirs .entry))) ⌝ }
 {
     let c = Counts {
         frames: x.frames,
@@ -139,25 +131,6 @@ pub fn take_held(
         store,
         parts,
     )
-}
-
-// The own frames and parts, and where go holds the other's for the checkpoints that are appended.
-pub fn take_parts(
-    go: bool,
-    x: AreaIndex,
-    y: AreaIndex,
-    headers: &[u8],
-    other: &[u8],
-    theirs: &[u8],
-    frames: &mut [u8],
-    store: &mut [u8],
-    parts: &mut [u8],
-) -> Counts
-    requires { ⌜ PartsReady go x y (partTables (now frames) (now store) (now parts)) (partTables (now headers) (now other) (now theirs)) ⌝ }
-    ensures { λ r. ⌜ held r (partTables (now (frames .exit)) (now (store .exit)) (now (parts .exit))) ≡ partsTaken go x y (partTables (now (frames .entry)) (now (store .entry)) (now (parts .entry))) (partTables (now (headers .entry)) (now (other .entry)) (now (theirs .entry))) ⌝ }
-{
-    let h = taken(go, y.parts);
-    take_held(x, y.frames, h, headers, other, theirs, frames, store, parts)
 }
 
 // The m hints of another list joined to the n held ones.

@@ -1,4 +1,4 @@
-use mathlib.Core.Path.{_≡_, refl, ap₂}
+use mathlib.Core.Path.{ap₂}
 use lib.Dec.{ltb}
 use Rattle.absorb_questions.proofs.Twelve.{started}
 use Rattle.absorb_commit.proofs.Below.{below-takes, below-taken}

@@ -1,22 +1,36 @@
-use native.Mathlib.Omega.{arith}
-use Rattle.take.proofs.Copies.{appended, appends-from}
+use Rattle.take.proofs.Copies.{appended, append-room}
 use borrow.Author.Needs.{needs}
 use Rattle.take.proofs.append_checkpoints.Statement.{statement}
 use Rattle.take.proofs.append_checkpoints.Tie as tie
 
-append-from-requires : tie.Need-append-from-requires
-append-from-requires c κs =
-    let some : tie.After-taken = search in
+copy-part-requires : tie.Need-copy-part-requires
+copy-part-requires c κs =
+    let rest : tie.After-past = search in
     let start : tie.Start = search in
-    appends-from (start .args .go) (start .pre) (some .taken .ensures) (omega arith) (omega arith)
+    append-room (start .pre) (rest .past .ensures)
 
 returns : tie.Need-returns
 returns c =
-    let done : tie.After-append-from = search in
-    let some : tie.After-taken = search in
+    let copied : tie.After-copy-part = search in
+    let rest : tie.After-past = search in
+    let other : tie.After-shared-slice-known = search in
+    let own : tie.After-slice-known = search in
     let start : tie.Start = search in
-    let a = start .args in
-    appended (a .go) (a .n) (a .m) _ (a .t .now) (a .other .now) (some .taken .ensures) (done .append-from .ensures)
+    appended _ _ (start .pre) (λ i. own .slice-known .given i .fits) (λ i. other .shared-slice-known .given i .fits) (rest .past .ensures)
+    (copied .copy-part .ensures)
 
 pub append-checkpoints-spec : {M : Type 1} → statement M
-append-checkpoints-spec = tie.close (tie.spec (λ c κs. search needs) append-from-requires (λ c. search needs) returns)
+append-checkpoints-spec =
+    tie.close
+    (tie.spec
+    (λ c κs. search needs)
+    (λ c. search needs)
+    (λ c. search needs)
+    (λ c. search needs)
+    (λ c. search needs)
+    (λ c. search needs)
+    (λ c. search needs)
+    copy-part-requires
+    (λ c. search needs)
+    (λ c. search needs)
+    returns)
