@@ -31,10 +31,10 @@ same-test a b c d f g = by-case (leb a b) refl
         by-other true h = sym e ∙ le-leb a b (g (leb-true c d h))
 
 -- space for n records of each width
-fits24 : (n l : ℕ) → leb n (l / 24) ≡ leb (n * 24) l
+pub fits24 : (n l : ℕ) → leb n (l / 24) ≡ leb (n * 24) l
 fits24 n l = same-test n (l / 24) (n * 24) l (λ h. omega arith) (λ h. omega arith)
 
-fits8 : (n l : ℕ) → leb n (l / 8) ≡ leb (n * 8) l
+pub fits8 : (n l : ℕ) → leb n (l / 8) ≡ leb (n * 8) l
 fits8 n l = same-test n (l / 8) (n * 8) l (λ h. omega arith) (λ h. omega arith)
 
 fits4 : (n l : ℕ) → leb n (l / 4) ≡ leb (n * 4) l

@@ -13,3 +13,4 @@ pub mod TableRun
 pub mod Demand3InTables
 pub mod RoundTripInTables
 pub mod Adds
+pub mod Player

@@ -1,0 +1,52 @@
+-- What a player in C rests on: the one number that saving answers, and the tables of recorders.
+use Prim.Native.Nat.{ℕ, _/_, _≤_}
+use mathlib.Core.Path.{_≡_}
+use mathlib.Core.Bool.{Bool}
+use mathlib.Core.List.{List, [], _∷_}
+use lib.Dec.{leb}
+use lib.ListN.{length}
+use Rattle.rules.specs.declared.AreaIndex.{AreaIndex}
+use Rattle.rules.specs.declared.HintRecorder.{HintRecorder}
+use Rattle.rules.specs.Tests.{all}
+use Rattle.rules.specs.Values.{maxList}
+use Rattle.rules.specs.Values as values
+use Rattle.rules.specs.Questions.{recorderQuestion3}
+use Rattle.index.specs.Index.{Tables}
+use Rattle.recorder.specs.Recorder.{RecorderTables, recorderRoom}
+use Rattle.hinting.specs.declared.Created.the-variants as created
+use Rattle.hinting.specs.Recorder.{hintRecorderIn}
+use Rattle.save.specs.declared.Saved.{Saved}
+use Rattle.save.specs.declared.Saved.the-variants as saved
+use Rattle.save.specs.Save.{saveIn}
+use Rattle.sizes.specs.declared.TableSizes.{TableSizes}
+use Rattle.sizes.specs.Sizes.{sizesOf}
+
+-- ---- saving
+-- a refusal number is 1 to 40, a length at least 88: one number tells both
+abbrev pub Told : Saved → ℕ → Type 0
+Told s n = (s ≡ saved.Refused n → (1 ≤ n) × (n ≤ 40)) × (s ≡ saved.Length n → 88 ≤ n)
+
+abbrev pub SaveNumber : Type 0
+SaveNumber = (x : AreaIndex) (t : Tables) (out : List ℕ) (n : ℕ) → Told (saveIn x t out .answer) n
+
+-- ---- recorders
+-- has each of the four tables at least the bytes that a list's has?
+unfoldable pub hasFour : TableSizes → RecorderTables → Bool
+hasFour s t =
+    all (leb (s .checkpoints) (length (t .checkpoints)) ∷ leb (s .frames) (length (t .frames)) ∷ leb (s .store) (length (t .store))
+    ∷ leb (s .parts) (length (t .parts)) ∷ [])
+
+-- question 3 of a recorder passes exactly where its tables have the sizes of a list's, whatever M
+abbrev pub RecorderRoomIsSizes : Type 0
+RecorderRoomIsSizes =
+    (r : values.Recorder) (t : RecorderTables) (most : ℕ)
+    → recorderQuestion3 (recorderRoom t) r ≡ hasFour (sizesOf (r .area) (r .interval) (r .budget) most) t
+
+-- ---- hint recorders
+-- question 3 of a hint recorder passes exactly where its list has 524,288 bytes
+abbrev pub HintListIsSize : Type 0
+HintListIsSize = (list : List ℕ) → leb maxList (length list / 8) ≡ leb 524288 (length list)
+
+-- a hint recorder that is made has a spacing: a first word of 0 tells that there is none
+abbrev pub MadeHasSpacing : Type 0
+MadeHasSpacing = (x : AreaIndex) (t : Tables) (h : HintRecorder) → hintRecorderIn x t ≡ created.Recorder h → 1 ≤ h .spacing
