@@ -5,15 +5,19 @@ use Prim.Native.Nat.{ℕ, _≤_}
 use lib.ListN.{length}
 use Rattle.rules.specs.declared.AreaIndex.{AreaIndex}
 use Rattle.rules.specs.declared.EndState.{EndState}
+use Rattle.rules.specs.declared.ImageId.{ImageId}
 use Rattle.rules.specs.declared.Recorder.{Recorder}
 use Rattle.rules.specs.declared.UnderAssembly.{UnderAssembly}
 use Rattle.index.specs.Index.{Tables}
 use Rattle.recorder.specs.declared.Recorded.{Recorded}
 use Rattle.recorder.specs.Recorder.{RecorderTables, startedIn, finishedIn}
 use Rattle.record.specs.Record.{recorderOut, recordIn}
+use Rattle.absorb.specs.declared.Absorbed.{Absorbed}
+use Rattle.absorb.specs.Absorb.{out, absorbIn}
+use Rattle.recorder_block.specs.Block.{calledBoth, absorbedInto}
 use Rattle.block.specs.Block.{called, headIndex, headRecorder}
 use Rattle.block.proofs.Blocks.{long-enough}
-use Rattle.player.specs.RecorderCalls.{calledFour, recordedInto, recorderCall, recordCall, finishCall}
+use Rattle.player.specs.RecorderCalls.{calledFour, recordedInto, recorderCall, recordCall, finishCall, calledAbsorbed, absorbCall}
 
 module _ (b b' : List ℕ) (n : ℕ) (l : 192 ≤ length b) (q : Recorded) (p : called n b' ≡ recordedInto b q) where
   pub recorder-done : (h : List ℕ) → 192 ≤ length h → (x : AreaIndex) (t : Tables) (from : ℕ) → q ≡ startedIn x t from → x ≡ headIndex h
@@ -30,3 +34,10 @@ module _ (b b' : List ℕ) (n : ℕ) (l : 192 ≤ length b) (q : Recorded) (p : 
       → calledFour n b' t' ≡ recordCall b lsn threshold malformed g bytes sector t
   unfolding recordCall
   record-done r t t' lsn threshold malformed f g bytes sector e z w = long-enough b _ _ l (rw (← z, ← w, ← e, p))
+
+-- ---- a list and a recorder
+module _ (h h' b b' : List ℕ) (n : ℕ) (g : 192 ≤ length h) (l : 192 ≤ length b) (x : AreaIndex) (r : Recorder) (t : Tables) (u : RecorderTables) where
+  pub absorb-done : (t' : Tables) (i j : ImageId) (given : List ℕ) (q : Absorbed) → calledBoth n h' b' ≡ absorbedInto h b q
+      → out q t' ≡ absorbIn x t i given r u → x ≡ headIndex h → r ≡ headRecorder b → i ≡ j → calledAbsorbed n h' b' t' ≡ absorbCall h b j given t u
+  unfolding absorbCall
+  absorb-done t' i j given q p e z y w = long-enough h _ _ g (long-enough b _ _ l (rw (← z, ← y, ← w, ← e, p)))

@@ -2,14 +2,16 @@
 use Prim.Native.Nat.{ℕ}
 use mathlib.Core.List.{List}
 use Rattle.rules.specs.declared.EndState.{EndState}
+use Rattle.rules.specs.declared.ImageId.{ImageId}
 use Rattle.rules.specs.declared.UnderAssembly.{UnderAssembly}
 use Rattle.head.specs.Head.{recorderWords}
 use Rattle.index.specs.Index.{Tables}
 use Rattle.recorder.specs.declared.Recorded.{Recorded}
 use Rattle.recorder.specs.Recorder.{RecorderTables, startedIn, finishedIn}
 use Rattle.record.specs.Record.{RecorderOut, recordIn}
+use Rattle.absorb.specs.Absorb.{absorbIn}
 use Rattle.block.specs.Block.{Called, called, into, inBlock, headIndex, headRecorder}
-use Rattle.recorder_block.specs.Block.{recordedOf}
+use Rattle.recorder_block.specs.Block.{CalledBoth, calledBoth, recordedOf, absorbedInto}
 
 abbrev pub endState : ℕ → ℕ → EndState
 endState threshold malformed = record { threshold = threshold; malformed = malformed }
@@ -41,3 +43,20 @@ recordCall block lsn threshold malformed f bytes sector t =
 
 unfoldable pub finishCall : List ℕ → EndState → RecorderTables → Called
 finishCall block e t = inBlock block (called 3 block) (recordedInto block (finishedIn (headRecorder block) t e))
+
+-- the head, the recorder's block, and the list's tables; the recorder's are only read
+pub record CalledAbsorbed : Type 0 where
+  pub call : CalledBoth
+  pub tables : Tables
+
+abbrev pub withAbsorbed : CalledBoth → Tables → CalledAbsorbed
+withAbsorbed c t = record { call = c; tables = t }
+
+abbrev pub calledAbsorbed : ℕ → List ℕ → List ℕ → Tables → CalledAbsorbed
+calledAbsorbed n head b t = withAbsorbed (calledBoth n head b) t
+
+unfoldable pub absorbCall : List ℕ → List ℕ → ImageId → List ℕ → Tables → RecorderTables → CalledAbsorbed
+absorbCall head block image given t u =
+    let o = absorbIn (headIndex head) t image given (headRecorder block) u in
+    inBlock head (calledAbsorbed 3 head block t)
+    (inBlock block (calledAbsorbed 3 head block t) (withAbsorbed (absorbedInto head block (o .answer)) (o .tables)))

@@ -12,6 +12,8 @@ use block::recorder_in;
 use block::saved_number;
 use head::HEAD_BYTES;
 use recorder_block::frame_from;
+use recorder_block::image_given;
+use recorder_block::put_absorbed;
 use recorder_block::put_created;
 use recorder_block::put_hint;
 use recorder_block::put_kept;
@@ -21,13 +23,14 @@ use recorder_block::put_taken;
 use rules::EndState;
 ghost use mathlib.Core.Path.{_≡_};
 ghost use Rattle.fnv.specs.Fnv.{fnv64};
+ghost use Rattle.head.specs.Head.{imageFrom};
 ghost use Rattle.index.specs.Index.{tables};
 ghost use Rattle.recorder.specs.Recorder.{recorderTables};
 ghost use Rattle.keeping.specs.Keeping.{given};
 ghost use Rattle.block.specs.Block.{called, areaFrom};
 ghost use Rattle.recorder_block.specs.Block.{frameFrom, calledBoth};
 ghost use Rattle.player.specs.Calls.{calledOver, mergeCall, addsCall, addHintsCall, newCall, loadCall, fingerprintCall, planCall, saveCall, lengthCall, sizesCall, fileSizesCall, fileAreaCall, firstCall};
-ghost use Rattle.player.specs.RecorderCalls.{calledFour, endState, recorderCall, recordCall, finishCall};
+ghost use Rattle.player.specs.RecorderCalls.{calledFour, endState, recorderCall, recordCall, finishCall, calledAbsorbed, absorbCall};
 ghost use Rattle.player.specs.HintCalls.{calledList, calledKept, hintRecorderCall, seeCall, flushCall, takeCall, keepCall, hintCall};
 
 // ---- sums, sectors and sizes
@@ -575,6 +578,57 @@ pub extern "C" fn seek_raw_finish(
     };
     let made = recorder::finish(r, e, checkpoints, frames, store, parts);
     put_recorded(block, made)
+}
+
+// Absorbs a recorder's stretch; mark and image are the image id of the reading, given its malformed LSNs, 4 bytes each. 8 stops the recorder.
+#[no_mangle]
+pub extern "C" fn seek_raw_absorb(
+    head: &mut [u8],
+    block: &mut [u8],
+    mark: u8,
+    image: u64,
+    given: &[u8],
+    checkpoints: &mut [u8],
+    frames: &mut [u8],
+    store: &mut [u8],
+    parts: &mut [u8],
+    malformed: &mut [u8],
+    hints: &[u8],
+    confirmed: &[u8],
+    new_checkpoints: &[u8],
+    new_frames: &[u8],
+    new_store: &[u8],
+    new_parts: &[u8],
+) -> u32
+    ensures { λ r. ⌜ calledAbsorbed r (now (head .exit)) (now (block .exit)) (tables (now (checkpoints .exit)) (now (frames .exit)) (now (store .exit)) (now (parts .exit)) (now (malformed .exit)) (now (hints .entry)) (now (confirmed .entry))) ≡ absorbCall (now (head .entry)) (now (block .entry)) (imageFrom mark image) (now (given .entry)) (tables (now (checkpoints .entry)) (now (frames .entry)) (now (store .entry)) (now (parts .entry)) (now (malformed .entry)) (now (hints .entry)) (now (confirmed .entry))) (recorderTables (now («new_checkpoints» .entry)) (now («new_frames» .entry)) (now («new_store» .entry)) (now («new_parts» .entry))) ⌝ }
+{
+    if head.len() < HEAD_BYTES {
+        return 3;
+    }
+    if block.len() < HEAD_BYTES {
+        return 3;
+    }
+    let x = index_in(head);
+    let r = recorder_in(block);
+    let id = image_given(mark, image);
+    let made = absorb::absorb(
+        x,
+        r,
+        id,
+        given,
+        checkpoints,
+        frames,
+        store,
+        parts,
+        malformed,
+        hints,
+        confirmed,
+        new_checkpoints,
+        new_frames,
+        new_store,
+        new_parts,
+    );
+    put_absorbed(head, block, made)
 }
 
 // ---- hint recorders and confirmations

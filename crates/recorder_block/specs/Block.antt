@@ -14,7 +14,8 @@ use Rattle.rules.specs.declared.UnderAssembly.the-variants as frame
 use Rattle.rules.specs.File.{bit, over}
 use Rattle.rules.specs.Hints.{Hinted}
 use Rattle.rules.specs.Tests.{Answer, Refused, Accepted}
-use Rattle.head.specs.Head.{blockOf, indexWords, hintRecorderWords}
+use Rattle.absorb.specs.declared.Absorbed.{Absorbed}
+use Rattle.head.specs.Head.{blockOf, indexWords, recorderWords, hintRecorderWords}
 use Rattle.hinting.specs.declared.Created.{Created}
 use Rattle.hinting.specs.declared.Created.the-variants as created
 use Rattle.hinting.specs.declared.Seen.{Seen}
@@ -94,3 +95,9 @@ unfoldable pub keptInto : List ℕ → List ℕ → Kept → CalledBoth
 keptInto b a (kept.Refused n) = calledBoth n b a
 keptInto b a kept.Nothing = calledBoth 0 b (wordsOver (oneWord 0) a)
 keptInto b a (kept.Index x) = calledBoth 0 (wordsOver (indexWords x) b) (wordsOver (oneWord 1) a)
+
+-- 0 writes the head and the recorder's block, 8 the recorder's alone
+unfoldable pub absorbedInto : List ℕ → List ℕ → Absorbed → CalledBoth
+absorbedInto head b a =
+    cond (eqb (a .number) 0) (calledBoth 0 (wordsOver (indexWords (a .index)) head) (wordsOver (recorderWords (a .recorder)) b))
+    (cond (eqb (a .number) 8) (calledBoth 8 head (wordsOver (recorderWords (a .recorder)) b)) (calledBoth (a .number) head b))

@@ -1,4 +1,5 @@
-// Answers of recorders, hint recorders, hint and keep_confirmation as a number and blocks; a frame under assembly from numbers.
+// Answers of recorders, hint recorders, hint and keep_confirmation as a number and blocks; a frame under assembly and an image id from numbers.
+use absorb::Absorbed;
 use block::bit_word;
 use head::hint_recorder_words;
 use head::index_words;
@@ -13,14 +14,15 @@ use recorder::Recorded;
 use rules::Assembling;
 use rules::FrameKind;
 use rules::Hinted;
+use rules::ImageId;
 use rules::UnderAssembly;
 ghost use mathlib.Core.Path.{_≡_};
 ghost use Prim.Native.Nat.{_≤_};
 ghost use lib.ListN.{length};
-ghost use Rattle.head.specs.Head.{recorderWords, hintRecorderWords};
+ghost use Rattle.head.specs.Head.{imageFrom, recorderWords, hintRecorderWords};
 ghost use Rattle.hint.specs.Calls.{hintedOf, answerOf};
 ghost use Rattle.block.specs.Block.{called, into};
-ghost use Rattle.recorder_block.specs.Block.{kindFrom, frameFrom, oneWord, recordedOf, seenOf, createdOf, createdWords, hintWords, foundWords, calledBoth, takenInto, keptInto};
+ghost use Rattle.recorder_block.specs.Block.{kindFrom, frameFrom, oneWord, recordedOf, seenOf, createdOf, createdWords, hintWords, foundWords, calledBoth, takenInto, keptInto, absorbedInto};
 
 // ---- a frame under assembly
 // 0 Dst, anything else Dsd.
@@ -46,6 +48,16 @@ pub fn frame_from(mark: u8, start: u64, number: u32, kind: u8, remaining: i32) -
         kind: kind_from(kind),
         remaining,
     })
+}
+
+// A mark of 0 is no image id, anything else one.
+pub fn image_given(mark: u8, image: u64) -> ImageId
+    ensures { λ r. ⌜ r ≡ imageFrom mark image ⌝ }
+{
+    if mark == 0 {
+        return ImageId::Anonymous;
+    }
+    ImageId::Id(image)
 }
 
 // ---- into blocks
@@ -209,4 +221,25 @@ pub fn put_kept(head: &mut [u8], answer: &mut [u8], kept: Kept) -> u32
             0
         }
     }
+}
+
+// 0 writes both blocks, 8 the recorder's.
+pub fn put_absorbed(head: &mut [u8], block: &mut [u8], absorbed: Absorbed) -> u32
+    requires { ⌜ 192 ≤ length (now head) ⌝ }
+    requires { ⌜ 192 ≤ length (now block) ⌝ }
+    ensures { λ r. ⌜ calledBoth r (now (head .exit)) (now (block .exit)) ≡ absorbedInto (now (head .entry)) (now (block .entry)) absorbed ⌝ }
+{
+    let number = absorbed.number;
+    let x = absorbed.index;
+    let r = absorbed.recorder;
+    if number == 0 {
+        write_words(head, index_words(x));
+        write_words(block, recorder_words(r));
+        return 0;
+    }
+    if number == 8 {
+        write_words(block, recorder_words(r));
+        return 8;
+    }
+    number
 }
