@@ -22,7 +22,7 @@ use Rattle.rules.specs.Values.{lsnOf, boundaries, lastCheckpoint, used}
 use Rattle.rules.specs.Values as values
 use Rattle.rules.specs.Questions.{recorderFourOf, recorderQuestion4, scanRoom}
 use Rattle.rules.specs.Record.{Assembling, isRunning, question5, question6, question7, backOf, assembled, recorded, recordAt}
-use Rattle.rules.specs.File.{decodeCheckpoint, encodeCheckpoint}
+use Rattle.rules.specs.File.{decodeCheckpoint, encodeCheckpoint, over}
 use Rattle.rules.proofs.Tests.{test, asked, and-left, and-right}
 use Rattle.rules.proofs.Walk.{length-snoc}
 use Rattle.scanlaws.proofs.Scans.{boundary-in, recorder→}
