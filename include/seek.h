@@ -2,7 +2,7 @@
  *
  * A list holds checkpoints of one area of a disc, from which a player's jump starts near its frame. Lists are recorded, merged, saved and
  * loaded. Every call answers for all bytes, numbers and tables: a result, or a refusal number that says why. A refusal changes no block and no
- * table.
+ * table, but for seek_absorb's 8, which stops the recorder.
  *
  * What a caller owes, for every call:
  *   - a buffer's pointer is valid for its whole length, and the whole length is initialised, output buffers too;
@@ -209,12 +209,16 @@ uint32_t seek_raw_recorder(SEEK_IN(head), uint64_t from, SEEK_OUT(block), SEEK_T
 uint32_t seek_raw_record(SEEK_OUT(block), uint64_t lsn, uint32_t threshold, uint64_t malformed, uint8_t mark, uint64_t start, uint32_t number, uint8_t kind,
                          int32_t remaining, SEEK_IN(bytes), SEEK_IN(sector), SEEK_OUT(checkpoints), SEEK_OUT(frames), SEEK_OUT(store), SEEK_OUT(parts));
 uint32_t seek_raw_finish(SEEK_OUT(block), uint32_t threshold, uint64_t malformed, SEEK_IN(checkpoints), SEEK_IN(frames), SEEK_IN(store), SEEK_IN(parts));
+uint32_t seek_raw_absorb(SEEK_OUT(head), SEEK_OUT(block), uint8_t mark, uint64_t image, SEEK_IN(given), SEEK_OUT(checkpoints), SEEK_OUT(frames),
+                         SEEK_OUT(store), SEEK_OUT(parts), SEEK_OUT(malformed), SEEK_IN(hints), SEEK_IN(confirmed), SEEK_IN(new_checkpoints),
+                         SEEK_IN(new_frames), SEEK_IN(new_store), SEEK_IN(new_parts));
 uint32_t seek_raw_hint_recorder(SEEK_IN(head), SEEK_OUT(block), SEEK_TABLES_IN);
 uint32_t seek_raw_see(SEEK_OUT(block), uint64_t lsn, SEEK_IN(sector), SEEK_OUT(list));
 uint32_t seek_raw_flush(SEEK_OUT(block), SEEK_OUT(list));
 uint32_t seek_raw_take(SEEK_OUT(block), SEEK_OUT(answer), SEEK_IN(list));
 uint32_t seek_raw_keep_confirmation(SEEK_OUT(head), uint64_t lsn, uint32_t threshold, uint64_t digest, SEEK_OUT(answer), SEEK_IN(checkpoints),
                                     SEEK_IN(frames), SEEK_IN(store), SEEK_IN(parts), SEEK_IN(malformed), SEEK_IN(hints), SEEK_OUT(confirmed));
+uint32_t seek_raw_hint(SEEK_IN(head), uint32_t first, uint32_t end, uint32_t playtime, SEEK_OUT(answer), SEEK_TABLES_IN);
 
 #define SEEK_LENT_(t) (t).at, (t).length
 #define SEEK_LENT_SEVEN_(l) \
@@ -263,7 +267,7 @@ static inline uint64_t seek_seen_count(const seek_hint_recorder *h) { return see
 
 /* ---- memory */
 /* The bytes of each table for an area, interval, budget and hint limit: question 3 passes exactly where every table has at least these. */
-static inline uint32_t seek_sizes_from_(const uint8_t *answer, seek_table_sizes *s)
+static inline void seek_sizes_from_(const uint8_t *answer, seek_table_sizes *s)
 {
     s->checkpoints = seek_word(answer, 0);
     s->frames = seek_word(answer, 1);
@@ -272,14 +276,14 @@ static inline uint32_t seek_sizes_from_(const uint8_t *answer, seek_table_sizes 
     s->malformed = seek_word(answer, 4);
     s->hints = seek_word(answer, 5);
     s->confirmed = seek_word(answer, 6);
-    return 0;
 }
 
 static inline uint32_t seek_sizes(const seek_area *a, uint32_t interval, uint64_t budget, uint32_t most, seek_table_sizes *s)
 {
     uint8_t answer[SEEK_BLOCK] = {0};
     uint32_t n = seek_raw_sizes(SEEK_AREA_(a), interval, budget, most, answer, SEEK_BLOCK);
-    return n ? n : seek_sizes_from_(answer, s);
+    seek_sizes_from_(answer, s);
+    return n;
 }
 
 /* The same for a file and a load limit: seek_load with such tables never answers 3. Refuses where seek_load would. */
@@ -287,7 +291,8 @@ static inline uint32_t seek_file_sizes(const seek_area *a, const uint8_t *file, 
 {
     uint8_t answer[SEEK_BLOCK] = {0};
     uint32_t n = seek_raw_file_sizes(SEEK_AREA_(a), file, length, limit, answer, SEEK_BLOCK);
-    return n ? n : seek_sizes_from_(answer, s);
+    seek_sizes_from_(answer, s);
+    return n;
 }
 
 /* The area that a list file says it is of, with the range that its key gives. */
@@ -295,8 +300,7 @@ static inline uint32_t seek_file_area(const uint8_t *file, size_t length, seek_a
 {
     uint8_t answer[SEEK_BLOCK] = {0};
     uint32_t n = seek_raw_file_area(file, length, answer, SEEK_BLOCK);
-    if (n == 0)
-        seek_area_from_(answer, a);
+    seek_area_from_(answer, a);
     return n;
 }
 
@@ -359,7 +363,7 @@ static inline uint64_t seek_carve_hint_recorder(seek_hint_recorder *o, uint8_t *
     return SEEK_HINT_LIST;
 }
 
-/* ---- lists: each answers 0 or a refusal number */
+/* ---- lists: each answers 0 or a refusal number. What a call tells through a pointer is 0 where it refuses. */
 /* An empty list in the tables of l. A hint limit above 65,536 is lowered to it. */
 static inline uint32_t seek_new(seek_list *l, const seek_area *a, uint32_t interval, uint64_t budget, uint32_t spacing, uint32_t most)
 {
@@ -400,8 +404,6 @@ static inline uint32_t seek_adds(const seek_list *l, const seek_list *other, see
 {
     uint8_t answer[SEEK_BLOCK] = {0};
     uint32_t n = seek_raw_adds(l->head, SEEK_BLOCK, other->head, SEEK_BLOCK, answer, SEEK_BLOCK, SEEK_LENT_SEVEN_(l), SEEK_LENT_SEVEN_(other));
-    if (n)
-        return n;
     b->checkpoints = seek_word(answer, 0) != 0;
     b->end = seek_word(answer, 1) != 0;
     b->parts = seek_word(answer, 2) != 0;
@@ -410,7 +412,7 @@ static inline uint32_t seek_adds(const seek_list *l, const seek_list *other, see
     b->confirmations = seek_word(answer, 5) != 0;
     b->fingerprint = seek_word(answer, 6) != 0;
     b->image = seek_word(answer, 7) != 0;
-    return 0;
+    return n;
 }
 
 /* Where a jump to a frame starts. */
@@ -436,8 +438,6 @@ static inline uint32_t seek_plan(const seek_list *l, uint32_t frame, seek_jump *
     uint8_t answer[SEEK_BLOCK] = {0};
     uint32_t n = seek_raw_plan(l->head, SEEK_BLOCK, frame, answer, SEEK_BLOCK, SEEK_LENT_SEVEN_(l));
     uint64_t r;
-    if (n)
-        return n;
     j->where = (int)seek_word(answer, 0);
     j->number = seek_word(answer, 1);
     j->lsn = seek_word(answer, 2);
@@ -452,7 +452,7 @@ static inline uint32_t seek_plan(const seek_list *l, uint32_t frame, seek_jump *
     j->remaining = r < 2147483648u ? (int32_t)r : (int32_t)(r - 2147483648u) + INT32_MIN;
     j->offset = seek_word(answer, 11);
     j->length = seek_word(answer, 12);
-    return 0;
+    return n;
 }
 
 /* The bytes of the held part that seek_plan told; NULL where it told none. */
@@ -501,6 +501,14 @@ static inline uint32_t seek_finish(seek_recorder *r, uint32_t threshold, uint64_
     return seek_raw_finish(r->block, SEEK_BLOCK, threshold, malformed, SEEK_LENT_FOUR_(r));
 }
 
+/* Absorbs into a list what its recorder read: the image id of the reading (NULL: not known), and its malformed sectors so far, rising, 4 bytes each, lowest
+ * byte first. The recorder is then empty and goes on, or is stopped if it was finished. 8 stops the recorder too; another refusal changes nothing. */
+static inline uint32_t seek_absorb(seek_list *l, seek_recorder *r, const uint64_t *image, const uint8_t *malformed, size_t length)
+{
+    return seek_raw_absorb(l->head, SEEK_BLOCK, r->block, SEEK_BLOCK, image != NULL, image ? *image : 0, malformed, length, SEEK_LENT_SEVEN_(l),
+                           SEEK_LENT_FOUR_(r));
+}
+
 /* ---- hints */
 /* The hint recorder of a list; *made is 0 where there is none, since the list's spacing or hint limit is 0. */
 static inline uint32_t seek_hint_recorder_of(const seek_list *l, seek_hint_recorder *h, int *made)
@@ -538,6 +546,27 @@ static inline uint32_t seek_keep_confirmation(seek_list *l, uint64_t lsn, uint32
     return n;
 }
 
+/* The hint to begin at for the frames from first up to end, end excluded, in an area of playtime frames, and the end of the read to make there. */
+typedef struct {
+    int found;            /* 0: no hint is near */
+    uint64_t lsn;         /* the hint's sector and frame number */
+    uint64_t number;
+    uint64_t upper;       /* the end of the read, excluded */
+    int later;            /* a later hint gave the end */
+} seek_hinted;
+
+static inline uint32_t seek_hint(const seek_list *l, uint32_t first, uint32_t end, uint32_t playtime, seek_hinted *h)
+{
+    uint8_t answer[SEEK_BLOCK] = {0};
+    uint32_t n = seek_raw_hint(l->head, SEEK_BLOCK, first, end, playtime, answer, SEEK_BLOCK, SEEK_LENT_SEVEN_(l));
+    h->found = seek_word(answer, 0) != 0;
+    h->lsn = seek_word(answer, 1);
+    h->number = seek_word(answer, 2);
+    h->upper = seek_word(answer, 3);
+    h->later = seek_word(answer, 4) != 0;
+    return n;
+}
+
 /* Adds hints, 8 bytes each: sector and frame number, lowest byte first. */
 static inline uint32_t seek_add_hints(seek_list *l, const uint8_t *list, size_t length)
 {
@@ -550,11 +579,9 @@ static inline uint32_t seek_first_record(const uint8_t *sector, size_t length, i
 {
     uint8_t answer[SEEK_BLOCK] = {0};
     uint32_t n = seek_raw_first_record(sector, length, answer, SEEK_BLOCK);
-    if (n)
-        return n;
     *found = seek_word(answer, 0) != 0;
     *number = seek_word(answer, 1);
-    return 0;
+    return n;
 }
 
 /* 64-bit FNV-1a. */
