@@ -2,7 +2,7 @@
  *
  * Every buffer lies between canaries and has a length of 0, 1, one short of what is needed, exactly that, or an odd number more. Blocks, tables and files hold
  * random bytes, zeros, a real list, or a real list with a few bytes changed. After each call: the canaries are whole, a buffer that is only read is as
- * it was, and so is every buffer where the call refused. */
+ * it was, and so is every buffer where the call refused; absorb's 8 may write the recorder. */
 #include <inttypes.h>
 #include <stdio.h>
 #include <stdlib.h>
@@ -46,7 +46,10 @@ typedef struct {
     int written;
 } buffer;
 
-enum { HEAD, OTHER, ANSWER, FILE_, OUT, LIST, CHECKPOINTS, FRAMES, STORE, PARTS, MALFORMED, HINTS, CONFIRMED, CHECKPOINTS2, FRAMES2, STORE2, PARTS2, MALFORMED2, HINTS2, CONFIRMED2, BUFFERS };
+enum {
+    HEAD, OTHER, ANSWER, FILE_, OUT, LIST, CHECKPOINTS, FRAMES, STORE, PARTS, MALFORMED, HINTS, CONFIRMED, CHECKPOINTS2, FRAMES2, STORE2, PARTS2, MALFORMED2,
+    HINTS2, CONFIRMED2, RECORDER, FINISHING, CHECKPOINTS3, FRAMES3, STORE3, PARTS3, BYTES, SECTOR, HINTER, SEEN, GIVEN, BUFFERS
+};
 static buffer all[BUFFERS];
 static uint8_t *real[BUFFERS];
 
@@ -127,11 +130,12 @@ static int canaries(const buffer *b)
 
 /* ---- calls */
 static seek_area area;
-static uint64_t v[6];
+static uint64_t v[8];
 
 #define LENT(k) all[k].at, all[k].length
 #define TABLES LENT(CHECKPOINTS), LENT(FRAMES), LENT(STORE), LENT(PARTS), LENT(MALFORMED), LENT(HINTS), LENT(CONFIRMED)
 #define OTHERS LENT(CHECKPOINTS2), LENT(FRAMES2), LENT(STORE2), LENT(PARTS2), LENT(MALFORMED2), LENT(HINTS2), LENT(CONFIRMED2)
+#define FOUR LENT(CHECKPOINTS3), LENT(FRAMES3), LENT(STORE3), LENT(PARTS3)
 #define AREA area.slot, area.channels, area.key_start, area.key_end, area.sectors, area.start, area.end
 
 static uint64_t call_sum(void) { return seek_raw_sum(LENT(FILE_)), 0; }
@@ -148,33 +152,61 @@ static uint64_t call_fingerprint(void) { return seek_raw_fingerprint(LENT(HEAD),
 static uint64_t call_merge(void) { return seek_raw_merge(LENT(HEAD), LENT(OTHER), TABLES, OTHERS); }
 static uint64_t call_adds(void) { return seek_raw_adds(LENT(HEAD), LENT(OTHER), LENT(ANSWER), TABLES, OTHERS); }
 static uint64_t call_add_hints(void) { return seek_raw_add_hints(LENT(HEAD), LENT(LIST), TABLES); }
+static uint64_t call_recorder(void) { return seek_raw_recorder(LENT(HEAD), v[0], LENT(RECORDER), TABLES); }
+static uint64_t call_record(void)
+{
+    return seek_raw_record(LENT(RECORDER), v[0], (uint32_t)v[1], v[2], (uint8_t)v[3], v[4], (uint32_t)v[5], (uint8_t)v[6], (int32_t)(uint32_t)v[7], LENT(BYTES),
+                           LENT(SECTOR), FOUR);
+}
+static uint64_t call_finish(void) { return seek_raw_finish(LENT(FINISHING), (uint32_t)v[0], v[1], FOUR); }
+static uint64_t call_absorb(void) { return seek_raw_absorb(LENT(HEAD), LENT(RECORDER), (uint8_t)v[0], v[1], LENT(GIVEN), TABLES, FOUR); }
+static uint64_t call_hint_recorder(void) { return seek_raw_hint_recorder(LENT(HEAD), LENT(HINTER), TABLES); }
+static uint64_t call_see(void) { return seek_raw_see(LENT(HINTER), v[0], LENT(SECTOR), LENT(SEEN)); }
+static uint64_t call_flush(void) { return seek_raw_flush(LENT(HINTER), LENT(SEEN)); }
+static uint64_t call_take(void) { return seek_raw_take(LENT(HINTER), LENT(ANSWER), LENT(SEEN)); }
+static uint64_t call_keep(void) { return seek_raw_keep_confirmation(LENT(HEAD), v[0], (uint32_t)v[1], v[2], LENT(ANSWER), TABLES); }
+static uint64_t call_hint(void) { return seek_raw_hint(LENT(HEAD), (uint32_t)v[0], (uint32_t)v[1], (uint32_t)v[2], LENT(ANSWER), TABLES); }
 
-#define BIT(k) (1u << (k))
+#define BIT(k) (UINT32_C(1) << (k))
 #define SEVEN (BIT(CHECKPOINTS) | BIT(FRAMES) | BIT(STORE) | BIT(PARTS) | BIT(MALFORMED) | BIT(HINTS) | BIT(CONFIRMED))
 
 #define SEVEN2 (SEVEN << 7)
+#define FOUR3 (BIT(CHECKPOINTS3) | BIT(FRAMES3) | BIT(STORE3) | BIT(PARTS3))
 
-/* The buffers that a call is lent, those it writes, and whether its answer is a length (from 88 on) instead of 0. */
+/* The buffers that a call is lent, those it writes, whether its answer is a length (from 88 on) instead of 0, and numbers that it accepts with the real
+ * lists. */
 static const struct {
     const char *name;
     uint64_t (*run)(void);
-    unsigned lent, written;
+    uint32_t lent, written;
     int lengths;
+    uint64_t usual[8];
 } calls[] = {
-    {"sum", call_sum, BIT(FILE_), 0, 0},
-    {"first_record", call_first, BIT(FILE_) | BIT(ANSWER), BIT(ANSWER), 0},
-    {"sizes", call_sizes, BIT(ANSWER), BIT(ANSWER), 0},
-    {"file_area", call_file_area, BIT(FILE_) | BIT(ANSWER), BIT(ANSWER), 0},
-    {"file_sizes", call_file_sizes, BIT(FILE_) | BIT(ANSWER), BIT(ANSWER), 0},
-    {"new", call_new, BIT(HEAD) | SEVEN, BIT(HEAD), 0},
-    {"load", call_load, BIT(HEAD) | BIT(FILE_) | SEVEN, BIT(HEAD) | SEVEN, 0},
-    {"saved_length", call_length, BIT(HEAD) | SEVEN, 0, 1},
-    {"save", call_save, BIT(HEAD) | BIT(OUT) | SEVEN, BIT(OUT), 1},
-    {"plan", call_plan, BIT(HEAD) | BIT(ANSWER) | SEVEN, BIT(ANSWER), 0},
-    {"fingerprint", call_fingerprint, BIT(HEAD) | SEVEN, BIT(HEAD), 0},
-    {"merge", call_merge, BIT(HEAD) | BIT(OTHER) | SEVEN | SEVEN2, BIT(HEAD) | SEVEN, 0},
-    {"adds", call_adds, BIT(HEAD) | BIT(OTHER) | BIT(ANSWER) | SEVEN | SEVEN2, BIT(ANSWER), 0},
-    {"add_hints", call_add_hints, BIT(HEAD) | BIT(LIST) | SEVEN, BIT(HEAD) | BIT(HINTS), 0},
+    {"sum", call_sum, BIT(FILE_), 0, 0, {0}},
+    {"first_record", call_first, BIT(FILE_) | BIT(ANSWER), BIT(ANSWER), 0, {0}},
+    {"sizes", call_sizes, BIT(ANSWER), BIT(ANSWER), 0, {50, 4096, 2048}},
+    {"file_area", call_file_area, BIT(FILE_) | BIT(ANSWER), BIT(ANSWER), 0, {0}},
+    {"file_sizes", call_file_sizes, BIT(FILE_) | BIT(ANSWER), BIT(ANSWER), 0, {4096}},
+    {"new", call_new, BIT(HEAD) | SEVEN, BIT(HEAD), 0, {50, 4096, 8, 2048}},
+    {"load", call_load, BIT(HEAD) | BIT(FILE_) | SEVEN, BIT(HEAD) | SEVEN, 0, {4096}},
+    {"saved_length", call_length, BIT(HEAD) | SEVEN, 0, 1, {0}},
+    {"save", call_save, BIT(HEAD) | BIT(OUT) | SEVEN, BIT(OUT), 1, {0}},
+    {"plan", call_plan, BIT(HEAD) | BIT(ANSWER) | SEVEN, BIT(ANSWER), 0, {160}},
+    {"fingerprint", call_fingerprint, BIT(HEAD) | SEVEN, BIT(HEAD), 0, {7}},
+    {"merge", call_merge, BIT(HEAD) | BIT(OTHER) | SEVEN | SEVEN2, BIT(HEAD) | SEVEN, 0, {0}},
+    {"adds", call_adds, BIT(HEAD) | BIT(OTHER) | BIT(ANSWER) | SEVEN | SEVEN2, BIT(ANSWER), 0, {0}},
+    {"add_hints", call_add_hints, BIT(HEAD) | BIT(LIST) | SEVEN, BIT(HEAD) | BIT(HINTS), 0, {0}},
+    {"recorder", call_recorder, BIT(HEAD) | BIT(RECORDER) | SEVEN, BIT(RECORDER), 0, {SAMPLE_START}},
+    {"record", call_record, BIT(RECORDER) | BIT(BYTES) | BIT(SECTOR) | FOUR3, BIT(RECORDER) | FOUR3, 0, {1200, 300, 0, 1, 1150, 280, 1, 5}},
+    {"finish", call_finish, BIT(FINISHING) | FOUR3, BIT(FINISHING), 0, {600, 0}},
+    {"absorb", call_absorb, BIT(HEAD) | BIT(RECORDER) | BIT(GIVEN) | SEVEN | FOUR3,
+     BIT(HEAD) | BIT(RECORDER) | BIT(CHECKPOINTS) | BIT(FRAMES) | BIT(STORE) | BIT(PARTS) | BIT(MALFORMED), 0, {1, 5}},
+    {"hint_recorder", call_hint_recorder, BIT(HEAD) | BIT(HINTER) | SEVEN, BIT(HINTER), 0, {0}},
+    {"see", call_see, BIT(HINTER) | BIT(SECTOR) | BIT(SEEN), BIT(HINTER) | BIT(SEEN), 0, {1300}},
+    {"flush", call_flush, BIT(HINTER) | BIT(SEEN), BIT(HINTER) | BIT(SEEN), 0, {0}},
+    {"take", call_take, BIT(HINTER) | BIT(ANSWER) | BIT(SEEN), BIT(HINTER) | BIT(ANSWER), 0, {0}},
+    {"keep_confirmation", call_keep, BIT(HEAD) | BIT(ANSWER) | SEVEN, BIT(HEAD) | BIT(ANSWER) | BIT(CONFIRMED), 0, {1100, 150, 9}},
+    {"hint", call_hint, BIT(HEAD) | BIT(ANSWER) | SEVEN, BIT(ANSWER), 0, {30, 60, 600}},
 };
 enum { CALLS = sizeof calls / sizeof *calls };
 
@@ -193,7 +225,7 @@ static int check(unsigned c, uint64_t answer)
             fprintf(stderr, "%s: wrote outside %s\n", calls[c].name, b->name);
             return 0;
         }
-        if ((refused || !b->written) && !same(b)) {
+        if (((refused && !(answer == 8 && k == RECORDER)) || !b->written) && !same(b)) {
             fprintf(stderr, "%s: %s, and %s changed\n", calls[c].name, refused ? "refused" : "accepted", b->name);
             return 0;
         }
@@ -203,7 +235,7 @@ static int check(unsigned c, uint64_t answer)
 
 /* ---- the real lists, which the buffers begin with */
 /* A sample of n checkpoints and s hints, loaded into the real tables from first on, with its head. */
-static void begin_list(int head, int first, unsigned n, unsigned s)
+static seek_list begin_list(int head, int first, unsigned n, unsigned s)
 {
     static uint8_t file[SAMPLE_LONGEST];
     static const char *const names[] = {"checkpoints", "frames", "store", "parts", "malformed", "hints", "confirmed"};
@@ -223,7 +255,7 @@ static void begin_list(int head, int first, unsigned n, unsigned s)
         }
     }
     memset(l.head, 0, sizeof l.head);
-    if (seek_load(&l, &area, file, length, UINT64_MAX))
+    if (seek_load(&l, &area, file, length, UINT64_MAX) || seek_fingerprint(&l, 7))
         exit(2);
     make(head, "head", SEEK_BLOCK);
     memcpy(real[head], l.head, SEEK_BLOCK);
@@ -232,29 +264,85 @@ static void begin_list(int head, int first, unsigned n, unsigned s)
         memcpy(real[FILE_], file, length);
         make(OUT, "out", length);
     }
+    return l;
+}
+
+/* A sector in which the frame 4,653 starts. */
+static void begin_sector(void)
+{
+    make(SECTOR, "sector", 2048);
+    memcpy(real[SECTOR], "\x24\0\0\1\2\3", 6);
+}
+
+/* The recorder of a list, with one checkpoint and a part, its tables from first on; and the block of one that has only to finish. */
+static void begin_recorder(const seek_list *l)
+{
+    seek_recorder r;
+    seek_table *tables[] = {&r.checkpoints, &r.frames, &r.store, &r.parts};
+    const seek_table *own[] = {&l->checkpoints, &l->frames, &l->store, &l->parts};
+    seek_frame f = {1110, 200, 1, -3, NULL, 0};
+    int k;
+    for (k = 0; k < 4; k++) {
+        make(CHECKPOINTS3 + k, all[CHECKPOINTS + k].name, own[k]->length);
+        tables[k]->at = real[CHECKPOINTS3 + k];
+        tables[k]->length = own[k]->length;
+    }
+    make(BYTES, "bytes", 300);
+    f.bytes = real[BYTES];
+    f.length = 300;
+    if (seek_recorder_of(l, SAMPLE_START, &r) || seek_record(&r, 1150, 225, 0, &f, real[SECTOR], 2048))
+        exit(2);
+    make(RECORDER, "recorder", SEEK_BLOCK);
+    memcpy(real[RECORDER], r.block, SEEK_BLOCK);
+    make(FINISHING, "recorder", SEEK_BLOCK);
+    memcpy(real[FINISHING], r.block, SEEK_BLOCK);
+    sample_put(real[FINISHING] + 8 * 9, SAMPLE_BOUNDARIES - 1, 8);
+    sample_put(real[FINISHING] + 8 * 12, 0, 8);
+    sample_put(real[FINISHING] + 8 * 13, 0, 8);
+}
+
+/* The hint recorder of a list, with a hint and a tail. */
+static void begin_hint_recorder(const seek_list *l)
+{
+    seek_hint_recorder h;
+    int made = 0;
+    make(SEEN, "seen", SEEK_HINT_LIST);
+    h.list.at = real[SEEN];
+    h.list.length = SEEK_HINT_LIST;
+    if (seek_hint_recorder_of(l, &h, &made) || !made || seek_see(&h, 1100, real[SECTOR], 2048) || seek_see(&h, 1101, real[SECTOR], 2048))
+        exit(2);
+    make(HINTER, "hint recorder", SEEK_BLOCK);
+    memcpy(real[HINTER], h.block, SEEK_BLOCK);
 }
 
 static void begin(void)
 {
     unsigned i;
-    begin_list(HEAD, CHECKPOINTS, 3, 20);
+    seek_list own = begin_list(HEAD, CHECKPOINTS, 3, 20);
     begin_list(OTHER, CHECKPOINTS2, 5, 40);
+    begin_sector();
+    begin_recorder(&own);
+    begin_hint_recorder(&own);
     make(ANSWER, "answer", SEEK_BLOCK);
+    make(GIVEN, "given", 12);
+    for (i = 0; i < 3; i++)
+        sample_put(real[GIVEN] + 4 * i, SAMPLE_START + SAMPLE_SECTORS - 3 + i, 4);
+    sample_put(real[HEAD] + 8 * 22, 1, 8); /* the image id, 5 */
+    sample_put(real[HEAD] + 8 * 23, 5, 8);
     make(LIST, "list", 80);
     for (i = 0; i < 10; i++)
         sample_put(real[LIST] + 8 * i, (SAMPLE_START + 7 * i) | (uint64_t)(9 * i) << 32, 8);
 }
 
-static void choose_numbers(int wild)
+static void choose_numbers(unsigned c, int wild)
 {
-    static const uint64_t usual[6] = {50, 4096, 8, 2048, 0, 0};
     static seek_area told;
     unsigned k;
     if (told.sectors == 0)
         told = area;
     area = told;
-    for (k = 0; k < 6; k++)
-        v[k] = wild && below(2) ? number() : usual[k];
+    for (k = 0; k < 8; k++)
+        v[k] = wild && below(4) == 0 ? number() : calls[c].usual[k];
     if (!wild || below(2))
         return;
     switch (below(7)) {
@@ -270,7 +358,7 @@ static void choose_numbers(int wild)
 
 int main(int argc, char **argv)
 {
-    uint64_t count = argc > 1 ? strtoull(argv[1], NULL, 10) : 100000, i, accepted[CALLS] = {0}, refused[CALLS] = {0};
+    uint64_t count = argc > 1 ? strtoull(argv[1], NULL, 10) : 100000, i, accepted[CALLS] = {0}, refused[CALLS] = {0}, eights = 0;
     unsigned c;
     state = (argc > 2 ? strtoull(argv[2], NULL, 10) : 1) * 0x9e3779b97f4a7c15u | 1;
     begin();
@@ -278,7 +366,7 @@ int main(int argc, char **argv)
         int wild = below(8) != 0, whole = below(256) == 0, k;
         uint64_t answer;
         c = (unsigned)below(CALLS);
-        choose_numbers(wild);
+        choose_numbers(c, wild);
         for (k = 0; k < BUFFERS; k++)
             if (calls[c].lent >> k & 1)
                 lend(k, wild, (int)(calls[c].written >> k & 1), whole);
@@ -288,12 +376,12 @@ int main(int argc, char **argv)
             return 1;
         }
         if (calls[c].lengths ? answer < 88 : answer != 0)
-            refused[c]++;
+            refused[c]++, eights += answer == 8;
         else
             accepted[c]++;
     }
     for (c = 0; c < CALLS; c++)
-        printf("%-14s %10" PRIu64 " accepted %10" PRIu64 " refused\n", calls[c].name, accepted[c], refused[c]);
-    printf("%" PRIu64 " calls\n", count);
+        printf("%-17s %10" PRIu64 " accepted %10" PRIu64 " refused\n", calls[c].name, accepted[c], refused[c]);
+    printf("%" PRIu64 " calls; %" PRIu64 " times a recorder was stopped by 8\n", count, eights);
     return 0;
 }
