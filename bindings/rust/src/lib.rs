@@ -1,11 +1,17 @@
 //! The seek index of Super Audio discs: a safe wrapper of the player's library (include/seek.h), which is proved.
 //!
-//! A [`List`] owns the memory of its head and its seven tables. Every call answers a result or an [`Error`]; an error changed nothing.
+//! A [`List`] owns the memory of its head and its seven tables. Every call answers a result or an [`Error`]; an error changed nothing,
+//! but for the one that stops a recorder ([`List::absorb`]).
 
 mod error;
+mod hints;
 mod raw;
+mod recorder;
 
 pub use error::Error;
+pub use hints::{Hint, HintRecorder, Hinted};
+pub use recorder::{Frame, Recorder};
+
 use error::answer;
 use raw::BLOCK;
 
@@ -52,6 +58,19 @@ pub struct Part<'a> {
     pub number: u32,
     pub remaining: i32,
     pub bytes: &'a [u8],
+}
+
+/// What merging another list would change.
+#[derive(Clone, Copy, Debug, Default, PartialEq, Eq)]
+pub struct Brings {
+    pub checkpoints: bool,
+    pub end: bool,
+    pub parts: bool,
+    pub malformed: bool,
+    pub hints: bool,
+    pub confirmations: bool,
+    pub fingerprint: bool,
+    pub image: bool,
 }
 
 /// A list: the numbers in its head, and its seven tables one behind the other in one block of memory.
@@ -246,6 +265,45 @@ impl List {
                 head.as_mut_ptr(), BLOCK, value, t0.as_ptr(), t0.len(), t1.as_ptr(), t1.len(), t2.as_ptr(), t2.len(), t3.as_ptr(), t3.len(),
                 t4.as_ptr(), t4.len(), t5.as_ptr(), t5.len(), t6.as_ptr(), t6.len(),
             )
+        })
+    }
+
+    /// Merges another list into this one.
+    pub fn merge(&mut self, other: &List) -> Result<(), Error> {
+        let [u0, u1, u2, u3, u4, u5, u6] = other.tables();
+        let (head, [t0, t1, t2, t3, t4, t5, t6]) = self.tables_mut();
+        // Safety: each pointer is that of a slice of the length behind it, and no two overlap.
+        answer(unsafe {
+            raw::seek_raw_merge(
+                head.as_mut_ptr(), BLOCK, other.head.as_ptr(), BLOCK, t0.as_mut_ptr(), t0.len(), t1.as_mut_ptr(), t1.len(), t2.as_mut_ptr(), t2.len(),
+                t3.as_mut_ptr(), t3.len(), t4.as_mut_ptr(), t4.len(), t5.as_mut_ptr(), t5.len(), t6.as_mut_ptr(), t6.len(), u0.as_ptr(), u0.len(),
+                u1.as_ptr(), u1.len(), u2.as_ptr(), u2.len(), u3.as_ptr(), u3.len(), u4.as_ptr(), u4.len(), u5.as_ptr(), u5.len(), u6.as_ptr(), u6.len(),
+            )
+        })
+    }
+
+    /// What merging another list would change in this one.
+    pub fn adds(&self, other: &List) -> Result<Brings, Error> {
+        let mut b = [0; BLOCK];
+        let [u0, u1, u2, u3, u4, u5, u6] = other.tables();
+        let [t0, t1, t2, t3, t4, t5, t6] = self.tables();
+        // Safety: each pointer is that of a slice of the length behind it, and the block overlaps nothing.
+        answer(unsafe {
+            raw::seek_raw_adds(
+                self.head.as_ptr(), BLOCK, other.head.as_ptr(), BLOCK, b.as_mut_ptr(), BLOCK, t0.as_ptr(), t0.len(), t1.as_ptr(), t1.len(), t2.as_ptr(),
+                t2.len(), t3.as_ptr(), t3.len(), t4.as_ptr(), t4.len(), t5.as_ptr(), t5.len(), t6.as_ptr(), t6.len(), u0.as_ptr(), u0.len(), u1.as_ptr(),
+                u1.len(), u2.as_ptr(), u2.len(), u3.as_ptr(), u3.len(), u4.as_ptr(), u4.len(), u5.as_ptr(), u5.len(), u6.as_ptr(), u6.len(),
+            )
+        })?;
+        Ok(Brings {
+            checkpoints: word(&b, 0) != 0,
+            end: word(&b, 1) != 0,
+            parts: word(&b, 2) != 0,
+            malformed: word(&b, 3) != 0,
+            hints: word(&b, 4) != 0,
+            confirmations: word(&b, 5) != 0,
+            fingerprint: word(&b, 6) != 0,
+            image: word(&b, 7) != 0,
         })
     }
 

@@ -41,4 +41,57 @@ unsafe extern "C" {
         head: *mut u8, head_length: usize, value: u64, t0: *const u8, l0: usize, t1: *const u8, l1: usize, t2: *const u8, l2: usize, t3: *const u8,
         l3: usize, t4: *const u8, l4: usize, t5: *const u8, l5: usize, t6: *const u8, l6: usize,
     ) -> u32;
+    pub fn seek_raw_merge(
+        head: *mut u8, head_length: usize, other: *const u8, other_length: usize, t0: *mut u8, l0: usize, t1: *mut u8, l1: usize, t2: *mut
+        u8, l2: usize, t3: *mut u8, l3: usize, t4: *mut u8, l4: usize, t5: *mut u8, l5: usize, t6: *mut u8, l6: usize, u0: *const u8, m0:
+        usize, u1: *const u8, m1: usize, u2: *const u8, m2: usize, u3: *const u8, m3: usize, u4: *const u8, m4: usize, u5: *const u8, m5:
+        usize, u6: *const u8, m6: usize,
+    ) -> u32;
+    pub fn seek_raw_adds(
+        head: *const u8, head_length: usize, other: *const u8, other_length: usize, answer: *mut u8, answer_length: usize, t0: *const u8,
+        l0: usize, t1: *const u8, l1: usize, t2: *const u8, l2: usize, t3: *const u8, l3: usize, t4: *const u8, l4: usize, t5: *const u8,
+        l5: usize, t6: *const u8, l6: usize, u0: *const u8, m0: usize, u1: *const u8, m1: usize, u2: *const u8, m2: usize, u3: *const u8,
+        m3: usize, u4: *const u8, m4: usize, u5: *const u8, m5: usize, u6: *const u8, m6: usize,
+    ) -> u32;
+    pub fn seek_raw_add_hints(
+        head: *mut u8, head_length: usize, list: *const u8, length: usize, t0: *const u8, l0: usize, t1: *const u8, l1: usize, t2: *const
+        u8, l2: usize, t3: *const u8, l3: usize, t4: *const u8, l4: usize, t5: *mut u8, l5: usize, t6: *const u8, l6: usize,
+    ) -> u32;
+    pub fn seek_raw_recorder(
+        head: *const u8, head_length: usize, from: u64, block: *mut u8, block_length: usize, t0: *const u8, l0: usize, t1: *const u8, l1:
+        usize, t2: *const u8, l2: usize, t3: *const u8, l3: usize, t4: *const u8, l4: usize, t5: *const u8, l5: usize, t6: *const u8, l6:
+        usize,
+    ) -> u32;
+    pub fn seek_raw_record(
+        block: *mut u8, block_length: usize, lsn: u64, threshold: u32, malformed: u64, mark: u8, start: u64, number: u32, kind: u8,
+        remaining: i32, bytes: *const u8, length: usize, sector: *const u8, sector_length: usize, u0: *mut u8, m0: usize, u1: *mut u8, m1:
+        usize, u2: *mut u8, m2: usize, u3: *mut u8, m3: usize,
+    ) -> u32;
+    pub fn seek_raw_finish(
+        block: *mut u8, block_length: usize, threshold: u32, malformed: u64, u0: *const u8, m0: usize, u1: *const u8, m1: usize, u2: *const
+        u8, m2: usize, u3: *const u8, m3: usize,
+    ) -> u32;
+    pub fn seek_raw_absorb(
+        head: *mut u8, head_length: usize, block: *mut u8, block_length: usize, mark: u8, image: u64, given: *const u8, given_length: usize,
+        t0: *mut u8, l0: usize, t1: *mut u8, l1: usize, t2: *mut u8, l2: usize, t3: *mut u8, l3: usize, t4: *mut u8, l4: usize, t5: *const
+        u8, l5: usize, t6: *const u8, l6: usize, u0: *const u8, m0: usize, u1: *const u8, m1: usize, u2: *const u8, m2: usize, u3: *const
+        u8, m3: usize,
+    ) -> u32;
+    pub fn seek_raw_hint_recorder(
+        head: *const u8, head_length: usize, block: *mut u8, block_length: usize, t0: *const u8, l0: usize, t1: *const u8, l1: usize, t2:
+        *const u8, l2: usize, t3: *const u8, l3: usize, t4: *const u8, l4: usize, t5: *const u8, l5: usize, t6: *const u8, l6: usize,
+    ) -> u32;
+    pub fn seek_raw_see(block: *mut u8, block_length: usize, lsn: u64, sector: *const u8, sector_length: usize, list: *mut u8, length: usize) -> u32;
+    pub fn seek_raw_flush(block: *mut u8, block_length: usize, list: *mut u8, length: usize) -> u32;
+    pub fn seek_raw_take(block: *mut u8, block_length: usize, answer: *mut u8, answer_length: usize, list: *const u8, length: usize) -> u32;
+    pub fn seek_raw_keep_confirmation(
+        head: *mut u8, head_length: usize, lsn: u64, threshold: u32, digest: u64, answer: *mut u8, answer_length: usize, t0: *const u8, l0:
+        usize, t1: *const u8, l1: usize, t2: *const u8, l2: usize, t3: *const u8, l3: usize, t4: *const u8, l4: usize, t5: *const u8, l5:
+        usize, t6: *mut u8, l6: usize,
+    ) -> u32;
+    pub fn seek_raw_hint(
+        head: *const u8, head_length: usize, first: u32, end: u32, playtime: u32, answer: *mut u8, answer_length: usize, t0: *const u8, l0:
+        usize, t1: *const u8, l1: usize, t2: *const u8, l2: usize, t3: *const u8, l3: usize, t4: *const u8, l4: usize, t5: *const u8, l5:
+        usize, t6: *const u8, l6: usize,
+    ) -> u32;
 }

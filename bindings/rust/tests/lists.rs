@@ -1,6 +1,6 @@
 //! A list's life through the wrapper.
 
-use seek::{Area, Error, List, Plan, first_record, sum};
+use seek::{Area, Brings, Error, Frame, Hint, Hinted, List, Plan, first_record, sum};
 
 fn area() -> Area {
     Area { slot: 0, channels: 2, key_start: 1000, key_end: 1399, sectors: 1550, start: 1000, end: 1400 }
@@ -91,4 +91,81 @@ fn a_new_list_is_empty() {
     assert_eq!(List::new(Area { slot: 2, ..area() }, 50, 0, 8, 2048).err(), Some(Error::Area));
     assert_eq!(Error::Numbers.number(), 2);
     assert_eq!(Error::FileSum.to_string(), "the file's sum is wrong: it was changed or cut");
+}
+
+#[test]
+fn the_longer_list_is_merged() {
+    let mut short = List::load(area(), &file(2), u64::MAX).unwrap();
+    let long = List::load(area(), &file(5), u64::MAX).unwrap();
+    assert_eq!(long.adds(&short), Ok(Brings::default()));
+    assert_eq!(short.adds(&long), Ok(Brings { checkpoints: true, parts: true, ..Brings::default() }));
+    short.merge(&long).unwrap();
+    assert_eq!(short.save().unwrap(), file(5));
+}
+
+/// A sector in which a frame starts.
+fn sector(number: u32) -> [u8; 2048] {
+    let mut s = [0; 2048];
+    s[0] = 0x24;
+    (s[3], s[4], s[5]) = ((number / 75 / 60) as u8, (number / 75 % 60) as u8, (number % 75) as u8);
+    s
+}
+
+#[test]
+fn a_reading_becomes_a_list() {
+    let mut list = List::new(area(), 50, 4096, 8, 2048).unwrap();
+    let mut r = list.recorder(1000).unwrap();
+    let bytes = [7; 300];
+    for j in 0..8 {
+        let frame = Frame { start: 1000 + 50 * j - 40 * u64::from(j > 0), number: 50 * j as u32, dsd: true, remaining: -7, bytes: &bytes };
+        r.record(1000 + 50 * j, 50 * j as u32, 0, (j > 0).then_some(frame), &sector(50 * j as u32)).unwrap();
+    }
+    assert_eq!(r.record(1400, 400, 0, None, &sector(400)), Err(Error::RecordDue));
+    assert_eq!(r.checkpoints(), 8);
+    r.finish(400, 0).unwrap();
+    list.absorb(&mut r, Some(3), &[]).unwrap();
+    assert!(list.is_complete() && r.is_stopped());
+    assert_eq!((list.checkpoints(), r.checkpoints()), (8, 0));
+    let Plan::At(at) = list.plan(120).unwrap() else { panic!("no checkpoint") };
+    let part = at.part.unwrap();
+    assert_eq!((at.lsn, part.number, part.remaining, part.bytes), (1100, 100, -7, &bytes[..]));
+    assert!(list.recorder(1000).unwrap().is_stopped());
+    let saved = list.save().unwrap();
+    assert_eq!(List::load(area(), &saved, u64::MAX).unwrap().save().unwrap(), saved);
+}
+
+#[test]
+fn another_image_stops_the_recorder() {
+    let mut list = List::new(area(), 50, 0, 8, 2048).unwrap();
+    let mut r = list.recorder(1000).unwrap();
+    r.record(1000, 0, 0, None, &sector(0)).unwrap();
+    list.absorb(&mut r, Some(3), &[]).unwrap();
+    r.record(1050, 50, 0, None, &sector(50)).unwrap();
+    assert_eq!(list.absorb(&mut r, Some(4), &[]), Err(Error::AbsorbImage));
+    assert!(r.is_stopped());
+    assert_eq!(list.checkpoints(), 1);
+}
+
+#[test]
+fn hints_and_confirmations() {
+    let mut list = List::new(area(), 50, 0, 75, 2048).unwrap();
+    let mut h = list.hint_recorder().unwrap().unwrap();
+    for n in [100, 174, 175, 99] {
+        h.see(1000 + u64::from(n), &sector(n)).unwrap();
+    }
+    h.flush().unwrap();
+    let taken = h.take().unwrap();
+    assert_eq!(taken, [100, 175, 99].map(|n| Hint { lsn: 1000 + n, number: n }));
+    assert_eq!(h.take().unwrap(), []);
+    list.add_hints(&taken).unwrap();
+    assert_eq!(list.hints(), 3);
+    assert!(list.hint(110, 110, 400).unwrap().is_some_and(|h| h.lsn == 1100 && h.number == 100 && !h.later));
+    assert_eq!(list.hint(110, 160, 400).unwrap(), Some(Hinted { lsn: 1100, number: 100, upper: 1176, later: true }));
+    assert_eq!(list.hint(50, 60, 400).unwrap(), None);
+    assert_eq!(list.hint(60, 50, 400), Err(Error::HintRange));
+    assert_eq!(list.keep_confirmation(1100, 100, 5), Ok(false));
+    list.bind_fingerprint(7).unwrap();
+    assert_eq!(list.keep_confirmation(1100, 100, 5), Ok(true));
+    assert_eq!(list.keep_confirmation(999, 100, 5), Err(Error::Confirmation));
+    assert!(List::new(area(), 50, 0, 0, 2048).unwrap().hint_recorder().unwrap().is_none());
 }

@@ -1,0 +1,122 @@
+//! Hints and confirmations of a list, and hint recorders.
+
+use crate::error::{Error, answer};
+use crate::raw::{self, BLOCK};
+use crate::{List, word};
+
+/// The bytes of a hint recorder's list: 65,536 hints.
+const LIST: usize = 524_288;
+
+/// A hint: a sector, and the number of the frame that starts there.
+#[derive(Clone, Copy, Debug, PartialEq, Eq)]
+pub struct Hint {
+    pub lsn: u32,
+    pub number: u32,
+}
+
+/// Where to begin reading for a range of frames.
+#[derive(Clone, Copy, Debug, PartialEq, Eq)]
+pub struct Hinted {
+    pub lsn: u64,
+    pub number: u32,
+    /// The end of the read, excluded.
+    pub upper: u64,
+    /// A later hint gave the end.
+    pub later: bool,
+}
+
+/// A hint recorder: the numbers in its block, and its list.
+#[derive(Clone)]
+pub struct HintRecorder {
+    block: [u8; BLOCK],
+    list: Vec<u8>,
+}
+
+impl HintRecorder {
+    /// Shows it a sector that was read.
+    pub fn see(&mut self, lsn: u64, sector: &[u8]) -> Result<(), Error> {
+        let (b, l) = (&mut self.block, &mut self.list);
+        // Safety: each pointer is that of a slice of the length behind it, and no two overlap.
+        answer(unsafe { raw::seek_raw_see(b.as_mut_ptr(), BLOCK, lsn, sector.as_ptr(), sector.len(), l.as_mut_ptr(), l.len()) })
+    }
+
+    /// Lists the last frame start that was seen and not listed.
+    pub fn flush(&mut self) -> Result<(), Error> {
+        let (b, l) = (&mut self.block, &mut self.list);
+        // Safety: each pointer is that of a slice of the length behind it, and the two do not overlap.
+        answer(unsafe { raw::seek_raw_flush(b.as_mut_ptr(), BLOCK, l.as_mut_ptr(), l.len()) })
+    }
+
+    /// Takes its hints.
+    pub fn take(&mut self) -> Result<Vec<Hint>, Error> {
+        let mut a = [0; BLOCK];
+        let (b, l) = (&mut self.block, &self.list);
+        // Safety: each pointer is that of a slice of the length behind it, and no two overlap.
+        answer(unsafe { raw::seek_raw_take(b.as_mut_ptr(), BLOCK, a.as_mut_ptr(), BLOCK, l.as_ptr(), l.len()) })?;
+        let four = |c: &[u8]| u32::from_le_bytes([c[0], c[1], c[2], c[3]]);
+        Ok(l[..8 * word(&a, 0) as usize].chunks_exact(8).map(|c| Hint { lsn: four(c), number: four(&c[4..]) }).collect())
+    }
+}
+
+impl List {
+    /// A hint recorder; none where the list's spacing or hint limit is 0.
+    pub fn hint_recorder(&self) -> Result<Option<HintRecorder>, Error> {
+        let mut block = [0; BLOCK];
+        let [t0, t1, t2, t3, t4, t5, t6] = self.tables();
+        // Safety: each pointer is that of a slice of the length behind it, and the block overlaps nothing.
+        answer(unsafe {
+            raw::seek_raw_hint_recorder(
+                self.head.as_ptr(), BLOCK, block.as_mut_ptr(), BLOCK, t0.as_ptr(), t0.len(), t1.as_ptr(), t1.len(), t2.as_ptr(), t2.len(),
+                t3.as_ptr(), t3.len(), t4.as_ptr(), t4.len(), t5.as_ptr(), t5.len(), t6.as_ptr(), t6.len(),
+            )
+        })?;
+        Ok((word(&block, 0) != 0).then(|| HintRecorder { block, list: vec![0; LIST] }))
+    }
+
+    /// Adds hints by their rules.
+    pub fn add_hints(&mut self, hints: &[Hint]) -> Result<(), Error> {
+        let list: Vec<u8> = hints.iter().flat_map(|h| [h.lsn.to_le_bytes(), h.number.to_le_bytes()]).flatten().collect();
+        let (head, [t0, t1, t2, t3, t4, t5, t6]) = self.tables_mut();
+        // Safety: each pointer is that of a slice of the length behind it, and no two overlap.
+        answer(unsafe {
+            raw::seek_raw_add_hints(
+                head.as_mut_ptr(), BLOCK, list.as_ptr(), list.len(), t0.as_ptr(), t0.len(), t1.as_ptr(), t1.len(), t2.as_ptr(), t2.len(),
+                t3.as_ptr(), t3.len(), t4.as_ptr(), t4.len(), t5.as_mut_ptr(), t5.len(), t6.as_ptr(), t6.len(),
+            )
+        })
+    }
+
+    /// Keeps a confirmation by its rule: a sector, its threshold and its digest. False where nothing is kept, since the fingerprint is unchecked or the hint
+    /// limit 0.
+    pub fn keep_confirmation(&mut self, lsn: u64, threshold: u32, digest: u64) -> Result<bool, Error> {
+        let mut a = [0; BLOCK];
+        let (head, [t0, t1, t2, t3, t4, t5, t6]) = self.tables_mut();
+        // Safety: each pointer is that of a slice of the length behind it, and no two overlap.
+        answer(unsafe {
+            raw::seek_raw_keep_confirmation(
+                head.as_mut_ptr(), BLOCK, lsn, threshold, digest, a.as_mut_ptr(), BLOCK, t0.as_ptr(), t0.len(), t1.as_ptr(), t1.len(), t2.as_ptr(),
+                t2.len(), t3.as_ptr(), t3.len(), t4.as_ptr(), t4.len(), t5.as_ptr(), t5.len(), t6.as_mut_ptr(), t6.len(),
+            )
+        })?;
+        Ok(word(&a, 0) != 0)
+    }
+
+    /// The hint to begin at for the frames from `first` up to `end`, end excluded, in an area of `playtime` frames.
+    pub fn hint(&self, first: u32, end: u32, playtime: u32) -> Result<Option<Hinted>, Error> {
+        let mut a = [0; BLOCK];
+        let [t0, t1, t2, t3, t4, t5, t6] = self.tables();
+        // Safety: each pointer is that of a slice of the length behind it, and the answer overlaps nothing.
+        answer(unsafe {
+            raw::seek_raw_hint(
+                self.head.as_ptr(), BLOCK, first, end, playtime, a.as_mut_ptr(), BLOCK, t0.as_ptr(), t0.len(), t1.as_ptr(), t1.len(), t2.as_ptr(),
+                t2.len(), t3.as_ptr(), t3.len(), t4.as_ptr(), t4.len(), t5.as_ptr(), t5.len(), t6.as_ptr(), t6.len(),
+            )
+        })?;
+        Ok((word(&a, 0) != 0).then(|| Hinted {
+            lsn: word(&a, 1),
+            number: word(&a, 2) as u32,
+            upper: word(&a, 3),
+            later: word(&a, 4) != 0,
+        }))
+    }
+}
