@@ -1,7 +1,7 @@
-/* lists DIR: writes the example lists into the folders DIR/school1 and DIR/school2, by docs/FILE.md, each of a pass over a disc that is made up here. Each
- * school has a list of the whole disc and one of a pass that was broken off. */
+/* lists DIR: writes the example lists into the folders DIR/school1 and DIR/school2, each by a pass over a disc that is made up here: recorder, record, finish,
+ * absorb; hints seen and taken; the fingerprint stated; saved. Each school has a list of the whole disc and one of a pass that was broken off. */
 #include <stdio.h>
-#include <string.h>
+#include <stdlib.h>
 
 #include "seek.h"
 
@@ -47,123 +47,116 @@ static void read_sector(const Disc *d, uint64_t lsn, uint8_t *sector)
     sector[5] = (uint8_t)(frame % 75);
 }
 
-/* How many sectors before a checkpoint the frame under assembly there starts; 0 where there is none. */
-static uint64_t back_of(const Disc *d, unsigned j) { return is_late(j) ? LATE : (lsn_of(d, j) - d->area.start) % d->per_frame; }
-
-/* ---- a file */
-static uint8_t file[65536];
-static size_t end;
-
-static void put(uint64_t v, unsigned width)
+/* The frame under assembly at a checkpoint; 0 where there is none. */
+static int under_assembly(const Disc *d, unsigned j, seek_frame *f)
 {
-    while (width-- > 0) {
-        file[end++] = (uint8_t)v;
-        v >>= 8;
+    static uint8_t bytes[HELD];
+    uint64_t lsn = lsn_of(d, j), back = is_late(j) ? LATE : (lsn - d->area.start) % d->per_frame;
+    unsigned i;
+    for (i = 0; i < HELD; i++)
+        bytes[i] = (uint8_t)(j + i);
+    f->start = lsn - back;
+    f->number = frame_at(d, f->start);
+    f->kind = d->area.slot ? 0 : 1;
+    f->remaining = 1;
+    f->bytes = bytes;
+    f->length = HELD;
+    return back != 0;
+}
+
+/* ---- a pass over the first n checkpoints, to the end where they are all */
+static uint32_t record_all(const Disc *d, unsigned n, seek_list *l, seek_recorder *r)
+{
+    uint8_t sector[SECTOR], malformed[4 * 16] = {0};
+    unsigned j, m = 0, i;
+    uint32_t no = seek_recorder_of(l, d->area.start, r);
+    for (j = 0; j < n && no == 0; j++) {
+        seek_frame f;
+        int has = under_assembly(d, j, &f);
+        read_sector(d, lsn_of(d, j), sector);
+        no = seek_record(r, lsn_of(d, j), has ? f.number : frame_at(d, lsn_of(d, j)), malformed_before(j + 1), has ? &f : NULL, sector, SECTOR);
+        if (is_late(j))
+            for (i = 0; i < 4; i++)
+                malformed[4 * m + i] = (uint8_t)((lsn_of(d, j) - LATE / 2) >> 8 * i);
+        m = malformed_before(j + 1);
     }
+    if (no == 0 && n == boundaries(d))
+        no = seek_finish(r, frame_at(d, d->area.end), m);
+    return no ? no : seek_absorb(l, r, NULL, malformed, 4 * m);
 }
 
-static void put_header(const Disc *d, unsigned n)
-{
-    int whole = n == boundaries(d);
-    unsigned late = malformed_before(n);
-    end = 0;
-    put(0x58494b4545534253, 8);
-    put(2, 4);
-    put(d->area.slot, 1);
-    put(d->area.channels, 1);
-    put(whole ? 3 : 2, 2);
-    put(d->area.key_start, 4);
-    put(d->area.key_end, 4);
-    put(d->area.sectors, 8);
-    put(INTERVAL, 4);
-    put(n, 4);
-    put(late, 4);
-    put(late, 4);
-    put(late, 8);
-    put(BUDGET, 8);
-    put(whole ? frame_at(d, d->area.end) : 0, 8);
-    put(whole ? late : 0, 8);
-}
-
-static void put_scan(const Disc *d, unsigned n)
+static uint32_t see_all(const Disc *d, unsigned n, seek_list *l, seek_hint_recorder *h)
 {
     uint8_t sector[SECTOR];
-    unsigned j, i, frame = 0;
-    for (j = 0; j < n; j++) {
+    size_t length = 0;
+    unsigned j;
+    int made;
+    uint32_t no = seek_hint_recorder_of(l, h, &made);
+    for (j = 0; j < n && no == 0; j++) {
         read_sector(d, lsn_of(d, j), sector);
-        put(frame_at(d, lsn_of(d, j) - back_of(d, j)), 4);
-        put(back_of(d, j), 4);
-        put(malformed_before(j + 1), 8);
-        put(seek_sum(sector, SECTOR), 8);
+        no = seek_see(h, lsn_of(d, j), sector, SECTOR);
     }
-    for (j = 0; j < n; j++) {
-        if (!is_late(j))
-            continue;
-        put(lsn_of(d, j) - LATE, 4);
-        put(HELD, 4);
-        for (i = 0; i < HELD; i++)
-            put(j + i, 1);
-    }
-    for (j = 0; j < n; j++) {
-        if (!is_late(j))
-            continue;
-        put(j, 4);
-        put(frame++, 4);
-        put(HELD, 4);
-        put(frame_at(d, lsn_of(d, j) - LATE), 4);
-        put(1, 4);
-        put(d->area.slot ? 0 : 1, 4);
-    }
-    for (j = 0; j < n; j++)
-        if (is_late(j))
-            put(lsn_of(d, j) - LATE / 2, 4);
+    if (no == 0)
+        no = seek_flush(h);
+    if (no == 0)
+        no = seek_take(h, &length);
+    return no ? no : seek_add_hints(l, h->list.at, length);
 }
 
-/* A hint where a frame starts in a checkpoint's sector, each at least SPACING frames after the one before, and the last one. */
-static void put_hints(const Disc *d, unsigned n)
+/* ---- files */
+static void stop(const char *name, const char *why)
 {
-    uint32_t next = 0;
-    unsigned j, last = 0;
-    size_t count = end + 16;
-    put(d->fingerprint, 8);
-    put(SPACING, 4);
-    put(MOST, 4);
-    put(0, 8);
-    for (j = 0; j < n; j++)
-        if ((lsn_of(d, j) - d->area.start) % d->per_frame == 0)
-            last = j;
-    for (j = 0; j <= last; j++) {
-        uint32_t frame = frame_at(d, lsn_of(d, j));
-        if ((lsn_of(d, j) - d->area.start) % d->per_frame || (frame < next && j != last))
-            continue;
-        put(lsn_of(d, j), 4);
-        put(frame, 4);
-        next = frame + SPACING;
-        file[count]++;
-    }
+    fprintf(stderr, "lists: %s: %s\n", name, why);
+    exit(1);
 }
 
-static int make(const Disc *d, unsigned n, const char *folder, const char *name)
+static void write_list(const seek_list *l, const char *name)
 {
-    char path[4096];
-    FILE *out;
-    put_header(d, n);
-    put_scan(d, n);
-    put_hints(d, n);
-    put(seek_sum(file, end), 8);
-    snprintf(path, sizeof path, "%s/%s", folder, name);
-    out = fopen(path, "wb");
-    if (!out || fwrite(file, 1, end, out) != end || fclose(out)) {
-        fprintf(stderr, "lists: %s: cannot be written\n", path);
-        return 1;
-    }
-    return 0;
+    uint64_t length = seek_saved_length(l);
+    uint8_t *bytes = (uint8_t *)calloc(1, (size_t)length);
+    FILE *out = fopen(name, "wb");
+    if (!bytes || length < 88 || seek_save(l, bytes, (size_t)length) != length)
+        stop(name, "cannot be saved");
+    if (!out || fwrite(bytes, 1, (size_t)length, out) != length || fclose(out))
+        stop(name, "cannot be written");
+    free(bytes);
+}
+
+static void make(const Disc *d, unsigned n, const char *folder, const char *file)
+{
+    seek_table_sizes sizes;
+    seek_list l;
+    seek_recorder r;
+    seek_hint_recorder h;
+    char name[4096];
+    uint64_t list, recorder;
+    uint8_t *memory;
+    uint32_t no = seek_sizes(&d->area, INTERVAL, BUDGET, MOST, &sizes);
+    snprintf(name, sizeof name, "%s/%s", folder, file);
+    if (no)
+        stop(name, seek_text(no));
+    list = seek_total(&sizes);
+    recorder = seek_recorder_total(&sizes);
+    memory = (uint8_t *)calloc(1, (size_t)(list + recorder + SEEK_HINT_LIST));
+    if (!memory)
+        stop(name, "not enough memory");
+    seek_carve(&l, &sizes, memory, list);
+    seek_carve_recorder(&r, &sizes, memory + list, recorder);
+    seek_carve_hint_recorder(&h, memory + list + recorder, SEEK_HINT_LIST);
+    if ((no = seek_new(&l, &d->area, INTERVAL, BUDGET, SPACING, MOST)) != 0 || (no = record_all(d, n, &l, &r)) != 0 || (no = see_all(d, n, &l, &h)) != 0
+        || (no = seek_fingerprint(&l, d->fingerprint)) != 0)
+        stop(name, seek_text(no));
+    write_list(&l, name);
+    free(memory);
 }
 
 int main(int argc, char **argv)
 {
     if (argc != 2)
         return 2;
-    return make(&discs[0], boundaries(&discs[0]), argv[1], "school1/first.sbx") || make(&discs[0], 81, argv[1], "school1/second.sbx")
-           || make(&discs[1], 124, argv[1], "school2/first.sbx") || make(&discs[1], boundaries(&discs[1]), argv[1], "school2/second.sbx");
+    make(&discs[0], boundaries(&discs[0]), argv[1], "school1/first.sbx");
+    make(&discs[0], 81, argv[1], "school1/second.sbx");
+    make(&discs[1], 124, argv[1], "school2/first.sbx");
+    make(&discs[1], boundaries(&discs[1]), argv[1], "school2/second.sbx");
+    return 0;
 }
