@@ -20,35 +20,62 @@ loop-holds : tie.Need-loop-holds Inv-loop μ-loop
 loop-holds c = (reading-start _ _ _ _ _, search needs)
 
 returns : tie.Need-returns Inv-loop μ-loop
-returns c = reading-stop (c .before .before .before .before .before .before .loop .inv .0) (c .before .before .before .before .before .loop-test .taken) (frame-refused _ _ _ (c .before .before .before .before .before .before .before .before .before .args .b .now) (c .before .before .before .before .before .before .loop .here) (c .before .before .before .before .behind .ensures) (c .before .before .before .inspect-frame .ensures) (c .before .k .given .1))
+returns c =
+    let after-k : tie.After-k Inv-loop μ-loop = search in
+    let after-inspect-frame : tie.After-inspect-frame Inv-loop μ-loop = search in
+    let after-behind : tie.After-behind Inv-loop μ-loop = search in
+    let in-loop : tie.In-loop Inv-loop μ-loop = search in
+    let at-loop : tie.At-loop Inv-loop μ-loop = search in
+    let start : tie.Start Inv-loop μ-loop = search in
+    reading-stop (at-loop .loop .inv .0) (in-loop .loop-test .taken)
+    (frame-refused _ _ _ (start .args .b .now) (at-loop .loop .here) (after-behind .behind .ensures) (after-inspect-frame .inspect-frame .ensures)
+    (after-k .k .given .1))
 
 abbrev turn-call : tie.After-known-told2 Inv-loop μ-loop → tie.Start Inv-loop μ-loop
-turn-call c = c .before .before .before .before .before .before .before .before .before
+turn-call c = search
 
 abbrev turn-loop : tie.After-known-told2 Inv-loop μ-loop → tie.At-loop Inv-loop μ-loop
-turn-loop c = c .before .before .before .before .before .before
+turn-loop c = search
 
 -- the frame that this turn read
 turn : (c : tie.After-known-told2 Inv-loop μ-loop) → FrameRead (turn-call c .args .area) (turn-call c .args .h .budget) (filledTo (turn-loop c .loop .floor) (turn-loop c .loop .used)) (turn-call c .args .b .now) (turn-loop c .loop .here) (c .before .g .given .0 .0)
-turn c = frame-read _ _ _ _ _ (c .before .before .before .before .behind .ensures) (c .before .before .before .inspect-frame .ensures) (c .before .g .given .1)
+turn c =
+    let after-g : tie.After-g Inv-loop μ-loop = search in
+    let after-inspect-frame : tie.After-inspect-frame Inv-loop μ-loop = search in
+    let after-behind : tie.After-behind Inv-loop μ-loop = search in
+    frame-read _ _ _ _ _ (after-behind .behind .ensures) (after-inspect-frame .inspect-frame .ensures) (after-g .g .given .1)
 
 add-here : tie.Need-add-here Inv-loop μ-loop
 add-here c = let y = turn c in search needs
 
 add-here-2 : tie.Need-add-here-2 Inv-loop μ-loop
-add-here-2 c = let y = turn (c .before) in search needs
+add-here-2 c =
+    let after-known-told2 : tie.After-known-told2 Inv-loop μ-loop = search in
+    let y = turn after-known-told2 in search needs
 
 add-used : tie.Need-add-used Inv-loop μ-loop
-add-used c = let y = turn (c .before .before .before) in record { fits = omega (arith, (c .before .before .before .before .before .before .before .before .before .before .struct-known .given)) }
+add-used c =
+    let after-known-told2 : tie.After-known-told2 Inv-loop μ-loop = search in
+    let after-struct-known : tie.After-struct-known Inv-loop μ-loop = search in
+    let y = turn after-known-told2 in record { fits = omega (arith, (after-struct-known .struct-known .given)) }
 
 add-j : tie.Need-add-j Inv-loop μ-loop
-add-j c = record { fits = omega (arith, (c .before .before .before .before .before .before .before .before .loop-test .taken), (c .before .before .before .before .before .before .before .before .before .before .struct-known .given)) }
+add-j c =
+    let in-loop : tie.In-loop Inv-loop μ-loop = search in
+    let after-struct-known : tie.After-struct-known Inv-loop μ-loop = search in
+    record { fits = omega (arith, (in-loop .loop-test .taken), (after-struct-known .struct-known .given)) }
 
 loop-again : tie.Need-loop-again Inv-loop μ-loop
-loop-again c = let y = turn (c .before .before .before) in (reading-on (c .before .before .before .before .before .before .before .before .before .loop .inv .0) (c .before .before .before .before .before .before .before .before .loop-test .taken) (y .is) (y .inside) (y .next), y .fits)
+loop-again c =
+    let after-known-told2 : tie.After-known-told2 Inv-loop μ-loop = search in
+    let in-loop : tie.In-loop Inv-loop μ-loop = search in
+    let at-loop : tie.At-loop Inv-loop μ-loop = search in
+    let y = turn after-known-told2 in (reading-on (at-loop .loop .inv .0) (in-loop .loop-test .taken) (y .is) (y .inside) (y .next), y .fits)
 
 returns-2 : tie.Need-returns-2 Inv-loop μ-loop
-returns-2 c = reading-end (c .before .loop .inv .0) (c .loop-test .left)
+returns-2 c =
+    let at-loop : tie.At-loop Inv-loop μ-loop = search in
+    reading-end (at-loop .loop .inv .0) (c .loop-test .left)
 
 pub inspect-frames-spec : {M : Type 1} → statement M
 inspect-frames-spec =

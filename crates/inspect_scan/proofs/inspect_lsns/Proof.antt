@@ -8,15 +8,32 @@ use Rattle.inspect_scan.proofs.inspect_lsns.Tie as tie
 
 returns : tie.Need-returns
 unfolding rising
-returns c = taken-no 4 decodeLsn (risingOk ownLsn anyLsn (c .before .before .before .before .before .args .front)) (risen ownLsn) 35 refl _ _ _ _ (c .before .before .there .ensures .0) (c .before .before .there .ensures .1) (c .before .before .there .ensures .2) (c .before .check-lsns .ensures) (c .if1 .taken)
+returns c =
+    let after-check-lsns : tie.After-check-lsns = search in
+    let after-there : tie.After-there = search in
+    let start : tie.Start = search in
+    taken-no 4 decodeLsn (risingOk ownLsn anyLsn (start .args .front)) (risen ownLsn) 35 refl _ _ _ _ (after-there .there .ensures .0)
+    (after-there .there .ensures .1) (after-there .there .ensures .2) (after-check-lsns .check-lsns .ensures) (c .if1 .taken)
 
 returns-2 : tie.Need-returns-2
 unfolding rising
-returns-2 c = taken-short 4 decodeLsn (risingOk ownLsn anyLsn (c .before .before .before .before .before .before .args .front)) (risen ownLsn) 35 refl _ _ _ _ (c .before .before .before .there .ensures .0) (c .before .before .before .there .ensures .1) (c .before .before .before .there .ensures .2) (c .before .before .check-lsns .ensures) (c .before .if1 .left) (c .if2 .taken)
+returns-2 c =
+    let else1 : tie.Else1 = search in
+    let after-check-lsns : tie.After-check-lsns = search in
+    let after-there : tie.After-there = search in
+    let start : tie.Start = search in
+    taken-short 4 decodeLsn (risingOk ownLsn anyLsn (start .args .front)) (risen ownLsn) 35 refl _ _ _ _ (after-there .there .ensures .0)
+    (after-there .there .ensures .1) (after-there .there .ensures .2) (after-check-lsns .check-lsns .ensures) (else1 .if1 .left) (c .if2 .taken)
 
 returns-3 : tie.Need-returns-3
 unfolding rising
-returns-3 c = taken-all 4 decodeLsn (risingOk ownLsn anyLsn (c .before .before .before .before .before .before .args .front)) (risen ownLsn) 35 refl _ _ _ _ (c .before .before .before .there .ensures .0) (c .before .before .before .there .ensures .1) (c .before .before .before .there .ensures .2) (c .before .before .check-lsns .ensures) (c .before .if1 .left) (c .if2 .left)
+returns-3 c =
+    let else1 : tie.Else1 = search in
+    let after-check-lsns : tie.After-check-lsns = search in
+    let after-there : tie.After-there = search in
+    let start : tie.Start = search in
+    taken-all 4 decodeLsn (risingOk ownLsn anyLsn (start .args .front)) (risen ownLsn) 35 refl _ _ _ _ (after-there .there .ensures .0)
+    (after-there .there .ensures .1) (after-there .there .ensures .2) (after-check-lsns .check-lsns .ensures) (else1 .if1 .left) (c .if2 .left)
 
 pub inspect-lsns-spec : {M : Type 1} → statement M
 inspect-lsns-spec =

@@ -7,34 +7,69 @@ use Rattle.inspect_scan.proofs.place_part.Statement.{statement}
 use Rattle.inspect_scan.proofs.place_part.Tie as tie
 
 returns : tie.Need-returns
-returns c = part-far (c .before .before .before .before .before .before .pre .0) (c .before .before .before .before .before .before .pre .1) _ (c .before .near-ok .ensures) (c .if1 .taken)
+returns c =
+    let after-near-ok : tie.After-near-ok = search in
+    let start : tie.Start = search in
+    part-far (start .pre .0) (start .pre .1) _ (after-near-ok .near-ok .ensures) (c .if1 .taken)
+
+abbrev close-call : tie.Else1 → tie.Start
+close-call c = search
 
 -- p is of the frame of the part before it, or of the next
-close : (c : tie.Else1) → Near (c .before .before .before .before .before .before .args .h .frames) (c .before .before .before .before .before .before .args .last .part) (c .before .before .before .before .before .before .args .p)
-close c = near (c .before .before .before .before .before .before .pre .0) (c .before .before .before .before .before .before .pre .1) _ (c .before .near-ok .ensures) (c .if1 .left)
+close : (c : tie.Else1) → Near (close-call c .args .h .frames) (close-call c .args .last .part) (close-call c .args .p)
+close c =
+    let after-near-ok : tie.After-near-ok = search in
+    let start : tie.Start = search in
+    near (start .pre .0) (start .pre .1) _ (after-near-ok .near-ok .ensures) (c .if1 .left)
 
 place-by-requires : tie.Need-place-by-requires
-place-by-requires c κs = place-room (c .before .before .before .before .before .before .before .before .pre .0) (c .before .before .before .before .before .before .before .before .pre .1) _ (close (c .before .before))
+place-by-requires c κs =
+    let else1 : tie.Else1 = search in
+    let start : tie.Start = search in
+    place-room (start .pre .0) (start .pre .1) _ (close else1)
+
+abbrev begins-call : tie.After-place-by → tie.Start
+begins-call c = search
 
 -- where its frame begins
-begins-at : (c : tie.After-place-by) → (c .place-by .result) ≡ placeAt (c .before .before .before .before .before .before .before .before .before .args .frames .now) 0 (c .before .before .before .before .before .before .before .before .before .args .p .frame)
-begins-at c = let call = c .before .before .before .before .before .before .before .before .before in place-moved (call .pre .0) (call .pre .1) _ (close (c .before .before .before)) (c .place-by .ensures)
+begins-at : (c : tie.After-place-by) → (c .place-by .result) ≡ placeAt (begins-call c .args .frames .now) 0 (begins-call c .args .p .frame)
+begins-at c =
+    let else1 : tie.Else1 = search in
+    let start : tie.Start = search in
+    place-moved (start .pre .0) (start .pre .1) _ (close else1) (c .place-by .ensures)
 
 header-at-requires : tie.Need-header-at-requires
-header-at-requires c κs = let call = c .before .before .before .before .before .before .before .before .before in header-room (call .pre .0) (call .pre .1) _ (close (c .before .before .before)) (begins-at c)
+header-at-requires c κs =
+    let else1 : tie.Else1 = search in
+    let start : tie.Start = search in
+    header-room (start .pre .0) (start .pre .1) _ (close else1) (begins-at c)
 
 abbrev rule-call : tie.After-here-ok → tie.Start
-rule-call c = c .before .before .before .before .before .before .before .before .before .before .before .before
+rule-call c = search
 
 -- its rule is what here_ok answers
-rule : (c : tie.After-here-ok) → partRule (rule-call c .args .area) (rule-call c .args .h) (rule-call c .args .checkpoints .now) (rule-call c .args .frames .now) (rule-call c .args .begins) (rule-call c .args .last) (rule-call c .args .p) ≡ (c .here-ok .result)
-rule c = let call = c .before .before .before .before .before .before .before .before .before .before .before .before in part-here (call .pre .0) (call .pre .1) _ (close (c .before .before .before .before .before .before)) (begins-at (c .before .before .before)) (c .before .before .header-at .ensures) (c .before .before .before .before .before .before .before .near-ok .ensures) (c .before .before .before .before .before .before .if1 .left) (c .here-ok .ensures)
+rule : (c : tie.After-here-ok) →
+    partRule (rule-call c .args .area) (rule-call c .args .h) (rule-call c .args .checkpoints .now) (rule-call c .args .frames .now)
+    (rule-call c .args .begins) (rule-call c .args .last) (rule-call c .args .p) ≡ (c .here-ok .result)
+rule c =
+    let after-header-at : tie.After-header-at = search in
+    let after-place-by : tie.After-place-by = search in
+    let else1 : tie.Else1 = search in
+    let after-near-ok : tie.After-near-ok = search in
+    let start : tie.Start = search in
+    part-here (start .pre .0) (start .pre .1) _ (close else1) (begins-at after-place-by) (after-header-at .header-at .ensures)
+    (after-near-ok .near-ok .ensures) (else1 .if1 .left) (c .here-ok .ensures)
 
 returns-2 : tie.Need-returns-2
-returns-2 c = placed-no _ _ (rule (c .before)) (c .if2 .taken)
+returns-2 c =
+    let after-here-ok : tie.After-here-ok = search in
+    placed-no _ _ (rule after-here-ok) (c .if2 .taken)
 
 returns-3 : tie.Need-returns-3
-returns-3 c = placed-yes _ _ (rule (c .before)) (c .if2 .left) (begins-at (c .before .before .before .before))
+returns-3 c =
+    let after-here-ok : tie.After-here-ok = search in
+    let after-place-by : tie.After-place-by = search in
+    placed-yes _ _ (rule after-here-ok) (c .if2 .left) (begins-at after-place-by)
 
 pub place-part-spec : {M : Type 1} → statement M
 place-part-spec =
