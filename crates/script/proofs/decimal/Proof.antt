@@ -18,13 +18,26 @@ abbrev μ-loop : tie.MeasureT-loop
 μ-loop s x₀ i₀ x i = length s - i
 
 returns : tie.Need-returns Inv-loop μ-loop
-returns c = number-none (c .before .before .args .s .now) (c .if1 .taken)
+returns c =
+    let start : tie.Start Inv-loop μ-loop = search in
+    number-none (start .args .s .now) (c .if1 .taken)
 
 loop-again : tie.Need-loop-again Inv-loop μ-loop
-loop-again c = (search needs, search needs, ap (λ (x : Number). fold follow x (drop (c .before .before .before .loop .i + 1) (c .before .before .before .before .before .before .args .s .now))) (c .then .ensures) ∙ sym (fold-turn follow (c .before .before .before .loop .x) (c .before .before .before .loop .i) (c .before .before .before .before .before .before .args .s .now) (omega arith)) ∙ c .before .before .before .loop .inv .2)
+loop-again c =
+    let at-loop : tie.At-loop Inv-loop μ-loop = search in
+    let start : tie.Start Inv-loop μ-loop = search in (
+      search needs,
+      search needs,
+      ap (λ (x : Number). fold follow x (drop (at-loop .loop .i + 1) (start .args .s .now))) (c .then .ensures)
+          ∙ sym (fold-turn follow (at-loop .loop .x) (at-loop .loop .i) (start .args .s .now) (omega arith)) ∙ at-loop .loop .inv .2,
+    )
 
 returns-2 : tie.Need-returns-2 Inv-loop μ-loop
-returns-2 c = sym (fold-done follow (c .before .loop .x) (c .before .loop .i) (c .before .before .before .before .args .s .now) (omega arith)) ∙ c .before .loop .inv .2 ∙ number-some (c .before .before .before .before .args .s .now) (c .before .loop .inv .1)
+returns-2 c =
+    let at-loop : tie.At-loop Inv-loop μ-loop = search in
+    let start : tie.Start Inv-loop μ-loop = search in
+    sym (fold-done follow (at-loop .loop .x) (at-loop .loop .i) (start .args .s .now) (omega arith)) ∙ at-loop .loop .inv .2
+    ∙ number-some (start .args .s .now) (at-loop .loop .inv .1)
 
 pub decimal-spec : {M : Type 1} → statement M
 decimal-spec =

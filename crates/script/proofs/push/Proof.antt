@@ -8,23 +8,52 @@ use Rattle.script.proofs.push.Tie as tie
 
 returns : tie.Need-returns
 unfolding pushed
-returns c = simp (lt-leb 48 (c .before .args .b) (c .if1 .taken))
+returns c =
+    let start : tie.Start = search in
+    simp (lt-leb 48 (start .args .b) (c .if1 .taken))
 
 returns-2 : tie.Need-returns-2
 unfolding pushed
-returns-2 c = simp (le-leb 48 (c .before .before .args .b) (c .before .if1 .left), lt-leb (c .before .before .args .b) 57 (c .if2 .taken))
+returns-2 c =
+    let else1 : tie.Else1 = search in
+    let start : tie.Start = search in
+    simp (le-leb 48 (start .args .b) (else1 .if1 .left), lt-leb (start .args .b) 57 (c .if2 .taken))
 
 returns-3 : tie.Need-returns-3
 unfolding pushed
-returns-3 c = simp (le-leb 48 (c .before .before .before .args .b) (c .before .before .if1 .left), le-leb (c .before .before .before .args .b) 57 (c .before .if2 .left), lt-leb (c .before .before .before .args .acc * 10 + (c .before .before .before .args .b - 48)) 18446744073709551615 (omega arith))
+returns-3 c =
+    let else2 : tie.Else2 = search in
+    let else1 : tie.Else1 = search in
+    let start : tie.Start = search in
+    simp (
+      le-leb 48 (start .args .b) (else1 .if1 .left),
+      le-leb (start .args .b) 57 (else2 .if2 .left),
+      lt-leb (start .args .acc * 10 + (start .args .b - 48)) 18446744073709551615 (omega arith),
+    )
 
 returns-4 : tie.Need-returns-4
 unfolding pushed
-returns-4 c = simp (le-leb 48 (c .before .before .before .before .args .b) (c .before .before .before .if1 .left), le-leb (c .before .before .before .before .args .b) 57 (c .before .before .if2 .left), lt-leb (c .before .before .before .before .args .acc * 10 + (c .before .before .before .before .args .b - 48)) 18446744073709551615 (omega arith))
+returns-4 c =
+    let else2 : tie.Else2 = search in
+    let else1 : tie.Else1 = search in
+    let start : tie.Start = search in
+    simp (
+      le-leb 48 (start .args .b) (else1 .if1 .left),
+      le-leb (start .args .b) 57 (else2 .if2 .left),
+      lt-leb (start .args .acc * 10 + (start .args .b - 48)) 18446744073709551615 (omega arith),
+    )
 
 returns-5 : tie.Need-returns-5
 unfolding pushed
-returns-5 c = simp (le-leb 48 (c .before .before .before .before .args .b) (c .before .before .before .if1 .left), le-leb (c .before .before .before .before .args .b) 57 (c .before .before .if2 .left), le-leb (c .before .before .before .before .args .acc * 10 + (c .before .before .before .before .args .b - 48)) 18446744073709551615 (omega arith))
+returns-5 c =
+    let else2 : tie.Else2 = search in
+    let else1 : tie.Else1 = search in
+    let start : tie.Start = search in
+    simp (
+      le-leb 48 (start .args .b) (else1 .if1 .left),
+      le-leb (start .args .b) 57 (else2 .if2 .left),
+      le-leb (start .args .acc * 10 + (start .args .b - 48)) 18446744073709551615 (omega arith),
+    )
 
 pub push-spec : {M : Type 1} → statement M
 push-spec =

@@ -35,11 +35,26 @@ unfolding Decoded
 returns-4 c = tt
 
 loop-again : tie.Need-loop-again Inv-loop μ-loop
-loop-again c = (search needs, search needs, simp length-set (omega arith), simp length-set (omega arith), hex-more (c .before .before .before .before .before .before .before .loop .k) (c .before .before .before .before .before .before .before .before .before .before .before .before .args .s .now) (c .before .before .before .before .before .before .before .loop .out) _ _ (omega arith) (c .before .before .before .before .before .before .before .loop .inv .4) (c .before .before .before .before .nibble .ensures) (c .before .before .nibble2 .ensures))
+loop-again c =
+    let after-nibble2 : tie.After-nibble2 Inv-loop μ-loop = search in
+    let after-nibble : tie.After-nibble Inv-loop μ-loop = search in
+    let at-loop : tie.At-loop Inv-loop μ-loop = search in
+    let start : tie.Start Inv-loop μ-loop = search in (
+      search needs,
+      search needs,
+      simp length-set (omega arith),
+      simp length-set (omega arith),
+      hex-more (at-loop .loop .k) (start .args .s .now) (at-loop .loop .out) _ _ (omega arith) (at-loop .loop .inv .4) (after-nibble .nibble .ensures)
+          (after-nibble2 .nibble2 .ensures),
+    )
 
 returns-5 : tie.Need-returns-5 Inv-loop μ-loop
 unfolding Decoded
-returns-5 c = let e : c .before .loop .k ≡ length (c .before .before .before .before .before .before .args .s .now) / 2 = omega arith in (search needs, rw (← e) (c .before .loop .inv .4), search needs, search needs)
+returns-5 c =
+    let at-loop : tie.At-loop Inv-loop μ-loop = search in
+    let start : tie.Start Inv-loop μ-loop = search in
+    let e : at-loop .loop .k ≡ length (start .args .s .now) / 2 = omega arith in
+    (search needs, rw (← e) (at-loop .loop .inv .4), search needs, search needs)
 
 pub unhex-spec : {M : Type 1} → statement M
 unhex-spec =
