@@ -8,10 +8,20 @@ use Rattle.absorb_tests.proofs.joined_last.Statement.{statement}
 use Rattle.absorb_tests.proofs.joined_last.Tie as tie
 
 returns : tie.Need-returns
-returns c = c .last-checkpoint .ensures ∙ last-own (checkpointsIn (c .before .before .before .before .args .n) (c .before .before .before .before .args .t .now)) (checkpointsIn (c .before .before .before .before .args .m) (c .before .before .before .before .args .other .now)) (c .before .before .before .before .args .i) (c .before .before .before .before .args .m) (records-length 24 decodeCheckpoint _ _) (c .before .if1 .taken)
+returns c =
+    let then1 : tie.Then1 = search in
+    let start : tie.Start = search in
+    c .last-checkpoint .ensures
+    ∙ last-own (checkpointsIn (start .args .n) (start .args .t .now)) (checkpointsIn (start .args .m) (start .args .other .now)) (start .args .i)
+    (start .args .m) (records-length 24 decodeCheckpoint _ _) (then1 .if1 .taken)
 
 returns-2 : tie.Need-returns-2
-returns-2 c = c .last-checkpoint2 .ensures ∙ last-other (checkpointsIn (c .before .before .before .before .args .n) (c .before .before .before .before .args .t .now)) (checkpointsIn (c .before .before .before .before .args .m) (c .before .before .before .before .args .other .now)) (c .before .before .before .before .args .i) (c .before .before .before .before .args .m) (records-length 24 decodeCheckpoint _ _) (c .before .if1 .left)
+returns-2 c =
+    let else1 : tie.Else1 = search in
+    let start : tie.Start = search in
+    c .last-checkpoint2 .ensures
+    ∙ last-other (checkpointsIn (start .args .n) (start .args .t .now)) (checkpointsIn (start .args .m) (start .args .other .now)) (start .args .i)
+    (start .args .m) (records-length 24 decodeCheckpoint _ _) (else1 .if1 .left)
 
 pub joined-last-spec : {M : Type 1} → statement M
 joined-last-spec =
