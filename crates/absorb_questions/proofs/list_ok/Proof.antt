@@ -9,10 +9,29 @@ use Rattle.absorb_questions.proofs.list_ok.Statement.{statement}
 use Rattle.absorb_questions.proofs.list_ok.Tie as tie
 
 starts-in-requires : tie.Need-starts-in-requires
-starts-in-requires c κs = (c .before .before .before .before .before .before .before .pre .0, omega (arith, c .before .before .count-below .ensures, below-few (c .before .before .before .before .before .before .before .args .front) (lsnsIn (c .before .before .before .before .before .before .before .args .k) (c .before .before .before .before .before .before .before .args .given .now)), records-length 4 decodeLsn (c .before .before .before .before .before .before .before .args .k) (c .before .before .before .before .before .before .before .args .given .now)))
+starts-in-requires c κs =
+    let after-count-below : tie.After-count-below = search in
+    let start : tie.Start = search in (
+      start .pre .0,
+      omega (
+        arith,
+        after-count-below .count-below .ensures,
+        below-few (start .args .front) (lsnsIn (start .args .k) (start .args .given .now)),
+        records-length 4 decodeLsn (start .args .k) (start .args .given .now),
+      ),
+    )
 
 returns : tie.Need-returns
-returns c = list-is _ _ _ _ _ (records-length 4 decodeLsn _ _) (c .before .before .before .before .before .before .before .before .check-lsns .ensures) (c .before .before .before .before .before .before .before .opens-with .ensures) (c .before .before .before .before .before .before .count-below .ensures) (c .before .before .before .before .before .min-u64 .ensures) (c .before .before .before .before .min-u642 .ensures) (c .before .before .before .starts-in .ensures) cc
+returns c =
+    let after-starts-in : tie.After-starts-in = search in
+    let after-min-u642 : tie.After-min-u642 = search in
+    let after-min-u64 : tie.After-min-u64 = search in
+    let after-count-below : tie.After-count-below = search in
+    let after-opens-with : tie.After-opens-with = search in
+    let after-check-lsns : tie.After-check-lsns = search in
+    list-is _ _ _ _ _ (records-length 4 decodeLsn _ _) (after-check-lsns .check-lsns .ensures) (after-opens-with .opens-with .ensures)
+    (after-count-below .count-below .ensures) (after-min-u64 .min-u64 .ensures) (after-min-u642 .min-u642 .ensures)
+    (after-starts-in .starts-in .ensures) cc
 
 pub list-ok-spec : {M : Type 1} → statement M
 list-ok-spec =

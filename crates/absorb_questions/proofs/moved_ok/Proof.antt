@@ -8,19 +8,34 @@ cast-h : tie.Need-cast-h
 cast-h c = search (needs, c .struct-known3 .given)
 
 joined-last-requires : tie.Need-joined-last-requires
-joined-last-requires c κs = (c .before .before .before .before .before .before .before .before .pre .checkpoints, c .before .before .before .before .before .before .before .before .pre .theirs)
+joined-last-requires c κs =
+    let start : tie.Start = search in
+    (start .pre .checkpoints, start .pre .theirs)
 
 continues-requires : tie.Need-continues-requires
-continues-requires c κs = (c .before .before .before .before .before .before .before .before .before .pre .checkpoints, c .before .before .before .before .before .before .before .before .before .pre .theirs)
+continues-requires c κs =
+    let start : tie.Start = search in
+    (start .pre .checkpoints, start .pre .theirs)
 
 ending-ok-requires : tie.Need-ending-ok-requires
-ending-ok-requires c κs = started _ (c .before .before .before .before .before .before .before .before .before .before .pre .area) .0
+ending-ok-requires c κs =
+    let start : tie.Start = search in
+    started _ (start .pre .area) .0
 
 list-ok-requires : tie.Need-list-ok-requires
-list-ok-requires c κs = (omega arith, c .before .before .before .before .before .before .before .before .before .before .before .before .pre .malformed)
+list-ok-requires c κs =
+    let start : tie.Start = search in
+    (omega arith, start .pre .malformed)
 
 returns : tie.Need-returns
-returns c = moved-is _ _ _ _ _ _ _ _ _ (c .before .before .before .before .before .before .joined-last .ensures) (c .before .before .before .counted .ensures) (c .before .before .before .before .ending-ok .ensures) (c .before .before .before .before .before .continues .ensures) (c .before .before .list-ok .ensures) cc
+returns c =
+    let after-list-ok : tie.After-list-ok = search in
+    let after-counted : tie.After-counted = search in
+    let after-ending-ok : tie.After-ending-ok = search in
+    let after-continues : tie.After-continues = search in
+    let after-joined-last : tie.After-joined-last = search in
+    moved-is _ _ _ _ _ _ _ _ _ (after-joined-last .joined-last .ensures) (after-counted .counted .ensures) (after-ending-ok .ending-ok .ensures)
+    (after-continues .continues .ensures) (after-list-ok .list-ok .ensures) cc
 
 pub moved-ok-spec : {M : Type 1} → statement M
 moved-ok-spec =

@@ -5,19 +5,40 @@ use Rattle.absorb_questions.proofs.question12.Statement.{statement}
 use Rattle.absorb_questions.proofs.question12.Tie as tie
 
 frontier-of-requires : tie.Need-frontier-of-requires
-frontier-of-requires c κs = started _ (c .before .before .before .before .before .before .before .before .before .before .pre .area) .1
+frontier-of-requires c κs =
+    let start : tie.Start = search in
+    started _ (start .pre .area) .1
 
 frontier-of-requires-2 : tie.Need-frontier-of-requires-2
-frontier-of-requires-2 c κs = started _ (c .before .before .before .before .before .before .before .before .before .before .before .pre .area) .1
+frontier-of-requires-2 c κs =
+    let start : tie.Start = search in
+    started _ (start .pre .area) .1
 
 returns : tie.Need-returns
-returns c = stays _ _ _ _ _ _ refl (end-is _ (c .before .before .before .before .before .end-of .ensures) (c .before .before .before .before .or-else .ensures)) (c .before .before .before .joined-count .ensures) (c .before .before .frontier-of .ensures) (c .before .frontier-of2 .ensures) (c .if1 .taken)
+returns c =
+    let after-frontier-of2 : tie.After-frontier-of2 = search in
+    let after-frontier-of : tie.After-frontier-of = search in
+    let after-joined-count : tie.After-joined-count = search in
+    let after-or-else : tie.After-or-else = search in
+    let after-end-of : tie.After-end-of = search in
+    stays _ _ _ _ _ _ refl (end-is _ (after-end-of .end-of .ensures) (after-or-else .or-else .ensures)) (after-joined-count .joined-count .ensures)
+    (after-frontier-of .frontier-of .ensures) (after-frontier-of2 .frontier-of2 .ensures) (c .if1 .taken)
 
 moved-ok-requires : tie.Need-moved-ok-requires
-moved-ok-requires c κs = c .before .before .before .before .before .before .before .before .before .before .before .before .before .pre
+moved-ok-requires c κs =
+    let start : tie.Start = search in
+    start .pre
 
 returns-2 : tie.Need-returns-2
-returns-2 c = moves-on _ _ _ _ _ _ refl (end-is _ (c .before .before .before .before .before .before .end-of .ensures) (c .before .before .before .before .before .or-else .ensures)) (c .before .before .before .before .joined-count .ensures) (c .before .before .before .frontier-of .ensures) (c .before .before .frontier-of2 .ensures) (c .before .if1 .left) (c .moved-ok .ensures)
+returns-2 c =
+    let else1 : tie.Else1 = search in
+    let after-frontier-of2 : tie.After-frontier-of2 = search in
+    let after-frontier-of : tie.After-frontier-of = search in
+    let after-joined-count : tie.After-joined-count = search in
+    let after-or-else : tie.After-or-else = search in
+    let after-end-of : tie.After-end-of = search in
+    moves-on _ _ _ _ _ _ refl (end-is _ (after-end-of .end-of .ensures) (after-or-else .or-else .ensures)) (after-joined-count .joined-count .ensures)
+    (after-frontier-of .frontier-of .ensures) (after-frontier-of2 .frontier-of2 .ensures) (else1 .if1 .left) (c .moved-ok .ensures)
 
 pub question12-spec : {M : Type 1} → statement M
 question12-spec =

@@ -10,10 +10,17 @@ use Rattle.absorb_questions.proofs.starts_in.Statement.{statement}
 use Rattle.absorb_questions.proofs.starts_in.Tie as tie
 
 returns : tie.Need-returns
-returns c = none-taken (c .before .before .args .c) (c .before .before .args .start) (lsnsIn (c .before .before .args .k) (c .before .before .args .given .now)) (c .if1 .taken)
+returns c =
+    let start : tie.Start = search in
+    none-taken (start .args .c) (start .args .start) (lsnsIn (start .args .k) (start .args .given .now)) (c .if1 .taken)
 
 returns-2 : tie.Need-returns-2
-returns-2 c = let l : 0 < c .before .before .before .args .k = omega (arith, c .before .before .before .pre .1, c .before .if1 .left) in some-taken (c .before .before .before .args .c) (c .before .before .before .args .start) (lsnsIn (c .before .before .before .args .k) (c .before .before .before .args .given .now)) (c .before .if1 .left) (c .read-lsn .ensures ∙ sym (records-at 4 decodeLsn (c .before .before .before .args .k) (c .before .before .before .args .given .now) 0 (c .before .before .before .args .start) l)) refl
+returns-2 c =
+    let else1 : tie.Else1 = search in
+    let start : tie.Start = search in
+    let l : 0 < start .args .k = omega (arith, start .pre .1, else1 .if1 .left) in
+    some-taken (start .args .c) (start .args .start) (lsnsIn (start .args .k) (start .args .given .now)) (else1 .if1 .left)
+    (c .read-lsn .ensures ∙ sym (records-at 4 decodeLsn (start .args .k) (start .args .given .now) 0 (start .args .start) l)) refl
 
 pub starts-in-spec : {M : Type 1} → statement M
 starts-in-spec =
