@@ -7,7 +7,13 @@ returns : tie.Need-returns
 returns c = whole-short _ _ (c .if1 .taken)
 
 returns-2 : tie.Need-returns-2
-returns-2 c = whole _ (c .before .before .before .before .before .args .bytes .now) (c .before .before .before .if1 .left) (c .before .before .cut .ensures) (sum-is (c .before .before .before .before .before .args .bytes .now) (c .before .before .before .if1 .left) (c .before .read-u64 .ensures)) (c .inspect-body .ensures)
+returns-2 c =
+    let after-read-u64 : tie.After-read-u64 = search in
+    let after-cut : tie.After-cut = search in
+    let else1 : tie.Else1 = search in
+    let start : tie.Start = search in
+    whole _ (start .args .bytes .now) (else1 .if1 .left) (after-cut .cut .ensures)
+    (sum-is (start .args .bytes .now) (else1 .if1 .left) (after-read-u64 .read-u64 .ensures)) (c .inspect-body .ensures)
 
 pub inspect-spec : {M : Type 1} → statement M
 inspect-spec =

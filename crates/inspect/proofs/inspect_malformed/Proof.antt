@@ -7,24 +7,45 @@ use Rattle.inspect.proofs.inspect_malformed.Statement.{statement}
 use Rattle.inspect.proofs.inspect_malformed.Tie as tie
 
 abbrev taken-call : tie.After-known-told2 → tie.Start
-taken-call c = c .before .before .before .before .before .before
+taken-call c = search
 
 taken : (c : tie.After-known-told2) → TookLsns (taken-call c .args .area) (taken-call c .args .h) (taken-call c .args .front) (drop (taken-call c .args .c .at) (taken-call c .args .body .now)) (c .before .n .given .0 .0)
-taken c = let call = c .before .before .before .before .before .before in lsns-taken (call .args .area) (call .args .h) _ _ (rw (tail-is (call .args .body .now) (call .args .c .at)) at (c .before .before .before .inspect-lsns .ensures)) (c .before .n .given .1)
+taken c =
+    let after-n : tie.After-n = search in
+    let after-inspect-lsns : tie.After-inspect-lsns = search in
+    let start : tie.Start = search in
+    lsns-taken (start .args .area) (start .args .h) _ _
+    (rw (tail-is (start .args .body .now) (start .args .c .at)) at (after-inspect-lsns .inspect-lsns .ensures)) (after-n .n .given .1)
 
 past-requires : tie.Need-past-requires
-past-requires c κs = let l = past-inside (c .before .before .before .before .before .before .args .body .now) (c .before .before .before .before .before .before .args .c .at) _ (c .before .before .before .before .before .before .pre) (taken c .inside) in search needs
+past-requires c κs =
+    let start : tie.Start = search in
+    let l = past-inside (start .args .body .now) (start .args .c .at) _ (start .pre) (taken c .inside) in search needs
 
 inspect-hints-requires : tie.Need-inspect-hints-requires
-inspect-hints-requires c κs = let call = c .before .before .before .before .before .before .before in rw (c .past .ensures) (past-inside (call .args .body .now) (call .args .c .at) _ (call .pre) (taken (c .before) .inside))
+inspect-hints-requires c κs =
+    let after-known-told2 : tie.After-known-told2 = search in
+    let start : tie.Start = search in
+    rw (c .past .ensures) (past-inside (start .args .body .now) (start .args .c .at) _ (start .pre) (taken after-known-told2 .inside))
 
 returns : tie.Need-returns
 unfolding fromMalformed
-returns c = stops _ (taken-refused _ (rw (tail-is (c .before .before .before .before .before .before .args .body .now) (c .before .before .before .before .before .before .args .c .at)) at (c .before .before .before .inspect-lsns .ensures)) (c .before .k .given .1))
+returns c =
+    let after-k : tie.After-k = search in
+    let after-inspect-lsns : tie.After-inspect-lsns = search in
+    let start : tie.Start = search in
+    stops _
+    (taken-refused _ (rw (tail-is (start .args .body .now) (start .args .c .at)) at (after-inspect-lsns .inspect-lsns .ensures))
+    (after-k .k .given .1))
 
 returns-2 : tie.Need-returns-2
 unfolding fromMalformed
-returns-2 c = goes-behind _ (c .before .before .before .before .before .before .before .before .args .body .now) (c .before .before .before .before .before .before .before .before .args .c .at) _ (taken (c .before .before) .is) (c .before .past .ensures) (c .inspect-hints .ensures)
+returns-2 c =
+    let after-past : tie.After-past = search in
+    let after-known-told2 : tie.After-known-told2 = search in
+    let start : tie.Start = search in
+    goes-behind _ (start .args .body .now) (start .args .c .at) _ (taken after-known-told2 .is) (after-past .past .ensures)
+    (c .inspect-hints .ensures)
 
 pub inspect-malformed-spec : {M : Type 1} → statement M
 inspect-malformed-spec =
