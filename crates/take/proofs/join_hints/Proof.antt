@@ -5,10 +5,15 @@ use Rattle.take.proofs.join_hints.Statement.{statement}
 use Rattle.take.proofs.join_hints.Tie as tie
 
 merge-hints-requires : tie.Need-merge-hints-requires
-merge-hints-requires c κs = hints-room (c .before .before .before .before .pre) refl
+merge-hints-requires c κs =
+    let start : tie.Start = search in
+    hints-room (start .pre) refl
 
 returns : tie.Need-returns
-returns c = hints-done _ _ _ (c .before .before .before .before .before .before .before .pre) refl (c .before .before .merge-hints .ensures .0) (c .before .before .merge-hints .ensures .1)
+returns c =
+    let after-merge-hints : tie.After-merge-hints = search in
+    let start : tie.Start = search in
+    hints-done _ _ _ (start .pre) refl (after-merge-hints .merge-hints .ensures .0) (after-merge-hints .merge-hints .ensures .1)
 
 pub join-hints-spec : {M : Type 1} → statement M
 join-hints-spec =

@@ -5,10 +5,21 @@ use Rattle.take.proofs.take_malformed.Statement.{statement}
 use Rattle.take.proofs.take_malformed.Tie as tie
 
 copy-first-requires : tie.Need-copy-first-requires
-copy-first-requires c κs = malformed-room (c .before .before .before .before .args .go) (c .before .before .before .before .pre) (c .before .taken .ensures)
+copy-first-requires c κs =
+    let after-taken : tie.After-taken = search in
+    let start : tie.Start = search in
+    malformed-room (start .args .go) (start .pre) (after-taken .taken .ensures)
 
 returns : tie.Need-returns
-returns c = malformed-taken (c .before .before .before .before .before .before .before .before .args .go) _ _ (c .before .before .before .before .before .before .before .before .pre) (λ i. (c .before .before .before .before .before .before .before .slice-known .given) i .fits) (λ i. (c .before .before .before .before .before .before .shared-slice-known .given) i .fits) (c .before .before .before .before .before .taken .ensures) (c .chosen .ensures) (c .before .before .before .copy-first .ensures)
+returns c =
+    let after-copy-first : tie.After-copy-first = search in
+    let after-taken : tie.After-taken = search in
+    let after-shared-slice-known : tie.After-shared-slice-known = search in
+    let after-slice-known : tie.After-slice-known = search in
+    let start : tie.Start = search in
+    malformed-taken (start .args .go) _ _ (start .pre) (λ i. (after-slice-known .slice-known .given) i .fits)
+    (λ i. (after-shared-slice-known .shared-slice-known .given) i .fits) (after-taken .taken .ensures) (c .chosen .ensures)
+    (after-copy-first .copy-first .ensures)
 
 pub take-malformed-spec : {M : Type 1} → statement M
 take-malformed-spec =
