@@ -4,13 +4,25 @@ use Rattle.hinting.proofs.flush.Statement.{statement}
 use Rattle.hinting.proofs.flush.Tie as tie
 
 returns : tie.Need-returns
-returns c = let a = c .before .before .before .before .args in flush-no (a .r) (a .list .now) (c .before .refuses .ensures) (c .if1 .taken)
+returns c =
+    let after-refuses : tie.After-refuses = search in
+    let start : tie.Start = search in
+    let a = start .args in flush-no (a .r) (a .list .now) (after-refuses .refuses .ensures) (c .if1 .taken)
 
 flushed-requires : tie.Need-flushed-requires
-flushed-requires c κs = let a = c .before .before .before .before .before .args in roomy-is (a .r) (a .list .now) (c .before .before .refuses .ensures) (c .before .if1 .left)
+flushed-requires c κs =
+    let else1 : tie.Else1 = search in
+    let after-refuses : tie.After-refuses = search in
+    let start : tie.Start = search in
+    let a = start .args in roomy-is (a .r) (a .list .now) (after-refuses .refuses .ensures) (else1 .if1 .left)
 
 returns-2 : tie.Need-returns-2
-returns-2 c = let a = c .before .before .before .before .before .before .before .before .args in flush-yes (a .r) (a .list .now) (c .before .before .before .before .before .refuses .ensures) (c .before .before .before .before .if1 .left) (c .before .before .flushed .ensures)
+returns-2 c =
+    let after-flushed : tie.After-flushed = search in
+    let else1 : tie.Else1 = search in
+    let after-refuses : tie.After-refuses = search in
+    let start : tie.Start = search in
+    let a = start .args in flush-yes (a .r) (a .list .now) (after-refuses .refuses .ensures) (else1 .if1 .left) (after-flushed .flushed .ensures)
 
 pub flush-spec : {M : Type 1} → statement M
 flush-spec =
