@@ -160,7 +160,7 @@ fn put_output(
 }
 
 // The command's name, the answer, and a newline.
-pub fn put_first_line(
+fn put_first_line(
     out: &mut [u8; 65536],
     p: Position,
     line: &[u8],
@@ -308,7 +308,7 @@ fn put_shown_hints(
 }
 
 // The lists and recorders that a line shows.
-pub fn put_shown(
+fn put_shown(
     out: &mut [u8; 65536],
     p: Position,
     asked: Line,
@@ -365,4 +365,50 @@ pub fn put_shown(
         recorder_parts,
     );
     put_shown_hints(out, q, s.hints, places, list)
+}
+
+// The answer of a line, and what it shows.
+pub fn put_line(
+    out: &mut [u8; 65536],
+    p: Position,
+    line: &[u8],
+    asked: Line,
+    answer: Answer,
+    places: Places,
+    data: &[u8],
+    list: &[u8],
+    checkpoints: &[Checkpoints; 4],
+    frames: &[Frames; 4],
+    store: &[Store; 4],
+    parts: &[Parts; 4],
+    malformed: &[Malformed; 4],
+    hints: &[Hints; 4],
+    confirmed: &[Confirmed; 4],
+    recorder_checkpoints: &[Checkpoints; 4],
+    recorder_frames: &[Frames; 4],
+    recorder_store: &[Store; 4],
+    recorder_parts: &[Parts; 4],
+) -> Position {
+    if 3 < asked.place {
+        return p;
+    }
+    let q = put_first_line(out, p, line, asked, answer, data, store, list);
+    put_shown(
+        out,
+        q,
+        asked,
+        places,
+        list,
+        checkpoints,
+        frames,
+        store,
+        parts,
+        malformed,
+        hints,
+        confirmed,
+        recorder_checkpoints,
+        recorder_frames,
+        recorder_store,
+        recorder_parts,
+    )
 }
