@@ -1,6 +1,7 @@
 // The call of a line, over the tables of all places.
 use command::Command;
 use command::Line;
+use perform_absorb::absorb_lists;
 use perform_ask::ask_list;
 use perform_ask::start_recorder;
 use perform_hints::change_hints;
@@ -249,6 +250,27 @@ pub fn perform(
 {
     let command = asked.command;
     let k = asked.place;
+    let asking = command;
+    if let Command::Absorb(c) = asking {
+        return absorb_lists(
+            k,
+            c,
+            places,
+            data,
+            n,
+            checkpoints,
+            frames,
+            store,
+            parts,
+            malformed,
+            hints,
+            confirmed,
+            recorder_checkpoints,
+            recorder_frames,
+            recorder_store,
+            recorder_parts,
+        );
+    }
     match lent(command) {
         Lends::Nothing => begin(command, k, places),
         Lends::Recorders => change_recorder(
