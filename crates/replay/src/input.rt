@@ -1,6 +1,8 @@
 // Standard input, line by line: a chunk of it, and a line.
-use crate::words::least;
+use given::least;
 use script::Position;
+ghost use Prim.Native.Nat.{_≤_};
+ghost use lib.ListN.{length};
 
 // The chunk's next byte and its length; the line's length, whether it is whole, and whether the input is over.
 pub struct Reading {
@@ -44,11 +46,13 @@ fn begun(r: Reading) -> Position {
 }
 
 // The chunk's bytes up to a newline, behind what the line has; what does not fit is dropped.
-fn gather(chunk: &[u8], line: &mut [u8], r: Reading) -> Reading {
+fn gather(chunk: &[u8], line: &mut [u8], r: Reading) -> Reading
+    ensures { λ q. ⌜ (q .at ≤ q .n) × (q .n ≤ length (now (chunk .entry))) ⌝ }
+{
     let n = least(r.n, chunk.len());
     let over = r.over;
     let mut len = begun(r);
-    let mut i = r.at;
+    let mut i = least(r.at, n);
     while i < n {
         let b = chunk[i];
         i += 1;
@@ -72,8 +76,10 @@ fn gather(chunk: &[u8], line: &mut [u8], r: Reading) -> Reading {
     }
 }
 
-// One chunk's share of a line more.
-pub fn next(chunk: &mut [u8], line: &mut [u8], r: Reading) -> Reading {
+// One chunk's share of a line more. The next byte never lies past the chunk.
+pub fn next(chunk: &mut [u8], line: &mut [u8], r: Reading) -> Reading
+    ensures { λ q. ⌜ (q .at ≤ q .n) × (q .n ≤ length (now (chunk .exit))) ⌝ }
+{
     let q = fill(chunk, r);
     gather(chunk, line, q)
 }

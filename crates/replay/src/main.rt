@@ -1,12 +1,18 @@
-// Replays a script of calls from standard input, and prints the answers.
+// Replays a script of calls (tools/README.md) from standard input, and prints the answers.
 mod input;
 mod output;
-mod places;
 mod run;
-mod show;
-mod words;
 
-// ---- the buffers: a chunk of the input, a line, the answers and a file, and a table of each kind for all places
+use place::Checkpoints;
+use place::Confirmed;
+use place::Frames;
+use place::HintList;
+use place::Hints;
+use place::Malformed;
+use place::Parts;
+use place::Store;
+
+// ---- the buffers: a chunk of the input, a line, the answers and a line's bytes, and the tables of four lists, four recorders and the hint recorder
 fn chunk_room() -> [u8; 65536] {
     [0; 65536]
 }
@@ -15,47 +21,51 @@ fn line_room() -> [u8; 532480] {
     [0; 532480]
 }
 
-fn answers_room() -> [u8; 65536] {
+fn out_room() -> [u8; 65536] {
     [0; 65536]
 }
 
-fn file_room() -> [u8; 266240] {
+fn data_room() -> [u8; 266240] {
     [0; 266240]
 }
 
-fn checkpoints_room() -> [u8; 98304] {
-    [0; 98304]
+fn checkpoints_room() -> [Checkpoints; 4] {
+    [[0; 24576]; 4]
 }
 
-fn frames_room() -> [u8; 32768] {
-    [0; 32768]
+fn frames_room() -> [Frames; 4] {
+    [[0; 8192]; 4]
 }
 
-fn store_room() -> [u8; 524288] {
+fn store_room() -> [Store; 4] {
+    [[0; 131072]; 4]
+}
+
+fn parts_room() -> [Parts; 4] {
+    [[0; 24576]; 4]
+}
+
+fn malformed_room() -> [Malformed; 4] {
+    [[0; 16384]; 4]
+}
+
+fn hints_room() -> [Hints; 4] {
+    [[0; 655360]; 4]
+}
+
+fn confirmed_room() -> [Confirmed; 4] {
+    [[0; 262160]; 4]
+}
+
+fn list_room() -> HintList {
     [0; 524288]
-}
-
-fn parts_room() -> [u8; 98304] {
-    [0; 98304]
-}
-
-fn malformed_room() -> [u8; 65536] {
-    [0; 65536]
-}
-
-fn hints_room() -> [u8; 2719744] {
-    [0; 2719744]
-}
-
-fn confirmed_room() -> [u8; 1245248] {
-    [0; 1245248]
 }
 
 fn main() {
     let mut chunk = chunk_room();
     let mut line = line_room();
-    let mut answers = answers_room();
-    let mut file = file_room();
+    let mut out = out_room();
+    let mut data = data_room();
     let mut checkpoints = checkpoints_room();
     let mut frames = frames_room();
     let mut store = store_room();
@@ -63,11 +73,16 @@ fn main() {
     let mut malformed = malformed_room();
     let mut hints = hints_room();
     let mut confirmed = confirmed_room();
+    let mut recorder_checkpoints = checkpoints_room();
+    let mut recorder_frames = frames_room();
+    let mut recorder_store = store_room();
+    let mut recorder_parts = parts_room();
+    let mut list = list_room();
     run::replay(
         &mut chunk,
         &mut line,
-        &mut answers,
-        &mut file,
+        &mut out,
+        &mut data,
         &mut checkpoints,
         &mut frames,
         &mut store,
@@ -75,5 +90,10 @@ fn main() {
         &mut malformed,
         &mut hints,
         &mut confirmed,
+        &mut recorder_checkpoints,
+        &mut recorder_frames,
+        &mut recorder_store,
+        &mut recorder_parts,
+        &mut list,
     );
 }

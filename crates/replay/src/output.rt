@@ -1,6 +1,5 @@
-// What answers are made of, and standard output.
+// Standard output.
 use script::Position;
-use script::put_word;
 
 fn write(out: &[u8], n: usize) {
     if n <= out.len() {
@@ -15,12 +14,4 @@ pub fn flush(out: &[u8], p: Position, most: usize) -> Position {
     }
     write(out, p.at);
     Position { at: 0 }
-}
-
-// The line's first word, once there is space for its answer.
-pub fn name(out: &mut [u8], p: Position, line: &[u8]) -> Position {
-    let w = script::word_at(line, 0);
-    let to = w.to;
-    let q = flush(out, p, 32768);
-    put_word(out, q, &line[0..to])
 }

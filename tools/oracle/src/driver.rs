@@ -133,7 +133,7 @@ fn report(stats: &Stats, a: &Arguments) -> Result<(), String> {
     }
     if a.kinds.contains(&generate::Kind::Calls) {
         for (command, list) in [
-            ("new", &[0, 2, 3][..]),
+            ("new", &[0, 1, 2, 3][..]),
             ("record", &[0, 5, 6, 7]),
             ("finish", &[0, 5, 6]),
             ("absorb", &[0, 8, 9, 10, 11, 12]),

@@ -5,6 +5,7 @@ use std::io::Write;
 use crate::damage;
 use crate::file::{AreaNumbers, File, LIM, List, Reading, Shape};
 use crate::rng::Rng;
+use crate::script::MOST;
 use crate::text::put_hex;
 
 /// What scripts are about.
@@ -183,7 +184,7 @@ fn loads(s: &mut Script<'_>, rng: &mut Rng, small: bool) {
     let mut reading = Reading::random(rng, first);
     reading.free_digests(rng);
     let p = if rng.chance(5, 6) { 0 } else { rng.range(1, 3) as usize };
-    let most = if p == 0 { 65_536 } else { 4096 };
+    let most = MOST as u64;
     say!(s, "area {p} {}", reading.area.words());
     if rng.chance(1, 150) {
         // Question 1: an area that ends past 4,294,967,295, or a slot that is neither.
@@ -489,11 +490,16 @@ fn calls(s: &mut Script<'_>, rng: &mut Rng, small: bool) {
         if p == 1 && rng.chance(1, 15) {
             own.channels ^= 1;
         }
+        if rng.chance(1, 20) {
+            // Question 1: an area that ends past 4,294,967,295.
+            say!(s, "area {p} {}", AreaNumbers::new(0, u32::MAX - 9, u32::MAX, 2, 1 << 33).words());
+            say!(s, "new {p} 1 0 8 0");
+        }
         say!(s, "area {p} {}", own.words());
         if rng.chance(1, 10) {
             let (i, g) =
                 *rng.pick(&[(0, 0), (65_537, 0), (65_536, 0), (1, 1u64 << 32), (100, 131_073), (100, 131_072)]);
-            say!(s, "new {p} {i} {g} 8 {}", *rng.pick(&[0u64, 2048, 65_537]));
+            say!(s, "new {p} {i} {g} 8 {}", *rng.pick(&[0u64, 2048, 16_384, 16_385, 65_537]));
         }
         let budget = *rng.pick(&[0, 10, 100, 5000, 131_072]);
         let most = *rng.pick(&[0, 1, 2, 4, 10, 40, 2048, 4096]);

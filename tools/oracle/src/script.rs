@@ -18,7 +18,7 @@ pub const BOUNDARIES: usize = 1024;
 /// Bytes in a place's store of frame bytes.
 pub const STORE: usize = 131_072;
 /// The largest M whose tables of hints (M + 65,536) and confirmations (M + 1) a place has.
-pub const MOST: [usize; PLACES] = [65_536, 4_096, 4_096, 4_096];
+pub const MOST: usize = 16_384;
 /// The longest output that `save` lends.
 pub const OUTPUT: usize = 262_144;
 /// The longest line, its newline included.
@@ -571,7 +571,7 @@ impl Oracle {
         Some(match AreaIndex::new(&a.area(), a.image, options) {
             Err(e) => Number(number(&e), Vec::new()),
             Ok(_) if budget > u64::from(u32::MAX) => Number(2, Vec::new()),
-            Ok(ix) if too_large(&ix, p) => Number(3, Vec::new()),
+            Ok(ix) if too_large(&ix) => Number(3, Vec::new()),
             Ok(ix) => {
                 self.places[p].list = Some(ix);
                 accepted()
@@ -605,7 +605,7 @@ impl Oracle {
                 if self.wrong != 0 && access::wrong_load(self.wrong, &mut ix, &sections(&bytes), &bytes) {
                     return Some(Number(32, Vec::new()));
                 }
-                if too_large(&ix, p) {
+                if too_large(&ix) {
                     return Some(Number(3, Vec::new()));
                 }
                 self.places[p].list = Some(ix);
@@ -686,10 +686,6 @@ impl Oracle {
 
     fn merge(&mut self, p: usize, q: usize) -> Answer {
         let (Some(own), Some(other)) = (&self.places[p].list, &self.places[q].list) else { return Nothing };
-        // The other list's tables are as long as those of place 1.
-        if too_large(other, 1) {
-            return Number(3, Vec::new());
-        }
         let mut new = own.clone();
         match new.merge(other) {
             Err(e) => Number(number(&e), Vec::new()),
@@ -776,7 +772,7 @@ impl Oracle {
 }
 
 /// Question 3, for a place's tables.
-fn too_large(ix: &AreaIndex, p: usize) -> bool {
+fn too_large(ix: &AreaIndex) -> bool {
     let (boundaries, budget, most) = access::sizes(ix);
-    boundaries > BOUNDARIES || budget > STORE || most > MOST[p]
+    boundaries > BOUNDARIES || budget > STORE || most > MOST
 }

@@ -1,28 +1,15 @@
-use Prim.Native.Nat.{_-_, _≤_}
 use mathlib.Core.Path.{_≡_}
+use Prim.Native.Nat.{_-_, _≤_}
 use lib.ListN.{length}
 use borrow.Author.Needs.{needs}
 use Rattle.replay.proofs.input.gather.Statement.{statement}
 use Rattle.replay.proofs.input.gather.Tie as tie
 
 abbrev Inv-loop : tie.InvT-loop
-Inv-loop chunk line₀ n over len₀ i₀ line len i = (n ≤ length chunk) × (length line ≡ length line₀)
+Inv-loop chunk line₀ n over len₀ i₀ line len i = (n ≤ length chunk) × ((i ≤ n) × (length line ≡ length line₀))
 
 abbrev μ-loop : tie.MeasureT-loop
 μ-loop chunk line₀ n over len₀ i₀ line len i = n - i
-
--- src/input.rt:53:9
--- src/input.rt:55:9
--- src/input.rt:57:5
--- src/input.rt:58:17
--- src/input.rt:59:9
--- src/input.rt:61:13
--- src/input.rt:61:13
--- src/input.rt:69:9
--- src/input.rt:57:5
--- src/input.rt:57:5
--- src/input.rt:52:1
--- src/input.rt:52:1
 
 pub gather-spec : {M : Type 1} → statement M
 gather-spec =
@@ -30,6 +17,7 @@ gather-spec =
     (tie.spec
     Inv-loop
     μ-loop
+    (λ c κs. search needs)
     (λ c κs. search needs)
     (λ c κs. search needs)
     (λ c. search needs)

@@ -6,56 +6,35 @@ use Rattle.replay.proofs.run.replay.Statement.{statement}
 use Rattle.replay.proofs.run.replay.Tie as tie
 
 abbrev Inv-loop : tie.InvT-loop
-Inv-loop chunk₀ line₀ out₀ file₀ checkpoints₀ frames₀ store₀ parts₀ malformed₀ hints₀ confirmed₀ read₀ state₀ turns₀ chunk line out file checkpoints frames store parts malformed hints confirmed read state turns = (length chunk ≡ length chunk₀) × (length line ≡ length line₀) × (length out ≡ length out₀) × (length file ≡ length file₀) × (length checkpoints ≡ length checkpoints₀) × (length frames ≡ length frames₀) × (length store ≡ length store₀) × (length parts ≡ length parts₀) × (length malformed ≡ length malformed₀) × (length hints ≡ length hints₀) × (length confirmed ≡ length confirmed₀)
+Inv-loop chunk₀ line₀ out₀ data₀ checkpoints₀ frames₀ store₀ parts₀ malformed₀ hints₀ confirmed₀ recorder-checkpoints₀ recorder-frames₀ recorder-store₀ recorder-parts₀ list₀ read₀ state₀ turns₀ chunk line out «data» checkpoints frames store parts malformed hints confirmed recorder-checkpoints recorder-frames recorder-store recorder-parts list read state turns =
+    length line ≡ length line₀
 
 abbrev μ-loop : tie.MeasureT-loop
-μ-loop chunk₀ line₀ out₀ file₀ checkpoints₀ frames₀ store₀ parts₀ malformed₀ hints₀ confirmed₀ read₀ state₀ turns₀ chunk line out file checkpoints frames store parts malformed hints confirmed read state turns = turns
+μ-loop chunk₀ line₀ out₀ data₀ checkpoints₀ frames₀ store₀ parts₀ malformed₀ hints₀ confirmed₀ recorder-checkpoints₀ recorder-frames₀ recorder-store₀ recorder-parts₀ list₀ read₀ state₀ turns₀ chunk line out «data» checkpoints frames store parts malformed hints confirmed recorder-checkpoints recorder-frames recorder-store recorder-parts list read state turns =
+    turns
 
--- src/run.rt:191:9
--- src/run.rt:192:37
--- src/run.rt:194:5
--- src/run.rt:195:9
--- src/run.rt:196:9
--- src/run.rt:199:13
--- src/run.rt:200:13
--- src/run.rt:200:13
--- src/run.rt:200:13
--- src/run.rt:200:13
--- src/run.rt:200:13
--- src/run.rt:200:13
--- src/run.rt:200:13
--- src/run.rt:200:13
--- src/run.rt:200:13
--- src/run.rt:200:13
--- src/run.rt:200:13
--- src/run.rt:200:13
--- src/run.rt:204:17
--- src/run.rt:205:30
--- src/run.rt:205:30
--- src/run.rt:205:30
--- src/run.rt:205:13
--- src/run.rt:194:5
+-- from the line's call back to the turn
+abbrev cut : tie.After-answer-line Inv-loop μ-loop → tie.After-least Inv-loop μ-loop
+cut m = m .before .before .before .before .before .before .before .before .before .before .before .before .before .before .before .before .before
+
+abbrev gathered : tie.After-least Inv-loop μ-loop → tie.After-line Inv-loop μ-loop
+gathered m = search
+
+abbrev turn : tie.After-least Inv-loop μ-loop → tie.In-loop Inv-loop μ-loop
+turn m = search
+
+abbrev head : tie.After-least Inv-loop μ-loop → tie.At-loop Inv-loop μ-loop
+head m = search
+
 loop-less : tie.Need-loop-less Inv-loop μ-loop
-loop-less c = omega (arith, c .before .before .before .before .before .before .before .before .before .before .before .before .before .before .before .before .before .before .before .before .before .before .before .before .before .before .before .before .before .before .before .before .before .before .before .before .before .before .before .before .before .loop-test)
+loop-less c =
+    let call : tie.After-answer-line Inv-loop μ-loop = search in
+    omega (arith, turn (cut call) .loop-test .taken)
 
--- src/run.rt:194:5
 loop-again : tie.Need-loop-again Inv-loop μ-loop
-loop-again c = (omega (arith, c .before .before .before .before .before .before .before .before .before .before .before .before .before .before .before .before .before .before .before .before .before .before .before .before .before .before .before .before .before .before .before .before .before .before .before .before .before .chunk .given, c .before .before .before .before .before .before .before .before .before .before .before .before .before .before .before .before .before .before .before .before .before .before .before .before .before .before .before .before .before .before .before .before .before .before .before .before .before .before .before .before .before .before .loop .inv), omega (arith, c .before .before .before .before .before .before .before .before .before .before .before .before .before .before .before .before .before .before .before .before .before .before .before .before .before .before .before .before .before .before .before .before .before .before .before .line .given, c .before .before .before .before .before .before .before .before .before .before .before .before .before .before .before .before .before .before .before .before .before .before .before .before .before .before .before .before .before .before .before .before .before .before .before .before .before .before .before .before .before .before .loop .inv), omega (arith, c .before .before .before .before .before .before .before .before .before .before .before .before .before .before .before .before .before .out .given, c .before .before .before .before .before .before .before .before .before .before .before .before .before .before .before .before .before .before .before .before .before .before .before .before .before .before .before .before .before .before .before .before .before .before .before .before .before .before .before .before .before .before .loop .inv), omega (arith, c .before .before .before .before .before .before .before .before .before .before .before .before .before .before .before .file .given, c .before .before .before .before .before .before .before .before .before .before .before .before .before .before .before .before .before .before .before .before .before .before .before .before .before .before .before .before .before .before .before .before .before .before .before .before .before .before .before .before .before .before .loop .inv), omega (arith, c .before .before .before .before .before .before .before .before .before .before .before .before .before .checkpoints .given, c .before .before .before .before .before .before .before .before .before .before .before .before .before .before .before .before .before .before .before .before .before .before .before .before .before .before .before .before .before .before .before .before .before .before .before .before .before .before .before .before .before .before .loop .inv), omega (arith, c .before .before .before .before .before .before .before .before .before .before .before .frames .given, c .before .before .before .before .before .before .before .before .before .before .before .before .before .before .before .before .before .before .before .before .before .before .before .before .before .before .before .before .before .before .before .before .before .before .before .before .before .before .before .before .before .before .loop .inv), omega (arith, c .before .before .before .before .before .before .before .before .before .store .given, c .before .before .before .before .before .before .before .before .before .before .before .before .before .before .before .before .before .before .before .before .before .before .before .before .before .before .before .before .before .before .before .before .before .before .before .before .before .before .before .before .before .before .loop .inv), omega (arith, c .before .before .before .before .before .before .before .parts .given, c .before .before .before .before .before .before .before .before .before .before .before .before .before .before .before .before .before .before .before .before .before .before .before .before .before .before .before .before .before .before .before .before .before .before .before .before .before .before .before .before .before .before .loop .inv), omega (arith, c .before .before .before .before .before .malformed .given, c .before .before .before .before .before .before .before .before .before .before .before .before .before .before .before .before .before .before .before .before .before .before .before .before .before .before .before .before .before .before .before .before .before .before .before .before .before .before .before .before .before .before .loop .inv), omega (arith, c .before .before .before .hints .given, c .before .before .before .before .before .before .before .before .before .before .before .before .before .before .before .before .before .before .before .before .before .before .before .before .before .before .before .before .before .before .before .before .before .before .before .before .before .before .before .before .before .before .loop .inv), omega (arith, c .before .confirmed .given, c .before .before .before .before .before .before .before .before .before .before .before .before .before .before .before .before .before .before .before .before .before .before .before .before .before .before .before .before .before .before .before .before .before .before .before .before .before .before .before .before .before .before .loop .inv))
-
--- src/run.rt:194:5
--- src/run.rt:194:5
--- src/run.rt:190:1
--- src/run.rt:190:1
--- src/run.rt:190:1
--- src/run.rt:190:1
--- src/run.rt:190:1
--- src/run.rt:190:1
--- src/run.rt:190:1
--- src/run.rt:190:1
--- src/run.rt:190:1
--- src/run.rt:190:1
--- src/run.rt:190:1
--- src/run.rt:190:1
+loop-again c =
+    let call : tie.After-answer-line Inv-loop μ-loop = search in
+    omega (arith, gathered (cut call) .line .given, head (cut call) .loop .inv)
 
 pub replay-spec : {M : Type 1} → statement M
 replay-spec =
@@ -71,16 +50,6 @@ replay-spec =
     (λ c κs. search needs)
     (λ c. search needs)
     (λ c. search needs)
-    (λ c. search needs)
-    (λ c. search needs)
-    (λ c. search needs)
-    (λ c. search needs)
-    (λ c. search needs)
-    (λ c. search needs)
-    (λ c. search needs)
-    (λ c. search needs)
-    (λ c. search needs)
-    (λ c. search needs)
     (λ c κs. search needs)
     (λ c. search needs)
     (λ c. search needs)
@@ -88,16 +57,6 @@ replay-spec =
     (λ c κs. search needs)
     loop-less
     loop-again
-    (λ c. search needs)
-    (λ c. search needs)
-    (λ c. search needs)
-    (λ c. search needs)
-    (λ c. search needs)
-    (λ c. search needs)
-    (λ c. search needs)
-    (λ c. search needs)
-    (λ c. search needs)
-    (λ c. search needs)
     (λ c. search needs)
     (λ c. search needs)
     (λ c. search needs)
