@@ -1,11 +1,11 @@
 -- What absorb answers, by the number that refuses. Assumes nothing.
 use mathlib.Core.Path.{_≡_, refl, sym, ap, _∙_}
-use mathlib.Core.Bool.{Bool, true, false, _&&_, cond}
+use mathlib.Core.Bool.{Bool, true, false, _&&_, not, cond}
 use mathlib.Core.List.{List}
 use mathlib.Core.Option.{Option}
 use Prim.Native.Nat.{ℕ, _+_, _≤_}
 use native.Mathlib.Omega.{arith}
-use borrow.Author.Tests.{eq-eqb, ne-eqb, eqb-true, ltb-true, leb-true}
+use borrow.Author.Tests.{eq-eqb, ne-eqb, eqb-true, eqb-false, ltb-true, leb-true, not-true, not-false}
 use lib.Dec.{eqb, leb, ltb}
 use Rattle.field.proofs.Records.{records-length}
 use Rattle.rules.specs.declared.AreaIndex.{AreaIndex}
@@ -82,7 +82,7 @@ module _ (x : AreaIndex) (t : Tables) (image : ImageId) (given : List ℕ) (r : 
   by-number =
       rw (kinded-by (indexIn x t) (recorderIn r u) (idIn image) (givenIn given) (kindsIn x t && recorderKinds r u) (absorbNumber (roomOf t) (indexIn x t) (recorderRoom u) (recorderIn r u) (idIn image) (givenIn given)), ← e)
 
-  pub absorb-refused : {q : Recorder} → (n ≡ 0 → ⊥) → q ≡ cond (eqb n 8) (modeOf r Stopped) r → out (absorbed n x q) t ≡ absorbIn x t image given r u
+  absorb-refused : {q : Recorder} → (n ≡ 0 → ⊥) → q ≡ cond (eqb n 8) (modeOf r Stopped) r → out (absorbed n x q) t ≡ absorbIn x t image given r u
   unfolding outOf
   absorb-refused h p = rw p (sym (by-number ∙ rw (ne-eqb n 0 h, ne-eqb n 0 h, numbers-back x t, refused-is r u n)))
 
@@ -90,24 +90,45 @@ module _ (x : AreaIndex) (t : Tables) (image : ImageId) (given : List ℕ) (r : 
     both-pass : absorbRefusal x t image given r u ≡ 0
     both-pass = sym e ∙ z
 
-    -- the number of the recorder's next checkpoint
-    pub few : r .first + r .checkpoints ≤ 4294967295
-    few = passes-long r u refl (passed x t image given r u both-pass .1) .few
+    absorb-stopped : TableBytes t → isStopped (r .mode) ≡ true → out (absorbed 0 x r) t ≡ absorbIn x t image given r u
+    unfolding outOf
+    absorb-stopped b s =
+        sym (by-number ∙ rw (eq-eqb n 0 z, s, numbers-back x t, recorder-back r u, put-back (passes x t (passed x t image given r u both-pass .0)) b))
 
-    pub absorbs : {s : Bool} → s ≡ isStopped (r .mode) → s ≡ false → Absorbs x t image given r u
-    absorbs p g = record { accepted = both-pass; brings = sym p ∙ g }
+  module _ {q : Bool} (p : q ≡ (eqb n 0 && not (isStopped (r .mode)))) where
+    -- where nothing is taken
+    pub absorb-left : {s : Recorder} → not q ≡ true → TableBytes t → s ≡ cond (eqb n 8) (modeOf r Stopped) r → out (absorbed n x s) t ≡ absorbIn x t image given r u
+    absorb-left {s} h b d =
+        let no : (eqb n 0 && not (isStopped (r .mode))) ≡ false = sym p ∙ not-true q h in
+        test (eqb n 0)
+        (λ e. let z = eqb-true n 0 e in
+        let f : not (isStopped (r .mode)) ≡ false = rw e at no in
+        let is : s ≡ r = d ∙ rw z in
+        rw (is, z) (absorb-stopped z b (not-false (isStopped (r .mode)) f)))
+        (λ e. absorb-refused (eqb-false n 0 e) d)
 
-    module _ (b : TableBytes t) where
-      pub absorb-stopped : {s : Bool} → s ≡ isStopped (r .mode) → s ≡ true → out (absorbed 0 x r) t ≡ absorbIn x t image given r u
-      unfolding outOf
-      absorb-stopped p q =
-          sym (by-number ∙ rw (eq-eqb n 0 z, sym p ∙ q, numbers-back x t, recorder-back r u, put-back (passes x t (passed x t image given r u both-pass .0)) b))
+    module _ (h : not q ≡ false) where
+      yes : (eqb n 0 && not (isStopped (r .mode))) ≡ true
+      yes = sym p ∙ not-false q h
 
-      pub absorb-done : {s : Bool} {q : Recorder} {y : AreaIndex} {cs fs st ps ms : List ℕ} → s ≡ isStopped (r .mode) → s ≡ false → q ≡ drainedOf r
+      accepted : n ≡ 0
+      accepted = eqb-true n 0 (and-left (eqb n 0) (not (isStopped (r .mode))) yes)
+
+      brings : isStopped (r .mode) ≡ false
+      brings = not-true (isStopped (r .mode)) (and-right (eqb n 0) (not (isStopped (r .mode))) yes)
+
+      pub absorbs : Absorbs x t image given r u
+      absorbs = record { accepted = both-pass accepted; brings = brings }
+
+      -- the number of the recorder's next checkpoint
+      pub few : r .first + r .checkpoints ≤ 4294967295
+      few = passes-long r u refl (passed x t image given r u (both-pass accepted) .1) .few
+
+      pub absorb-done : {s : Recorder} {y : AreaIndex} {cs fs st ps ms : List ℕ} → TableBytes t → s ≡ drainedOf r
           → ((hints confirmed : List ℕ) → Kept x hints confirmed
           → written y (tables cs fs st ps ms hints confirmed) ≡ absorbedIn x (tables (t .checkpoints) (t .frames) (t .store) (t .parts) (t .malformed) hints confirmed) r u image given)
-          → out (absorbed 0 y q) (tables cs fs st ps ms (t .hints) (t .confirmed)) ≡ absorbIn x t image given r u
+          → out (absorbed 0 y s) (tables cs fs st ps ms (t .hints) (t .confirmed)) ≡ absorbIn x t image given r u
       unfolding outOf absorbedIn
-      absorb-done {q = q} p g d w =
-          let v = w (t .hints) (t .confirmed) (kept (absorbs p g) (b .hints) (b .confirmed)) in
-          ap (λ (i : Written). out (absorbed 0 (i .index) q) (i .tables)) v ∙ rw d (sym (by-number ∙ rw (eq-eqb n 0 z, sym p ∙ g, drained-is r u)))
+      absorb-done {s = s} b d w =
+          let v = w (t .hints) (t .confirmed) (kept absorbs (b .hints) (b .confirmed)) in
+          ap (λ (i : Written). out (absorbed 0 (i .index) s) (i .tables)) v ∙ rw d (sym (by-number ∙ rw (eq-eqb n 0 accepted, brings, drained-is r u)))

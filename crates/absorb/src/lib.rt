@@ -2,21 +2,22 @@
 use absorb_commit::commit;
 use absorb_refuses::absorb_refuses;
 use absorb_refuses::is_stopped;
+use field::and;
 use recorder::with_mode;
 use rules::AreaIndex;
 use rules::ImageId;
 use rules::Mode;
 use rules::Recorder;
 ghost use mathlib.Core.Path.{_≡_};
-ghost use mathlib.Core.Bool.{cond};
+ghost use mathlib.Core.Bool.{_&&_, not, cond};
 ghost use Prim.Native.Nat.{_+_, _≤_};
 ghost use lib.Dec.{eqb};
 ghost use Rattle.rules.specs.declared.Mode.the-variants.{Stopped};
-ghost use Rattle.rules.specs.Record.{drained};
+ghost use Rattle.rules.specs.Record.{drained, isStopped};
 ghost use Rattle.index.specs.Index.{tables};
 ghost use Rattle.recorder.specs.Recorder.{recorderTables};
 ghost use Rattle.recorder.specs.Needs.{modeOf};
-ghost use Rattle.absorb.specs.Absorb.{out, absorbIn};
+ghost use Rattle.absorb.specs.Absorb.{out, absorbed, absorbIn};
 ghost use Rattle.absorb.specs.Needs.{drainedOf};
 
 // The refusal number, 0 where it is accepted, and the numbers of both afterwards.
@@ -70,6 +71,23 @@ fn drain(r: Recorder) -> Recorder
 }
 
 // ---- the call
+fn answer(number: u32, index: AreaIndex, recorder: Recorder) -> Absorbed
+    ensures { λ a. ⌜ a ≡ absorbed number index recorder ⌝ }
+{
+    Absorbed {
+        number,
+        index,
+        recorder,
+    }
+}
+
+// Does nothing refuse, and is the recorder not stopped?
+fn takes(number: u32, mode: Mode) -> bool
+    ensures { λ q. ⌜ q ≡ (eqb number 0 && not (isStopped mode)) ⌝ }
+{
+    and(number == 0, !is_stopped(mode))
+}
+
 // What the recorder r has, only read, into the index x; image is the image that was read, and given the malformed LSNs of the reading.
 pub fn absorb(
     x: AreaIndex,
@@ -107,20 +125,9 @@ pub fn absorb(
         new_store,
         new_parts,
     );
-    if number != 0 {
-        return Absorbed {
-            number,
-            index: x,
-            recorder: stop_recording(r, number),
-        };
-    }
     let mode = r.mode;
-    if is_stopped(mode) {
-        return Absorbed {
-            number: 0,
-            index: x,
-            recorder: r,
-        };
+    if !takes(number, mode) {
+        return answer(number, x, stop_recording(r, number));
     }
     let recorder = drain(r);
     let index = commit(
@@ -138,9 +145,5 @@ pub fn absorb(
         new_store,
         new_parts,
     );
-    Absorbed {
-        number: 0,
-        index,
-        recorder,
-    }
+    answer(0, index, recorder)
 }

@@ -1,7 +1,7 @@
 use Rattle.index.specs.Index.{Tables, tables}
 use Rattle.index.specs.Lent.{TableBytes}
 use Rattle.absorb_commit.proofs.Facts.{ready}
-use Rattle.absorb.proofs.Calls.{few, absorbs, absorb-refused, absorb-stopped, absorb-done}
+use Rattle.absorb.proofs.Calls.{absorb-left, absorbs, few, absorb-done}
 use borrow.Author.Needs.{needs}
 use Rattle.absorb.proofs.absorb.Statement.{statement}
 use Rattle.absorb.proofs.absorb.Tie as tie
@@ -34,55 +34,53 @@ bytes p =
       confirmed = λ i. ks .shared-slice-known3 .given i .fits;
     }
 
--- the recorder is not stopped, and nothing refuses
-abbrev goes : tie.After-drain → tie.Else2
+-- nothing refuses, and the recorder is not stopped
+abbrev goes : tie.After-drain → tie.Else1
 goes p = search
 
-abbrev mode : tie.Else2 → tie.After-is-stopped
-mode p = search
+abbrev told : tie.Else1 → tie.After-takes
+told p = search
 
-abbrev none : tie.Else2 → tie.Else1
-none p = search
-
-abbrev asked : tie.Else1 → tie.After-absorb-refuses
+abbrev asked : tie.After-takes → tie.After-absorb-refuses
 asked p = search
 
 returns : tie.Need-returns
 returns c =
+    let made : tie.After-answer = search in
     let after : tie.After-stop-recording = search in
-    let refused : tie.Then1 = search in
-    let number : tie.After-absorb-refuses = search in
-    absorb-refused _ _ _ _ _ _ (number .absorb-refuses .ensures) (refused .if1 .taken) (after .stop-recording .ensures)
-
-returns-2 : tie.Need-returns-2
-returns-2 c =
-    let stopped : tie.After-is-stopped = search in
-    let accepted : tie.Else1 = search in
-    absorb-stopped _ _ _ _ _ _ (asked accepted .absorb-refuses .ensures) (accepted .if1 .left) (bytes (asked accepted)) (stopped .is-stopped .ensures) (c .if2 .taken)
+    let left : tie.Then1 = search in
+    let found : tie.After-takes = search in
+    let number = asked found in
+    rw (made .answer .ensures)
+    (absorb-left _ _ _ _ _ _ (number .absorb-refuses .ensures) (found .takes .ensures) (left .if1 .taken) (bytes number) (after .stop-recording .ensures))
 
 drain-requires : tie.Need-drain-requires
 drain-requires c κs =
-    let accepted : tie.Else1 = search in
-    few _ (lent (begin (asked accepted))) _ _ _ _ (asked accepted .absorb-refuses .ensures) (accepted .if1 .left)
+    let going : tie.Else1 = search in
+    let found = told going in let number = asked found in
+    few _ (lent (begin number)) _ _ _ _ (number .absorb-refuses .ensures) (found .takes .ensures) (going .if1 .left)
 
 commit-requires : tie.Need-commit-requires
 commit-requires c κs =
     let ended : tie.After-drain = search in
-    let going = goes ended in let accepted = none going in
-    ready (absorbs _ (lent (begin (asked accepted))) _ _ _ _ (asked accepted .absorb-refuses .ensures) (accepted .if1 .left) (mode going .is-stopped .ensures) (going .if2 .left))
+    let going = goes ended in let found = told going in let number = asked found in
+    ready (absorbs _ (lent (begin number)) _ _ _ _ (number .absorb-refuses .ensures) (found .takes .ensures) (going .if1 .left))
 
-returns-3 : tie.Need-returns-3
-returns-3 c =
+returns-2 : tie.Need-returns-2
+returns-2 c =
+    let made : tie.After-answer2 = search in
     let done : tie.After-commit = search in
     let ended : tie.After-drain = search in
-    let going = goes ended in let accepted = none going in
-    absorb-done _ _ _ _ _ _ (asked accepted .absorb-refuses .ensures) (accepted .if1 .left) (bytes (asked accepted)) (mode going .is-stopped .ensures) (going .if2 .left)
-    (ended .drain .ensures) (done .commit .ensures)
+    let going = goes ended in let found = told going in let number = asked found in
+    rw (made .answer2 .ensures)
+    (absorb-done _ _ _ _ _ _ (number .absorb-refuses .ensures) (found .takes .ensures) (going .if1 .left) (bytes number) (ended .drain .ensures) (done .commit .ensures))
 
 pub absorb-spec : {M : Type 1} → statement M
 absorb-spec =
     tie.close
     (tie.spec
+    (λ c κs. search needs)
+    (λ c κs. search needs)
     (λ c κs. search needs)
     (λ c κs. search needs)
     (λ c. search needs)
@@ -91,18 +89,12 @@ absorb-spec =
     (λ c. search needs)
     (λ c. search needs)
     returns
-    (λ c κs. search needs)
-    (λ c. search needs)
-    (λ c. search needs)
-    (λ c. search needs)
-    (λ c. search needs)
-    (λ c. search needs)
-    returns-2
     drain-requires
     commit-requires
+    (λ c κs. search needs)
     (λ c. let place : tie.After-checkpoints = search in place .checkpoints .given)
     (λ c. let place : tie.After-frames = search in place .frames .given)
     (λ c. let place : tie.After-store = search in place .store .given)
     (λ c. let place : tie.After-parts = search in place .parts .given)
     (λ c. let place : tie.After-malformed = search in place .malformed .given)
-    returns-3)
+    returns-2)
