@@ -22,16 +22,43 @@ loop-holds : tie.Need-loop-holds Inv-loop μ-loop
 loop-holds c = record { own = omega arith; other = omega arith; rest = refl }
 
 returns : tie.Need-returns Inv-loop μ-loop
-returns c = absorb-short (c .before .before .loop .inv) (records-turn 16 decodeConfirmation _ _ _ (c .before .loop-test .taken)) (records-length 16 decodeConfirmation _ _) (c .if1 .taken)
+returns c =
+    let in-loop : tie.In-loop Inv-loop μ-loop = search in
+    let at-loop : tie.At-loop Inv-loop μ-loop = search in
+    absorb-short (at-loop .loop .inv) (records-turn 16 decodeConfirmation _ _ _ (in-loop .loop-test .taken))
+    (records-length 16 decodeConfirmation _ _) (c .if1 .taken)
 
 returns-2 : tie.Need-returns-2 Inv-loop μ-loop
-returns-2 c = absorb-moved (c .before .before .before .before .before .before .loop .inv) (read-turn 16 decodeConfirmation _ _ _ (c .before .before .before .before .before .loop-test .taken) (c .before .before .read-confirmation2 .ensures)) (read-turn 16 decodeConfirmation _ _ _ (c .before .before .before .before .if1 .left) (c .before .before .before .read-confirmation .ensures)) (c .before .unmoved .ensures) (c .if2 .taken)
+returns-2 c =
+    let after-unmoved : tie.After-unmoved Inv-loop μ-loop = search in
+    let after-read-confirmation2 : tie.After-read-confirmation2 Inv-loop μ-loop = search in
+    let after-read-confirmation : tie.After-read-confirmation Inv-loop μ-loop = search in
+    let else1 : tie.Else1 Inv-loop μ-loop = search in
+    let in-loop : tie.In-loop Inv-loop μ-loop = search in
+    let at-loop : tie.At-loop Inv-loop μ-loop = search in
+    absorb-moved (at-loop .loop .inv)
+    (read-turn 16 decodeConfirmation _ _ _ (in-loop .loop-test .taken) (after-read-confirmation2 .read-confirmation2 .ensures))
+    (read-turn 16 decodeConfirmation _ _ _ (else1 .if1 .left) (after-read-confirmation .read-confirmation .ensures)) (after-unmoved .unmoved .ensures)
+    (c .if2 .taken)
 
 loop-again : tie.Need-loop-again Inv-loop μ-loop
-loop-again c = absorb-on (c .before .before .before .before .before .before .before .loop .inv) (read-turn 16 decodeConfirmation _ _ _ (c .before .before .before .before .before .before .loop-test .taken) (c .before .before .before .read-confirmation2 .ensures)) (read-turn 16 decodeConfirmation _ _ _ (c .before .before .before .before .before .if1 .left) (c .before .before .before .before .read-confirmation .ensures)) (c .before .before .before .before .before .if1 .left) (c .before .before .before .before .before .before .loop-test .taken) (c .before .before .unmoved .ensures) (c .before .if2 .left) (c .met .ensures)
+loop-again c =
+    let else2 : tie.Else2 Inv-loop μ-loop = search in
+    let after-unmoved : tie.After-unmoved Inv-loop μ-loop = search in
+    let after-read-confirmation2 : tie.After-read-confirmation2 Inv-loop μ-loop = search in
+    let after-read-confirmation : tie.After-read-confirmation Inv-loop μ-loop = search in
+    let else1 : tie.Else1 Inv-loop μ-loop = search in
+    let in-loop : tie.In-loop Inv-loop μ-loop = search in
+    let at-loop : tie.At-loop Inv-loop μ-loop = search in
+    absorb-on (at-loop .loop .inv)
+    (read-turn 16 decodeConfirmation _ _ _ (in-loop .loop-test .taken) (after-read-confirmation2 .read-confirmation2 .ensures))
+    (read-turn 16 decodeConfirmation _ _ _ (else1 .if1 .left) (after-read-confirmation .read-confirmation .ensures)) (else1 .if1 .left)
+    (in-loop .loop-test .taken) (after-unmoved .unmoved .ensures) (else2 .if2 .left) (c .met .ensures)
 
 returns-3 : tie.Need-returns-3 Inv-loop μ-loop
-returns-3 c = absorb-end (c .before .loop .inv) (records-length 16 decodeConfirmation _ _) (c .loop-test .left)
+returns-3 c =
+    let at-loop : tie.At-loop Inv-loop μ-loop = search in
+    absorb-end (at-loop .loop .inv) (records-length 16 decodeConfirmation _ _) (c .loop-test .left)
 
 pub absorbs-spec : {M : Type 1} → statement M
 absorbs-spec =

@@ -9,7 +9,11 @@ returns : tie.Need-returns
 returns c = hints-none _ _ (c .if1 .taken)
 
 returns-2 : tie.Need-returns-2
-returns-2 c = hints-answered _ _ (records-length 8 decodeHint _ _) (c .before .before .before .before .before .pre .2) (c .before .before .if1 .left) (c .before .weigh .ensures) (c .changed-by .ensures)
+returns-2 c =
+    let after-weigh : tie.After-weigh = search in
+    let else1 : tie.Else1 = search in
+    let start : tie.Start = search in
+    hints-answered _ _ (records-length 8 decodeHint _ _) (start .pre .2) (else1 .if1 .left) (after-weigh .weigh .ensures) (c .changed-by .ensures)
 
 pub changes-hints-spec : {M : Type 1} → statement M
 changes-hints-spec = tie.close (tie.spec returns (λ c κs. search needs) (λ c κs. search needs) returns-2)
