@@ -7,16 +7,55 @@ use Rattle.parts.proofs.add_part.Statement.{statement}
 use Rattle.parts.proofs.add_part.Tie as tie
 
 returns : tie.Need-returns
-returns c = passed-over (c .before .before .before .before .before .before .before .before .before .pre) (λ i. c .before .before .before .before .before .before .before .slice-known .given i .fits) (λ i. c .before .before .before .before .before .slice-known3 .given i .fits) (pieceIn (c .before .before .before .before .before .before .before .before .before .args .p) (c .before .before .before .before .before .before .before .before .before .args .bytes .now)) (sym (c .before .stores .ensures) ∙ not-true _ (c .if1 .taken))
+returns c =
+    let after-stores : tie.After-stores = search in
+    let after-slice-known3 : tie.After-slice-known3 = search in
+    let after-slice-known : tie.After-slice-known = search in
+    let start : tie.Start = search in
+    passed-over (start .pre) (λ i. after-slice-known .slice-known .given i .fits) (λ i. after-slice-known3 .slice-known3 .given i .fits)
+    (pieceIn (start .args .p) (start .args .bytes .now)) (sym (after-stores .stores .ensures) ∙ not-true _ (c .if1 .taken))
 
 place-requires : tie.Need-place-requires
-place-requires c κs = place-ready (c .before .before .before .before .before .before .before .before .before .before .before .before .before .pre) (λ i. c .before .before .before .before .before .before .before .before .before .before .before .slice-known .given i .fits) (λ i. c .before .before .before .before .before .before .before .before .before .slice-known3 .given i .fits) (pieceIn (c .before .before .before .before .before .before .before .before .before .before .before .before .before .args .p) (c .before .before .before .before .before .before .before .before .before .before .before .before .before .args .bytes .now)) (sym (c .before .before .before .before .before .stores .ensures) ∙ not-false _ (c .before .before .before .before .if1 .left)) (c .before .last-header .ensures) (c .opens .ensures)
+place-requires c κs =
+    let after-last-header : tie.After-last-header = search in
+    let else1 : tie.Else1 = search in
+    let after-stores : tie.After-stores = search in
+    let after-slice-known3 : tie.After-slice-known3 = search in
+    let after-slice-known : tie.After-slice-known = search in
+    let start : tie.Start = search in
+    place-ready (start .pre) (λ i. after-slice-known .slice-known .given i .fits) (λ i. after-slice-known3 .slice-known3 .given i .fits)
+    (pieceIn (start .args .p) (start .args .bytes .now)) (sym (after-stores .stores .ensures) ∙ not-false _ (else1 .if1 .left))
+    (after-last-header .last-header .ensures) (c .opens .ensures)
 
 put-part-requires : tie.Need-put-part-requires
-put-part-requires c κs = puts-ready (c .before .before .before .before .before .before .before .before .before .before .before .before .before .before .before .before .before .pre) (λ i. c .before .before .before .before .before .before .before .before .before .before .before .before .before .before .before .slice-known .given i .fits) (λ i. c .before .before .before .before .before .before .before .before .before .before .before .before .before .slice-known3 .given i .fits) (pieceIn (c .before .before .before .before .before .before .before .before .before .before .before .before .before .before .before .before .before .args .p) (c .before .before .before .before .before .before .before .before .before .before .before .before .before .before .before .before .before .args .bytes .now)) (sym (c .before .before .before .before .before .before .before .before .before .stores .ensures) ∙ not-false _ (c .before .before .before .before .before .before .before .before .if1 .left)) (c .before .before .before .before .before .last-header .ensures) (c .before .before .before .before .opens .ensures) (c .before .before .before .place .ensures)
+put-part-requires c κs =
+    let after-place : tie.After-place = search in
+    let after-opens : tie.After-opens = search in
+    let after-last-header : tie.After-last-header = search in
+    let else1 : tie.Else1 = search in
+    let after-stores : tie.After-stores = search in
+    let after-slice-known3 : tie.After-slice-known3 = search in
+    let after-slice-known : tie.After-slice-known = search in
+    let start : tie.Start = search in
+    puts-ready (start .pre) (λ i. after-slice-known .slice-known .given i .fits) (λ i. after-slice-known3 .slice-known3 .given i .fits)
+    (pieceIn (start .args .p) (start .args .bytes .now)) (sym (after-stores .stores .ensures) ∙ not-false _ (else1 .if1 .left))
+    (after-last-header .last-header .ensures) (after-opens .opens .ensures) (after-place .place .ensures)
 
 returns-2 : tie.Need-returns-2
-returns-2 c = c .before .before .before .before .before .before .put-part .ensures ∙ stored-put (c .before .before .before .before .before .before .before .before .before .before .before .before .before .before .before .before .before .before .before .before .before .before .before .before .pre) (λ i. c .before .before .before .before .before .before .before .before .before .before .before .before .before .before .before .before .before .before .before .before .before .before .slice-known .given i .fits) (λ i. c .before .before .before .before .before .before .before .before .before .before .before .before .before .before .before .before .before .before .before .before .slice-known3 .given i .fits) (pieceIn (c .before .before .before .before .before .before .before .before .before .before .before .before .before .before .before .before .before .before .before .before .before .before .before .before .args .p) (c .before .before .before .before .before .before .before .before .before .before .before .before .before .before .before .before .before .before .before .before .before .before .before .before .args .bytes .now)) (sym (c .before .before .before .before .before .before .before .before .before .before .before .before .before .before .before .before .stores .ensures) ∙ not-false _ (c .before .before .before .before .before .before .before .before .before .before .before .before .before .before .before .if1 .left)) (c .before .before .before .before .before .before .before .before .before .before .before .before .last-header .ensures) (c .before .before .before .before .before .before .before .before .before .before .before .opens .ensures) (c .before .before .before .before .before .before .before .before .before .before .place .ensures)
+returns-2 c =
+    let after-put-part : tie.After-put-part = search in
+    let after-place : tie.After-place = search in
+    let after-opens : tie.After-opens = search in
+    let after-last-header : tie.After-last-header = search in
+    let else1 : tie.Else1 = search in
+    let after-stores : tie.After-stores = search in
+    let after-slice-known3 : tie.After-slice-known3 = search in
+    let after-slice-known : tie.After-slice-known = search in
+    let start : tie.Start = search in
+    after-put-part .put-part .ensures
+    ∙ stored-put (start .pre) (λ i. after-slice-known .slice-known .given i .fits) (λ i. after-slice-known3 .slice-known3 .given i .fits)
+    (pieceIn (start .args .p) (start .args .bytes .now)) (sym (after-stores .stores .ensures) ∙ not-false _ (else1 .if1 .left))
+    (after-last-header .last-header .ensures) (after-opens .opens .ensures) (after-place .place .ensures)
 
 pub add-part-spec : {M : Type 1} → statement M
 add-part-spec =

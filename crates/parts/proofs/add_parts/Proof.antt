@@ -21,26 +21,80 @@ abbrev μ-loop : tie.MeasureT-loop
 μ-loop budget n f h headers other theirs frames₀ store₀ parts₀ held₀ at₀ j₀ frames store parts held at j =
     h - j
 
+abbrev begin : tie.At-loop Inv-loop μ-loop → tie.Start Inv-loop μ-loop
+begin p = search
+
 loop-holds : tie.Need-loop-holds Inv-loop μ-loop
-loop-holds c = (adding-start _ _ _ _ _ _ (c .before .before .before .before .before .before .pre .0) (c .before .before .before .before .before .before .pre .1) (λ i. c .before .before .slice-known .given i .fits) (λ i. c .slice-known3 .given i .fits), refl, refl, refl)
+loop-holds c =
+    let after-slice-known : tie.After-slice-known Inv-loop μ-loop = search in
+    let start : tie.Start Inv-loop μ-loop = search in (
+      adding-start _ _ _ _ _ _ (start .pre .0) (start .pre .1) (λ i. after-slice-known .slice-known .given i .fits)
+          (λ i. c .slice-known3 .given i .fits),
+      refl,
+      refl,
+      refl,
+    )
 
 source-at-requires : tie.Need-source-at-requires Inv-loop μ-loop
-source-at-requires c κs = let s = source-ready _ _ _ _ _ _ (c .before .before .before .before .before .before .before .before .before .pre .0) (c .before .before .loop .inv .0) (c .before .loop-test .taken) (c .read-held .ensures) in (s .0, s .1, s .2, s .3, s .4, (let z = s .5 in omega arith))
+source-at-requires c κs =
+    let s = (
+    let in-loop : tie.In-loop Inv-loop μ-loop = search in
+    let at-loop : tie.At-loop Inv-loop μ-loop = search in
+    let start : tie.Start Inv-loop μ-loop = search in
+    source-ready _ _ _ _ _ _ (start .pre .0) (at-loop .loop .inv .0) (in-loop .loop-test .taken) (c .read-held .ensures)) in
+    (s .0, s .1, s .2, s .3, s .4, (let z = s .5 in omega arith))
 
 read-header-requires : tie.Need-read-header-requires Inv-loop μ-loop
-read-header-requires c κs = let s = source-ready _ _ _ _ _ _ (c .before .before .before .before .before .before .before .before .before .before .before .pre .0) (c .before .before .before .before .loop .inv .0) (c .before .before .before .loop-test .taken) (c .before .before .read-held .ensures) in let a = s .3 in let b = s .4 in omega arith
+read-header-requires c κs =
+    let after-read-held : tie.After-read-held Inv-loop μ-loop = search in
+    let in-loop : tie.In-loop Inv-loop μ-loop = search in
+    let at-loop : tie.At-loop Inv-loop μ-loop = search in
+    let start = begin at-loop in
+    let s = source-ready _ _ _ _ _ _ (start .pre .0) (at-loop .loop .inv .0) (in-loop .loop-test .taken) (after-read-held .read-held .ensures) in
+    let a = s .3 in let b = s .4 in omega arith
 
 add-one-requires : tie.Need-add-one-requires Inv-loop μ-loop
-add-one-requires c κs = one-ready _ _ _ _ _ _ (c .before .before .before .before .before .before .before .before .before .before .before .before .before .before .before .pre .0) (c .before .before .before .before .before .before .before .before .loop .inv .0) (c .before .before .before .before .before .before .before .loop-test .taken) (c .before .before .before .before .before .before .read-held .ensures) (c .before .before .before .before .before .source-at .ensures) (c .before .before .before .read-header .ensures)
+add-one-requires c κs =
+    let after-read-header : tie.After-read-header Inv-loop μ-loop = search in
+    let after-source-at : tie.After-source-at Inv-loop μ-loop = search in
+    let after-read-held : tie.After-read-held Inv-loop μ-loop = search in
+    let in-loop : tie.In-loop Inv-loop μ-loop = search in
+    let at-loop : tie.At-loop Inv-loop μ-loop = search in
+    let start = begin at-loop in
+    one-ready _ _ _ _ _ _ (start .pre .0) (at-loop .loop .inv .0) (in-loop .loop-test .taken) (after-read-held .read-held .ensures)
+    (after-source-at .source-at .ensures) (after-read-header .read-header .ensures)
 
 add-j : tie.Need-add-j Inv-loop μ-loop
-add-j c = let a = c .before .before .before .before .before .before .before .before .before .before .before .before .before .before .loop-test .taken in let b = c .before .before .before .before .before .before .before .before .before .before .before .before .before .before .before .before .before .before .before .before .before .before .fits .h .fits in omega arith
+add-j c =
+    let in-loop : tie.In-loop Inv-loop μ-loop = search in
+    let at-loop : tie.At-loop Inv-loop μ-loop = search in
+    let start = begin at-loop in
+    let a = in-loop .loop-test .taken in let b = start .fits .h .fits in omega arith
 
 loop-again : tie.Need-loop-again Inv-loop μ-loop
-loop-again c = (adding-on _ _ _ _ _ _ (c .before .before .before .before .before .before .before .before .before .before .before .before .before .before .before .before .before .before .before .before .before .before .pre .0) (c .before .before .before .before .before .before .before .before .before .before .before .before .before .before .before .loop .inv .0) (c .before .before .before .before .before .before .before .before .before .before .before .before .before .before .loop-test .taken) (c .before .before .before .before .before .before .before .before .before .before .before .before .before .read-held .ensures) (c .before .before .before .before .before .before .before .before .before .before .before .before .source-at .ensures) (c .before .before .before .before .before .before .before .before .before .before .read-header .ensures) (c .before .before .before .before .before .before .add-one .ensures) (λ i. c .before .before .before .before .before .before .before .before .before .before .before .before .before .before .before .before .before .before .before .before .before .shared-slice-known .given i .fits) (λ i. c .before .before .before .before .before .before .before .before .before .before .before .before .before .before .before .before .before .before .before .shared-slice-known3 .given i .fits), search needs, search needs, search needs)
+loop-again c = (
+  let after-add-one : tie.After-add-one Inv-loop μ-loop = search in
+      let after-read-header : tie.After-read-header Inv-loop μ-loop = search in
+      let after-source-at : tie.After-source-at Inv-loop μ-loop = search in
+      let after-read-held : tie.After-read-held Inv-loop μ-loop = search in
+      let in-loop : tie.In-loop Inv-loop μ-loop = search in
+      let at-loop : tie.At-loop Inv-loop μ-loop = search in
+      let after-shared-slice-known3 : tie.After-shared-slice-known3 Inv-loop μ-loop = search in
+      let after-shared-slice-known : tie.After-shared-slice-known Inv-loop μ-loop = search in
+      let start = begin at-loop in
+      adding-on _ _ _ _ _ _ (start .pre .0) (at-loop .loop .inv .0) (in-loop .loop-test .taken) (after-read-held .read-held .ensures)
+      (after-source-at .source-at .ensures) (after-read-header .read-header .ensures) (after-add-one .add-one .ensures)
+      (λ i. after-shared-slice-known .shared-slice-known .given i .fits) (λ i. after-shared-slice-known3 .shared-slice-known3 .given i .fits),
+  search needs,
+  search needs,
+  search needs,
+)
 
 returns : tie.Need-returns Inv-loop μ-loop
-returns c = adding-end _ _ _ _ _ _ (c .before .before .before .before .before .before .before .before .pre .0) (c .before .loop .inv .0) (c .loop-test .left)
+returns c =
+    let at-loop : tie.At-loop Inv-loop μ-loop = search in
+    let start : tie.Start Inv-loop μ-loop = search in
+    adding-end _ _ _ _ _ _ (start .pre .0) (at-loop .loop .inv .0) (c .loop-test .left)
 
 pub add-parts-spec : {M : Type 1} → statement M
 add-parts-spec =

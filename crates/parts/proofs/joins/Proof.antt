@@ -6,7 +6,10 @@ use Rattle.parts.proofs.joins.Tie as tie
 
 returns : tie.Need-returns
 unfolding joinsIn
-returns c = let e = last-part _ _ (c .before .before .before .before .before .before .before .before .before .before .before .before .pre .0) (c .before .before .before .before .before .before .before .read-held .ensures) in cc
+returns c =
+    let after-read-held : tie.After-read-held = search in
+    let start : tie.Start = search in
+    let e = last-part _ _ (start .pre .0) (after-read-held .read-held .ensures) in cc
 
 pub joins-spec : {M : Type 1} → statement M
 joins-spec =

@@ -5,10 +5,16 @@ use Rattle.parts.proofs.source_at.Statement.{statement}
 use Rattle.parts.proofs.source_at.Tie as tie
 
 returns : tie.Need-returns
-returns c = (sym (c .if1 .taken), rw (c .if1 .taken) (c .before .before .before .pre .0))
+returns c =
+    let start : tie.Start = search in
+    (sym (c .if1 .taken), rw (c .if1 .taken) (start .pre .0))
 
 returns-2 : tie.Need-returns-2
-returns-2 c = (refl, source-next _ _ _ _ (c .before .before .before .before .before .before .before .pre .0) (c .before .before .get-header .ensures) (c .before .before .before .before .before .before .before .pre .1) (c .before .before .before .before .before .before .before .pre .2) (c .before .before .before .before .if1 .left))
+returns-2 c =
+    let after-get-header : tie.After-get-header = search in
+    let else1 : tie.Else1 = search in
+    let start : tie.Start = search in
+    (refl, source-next _ _ _ _ (start .pre .0) (after-get-header .get-header .ensures) (start .pre .1) (start .pre .2) (else1 .if1 .left))
 
 pub source-at-spec : {M : Type 1} → statement M
 source-at-spec =
