@@ -14,29 +14,79 @@ Inv-loop budget n c f h headers other theirs frames store parts at₀ j₀ at j 
 abbrev μ-loop : tie.MeasureT-loop
 μ-loop budget n c f h headers other theirs frames store parts at₀ j₀ at j = h - j
 
+abbrev begin : tie.At-loop Inv-loop μ-loop → tie.Start Inv-loop μ-loop
+begin p = search
+
 loop-holds : tie.Need-loop-holds Inv-loop μ-loop
-loop-holds c = seek-start _ _ _ _ _ _ (c .before .before .before .before .before .before .pre .0)
+loop-holds c =
+    let start : tie.Start Inv-loop μ-loop = search in
+    seek-start _ _ _ _ _ _ (start .pre .0)
 
 source-at-requires : tie.Need-source-at-requires Inv-loop μ-loop
-source-at-requires c κs = let s = source-ready _ _ _ _ _ _ (c .before .before .before .before .before .before .before .before .before .pre .0) (c .before .before .loop .inv) (c .before .loop-test .taken) (c .read-held .ensures) in (s .0, s .1, s .2, s .3, s .4, (let z = s .5 in omega arith))
+source-at-requires c κs =
+    let in-loop : tie.In-loop Inv-loop μ-loop = search in
+    let at-loop : tie.At-loop Inv-loop μ-loop = search in
+    let start : tie.Start Inv-loop μ-loop = search in
+    let s = source-ready _ _ _ _ _ _ (start .pre .0) (at-loop .loop .inv) (in-loop .loop-test .taken) (c .read-held .ensures) in
+    (s .0, s .1, s .2, s .3, s .4, (let z = s .5 in omega arith))
 
 read-header-requires : tie.Need-read-header-requires Inv-loop μ-loop
-read-header-requires c κs = let s = source-ready _ _ _ _ _ _ (c .before .before .before .before .before .before .before .before .before .before .before .pre .0) (c .before .before .before .before .loop .inv) (c .before .before .before .loop-test .taken) (c .before .before .read-held .ensures) in let a = s .3 in let b = s .4 in omega arith
+read-header-requires c κs =
+    let after-read-held : tie.After-read-held Inv-loop μ-loop = search in
+    let in-loop : tie.In-loop Inv-loop μ-loop = search in
+    let at-loop : tie.At-loop Inv-loop μ-loop = search in
+    let start = begin at-loop in
+    let s = source-ready _ _ _ _ _ _ (start .pre .0) (at-loop .loop .inv) (in-loop .loop-test .taken) (after-read-held .read-held .ensures) in
+    let a = s .3 in let b = s .4 in omega arith
 
 stores-one-requires : tie.Need-stores-one-requires Inv-loop μ-loop
-stores-one-requires c κs = (c .before .before .before .before .before .before .before .before .before .before .before .before .pre .1, part-inside _ _ _ _ _ _ (c .before .before .before .before .before .before .before .before .before .before .before .before .pre .0) (c .before .before .before .before .before .loop .inv) (c .before .before .before .before .loop-test .taken) (c .before .before .before .read-held .ensures) (c .before .before .source-at .ensures))
+stores-one-requires c κs =
+    let after-source-at : tie.After-source-at Inv-loop μ-loop = search in
+    let after-read-held : tie.After-read-held Inv-loop μ-loop = search in
+    let in-loop : tie.In-loop Inv-loop μ-loop = search in
+    let at-loop : tie.At-loop Inv-loop μ-loop = search in
+    let start = begin at-loop in (
+      start .pre .1,
+      part-inside _ _ _ _ _ _ (start .pre .0) (at-loop .loop .inv) (in-loop .loop-test .taken) (after-read-held .read-held .ensures)
+          (after-source-at .source-at .ensures),
+    )
 
 returns : tie.Need-returns Inv-loop μ-loop
-returns c = seek-found _ _ _ _ _ _ (c .before .before .before .before .before .before .before .before .before .before .before .before .before .before .pre .0) (c .before .before .before .before .before .before .before .loop .inv) (c .before .before .before .before .before .before .loop-test .taken) (c .before .before .before .before .before .read-held .ensures) (c .before .before .before .before .source-at .ensures) (c .before .before .read-header .ensures) (c .before .stores-one .ensures) (c .if1 .taken)
+returns c =
+    let after-stores-one : tie.After-stores-one Inv-loop μ-loop = search in
+    let after-read-header : tie.After-read-header Inv-loop μ-loop = search in
+    let after-source-at : tie.After-source-at Inv-loop μ-loop = search in
+    let after-read-held : tie.After-read-held Inv-loop μ-loop = search in
+    let in-loop : tie.In-loop Inv-loop μ-loop = search in
+    let at-loop : tie.At-loop Inv-loop μ-loop = search in
+    let start = begin at-loop in
+    seek-found _ _ _ _ _ _ (start .pre .0) (at-loop .loop .inv) (in-loop .loop-test .taken) (after-read-held .read-held .ensures)
+    (after-source-at .source-at .ensures) (after-read-header .read-header .ensures) (after-stores-one .stores-one .ensures) (c .if1 .taken)
 
 add-j : tie.Need-add-j Inv-loop μ-loop
-add-j c = let a = c .before .before .before .before .before .before .loop-test .taken in let b = c .before .before .before .before .before .before .before .before .before .before .before .before .before .before .fits .h .fits in omega arith
+add-j c =
+    let in-loop : tie.In-loop Inv-loop μ-loop = search in
+    let at-loop : tie.At-loop Inv-loop μ-loop = search in
+    let start = begin at-loop in
+    let a = in-loop .loop-test .taken in let b = start .fits .h .fits in omega arith
 
 loop-again : tie.Need-loop-again Inv-loop μ-loop
-loop-again c = seek-on _ _ _ _ _ _ (c .before .before .before .before .before .before .before .before .before .before .before .before .before .before .pre .0) (c .before .before .before .before .before .before .before .loop .inv) (c .before .before .before .before .before .before .loop-test .taken) (c .before .before .before .before .before .read-held .ensures) (c .before .before .before .before .source-at .ensures) (c .before .before .read-header .ensures) (c .before .stores-one .ensures) (c .if1 .left)
+loop-again c =
+    let after-stores-one : tie.After-stores-one Inv-loop μ-loop = search in
+    let after-read-header : tie.After-read-header Inv-loop μ-loop = search in
+    let after-source-at : tie.After-source-at Inv-loop μ-loop = search in
+    let after-read-held : tie.After-read-held Inv-loop μ-loop = search in
+    let in-loop : tie.In-loop Inv-loop μ-loop = search in
+    let at-loop : tie.At-loop Inv-loop μ-loop = search in
+    let start = begin at-loop in
+    seek-on _ _ _ _ _ _ (start .pre .0) (at-loop .loop .inv) (in-loop .loop-test .taken) (after-read-held .read-held .ensures)
+    (after-source-at .source-at .ensures) (after-read-header .read-header .ensures) (after-stores-one .stores-one .ensures) (c .if1 .left)
 
 returns-2 : tie.Need-returns-2 Inv-loop μ-loop
-returns-2 c = seek-end _ _ _ _ _ _ (c .before .before .before .before .before .before .before .before .pre .0) (c .before .loop .inv) (c .loop-test .left)
+returns-2 c =
+    let at-loop : tie.At-loop Inv-loop μ-loop = search in
+    let start : tie.Start Inv-loop μ-loop = search in
+    seek-end _ _ _ _ _ _ (start .pre .0) (at-loop .loop .inv) (c .loop-test .left)
 
 pub stores-some-spec : {M : Type 1} → statement M
 stores-some-spec =
