@@ -4,16 +4,36 @@ use Rattle.recorder.proofs.held_ok.Statement.{statement}
 use Rattle.recorder.proofs.held_ok.Tie as tie
 
 returns : tie.Need-returns
-returns c = held-no _ _ (c .before .before .before .before .before .before .before .pre .is) (c .before .before .is-finished .ensures) (c .before .counts-fit .ensures) (c .if1 .taken)
+returns c =
+    let after-counts-fit : tie.After-counts-fit = search in
+    let after-is-finished : tie.After-is-finished = search in
+    let start : tie.Start = search in
+    held-no _ _ (start .pre .is) (after-is-finished .is-finished .ensures) (after-counts-fit .counts-fit .ensures) (c .if1 .taken)
 
 stretch-ok-requires : tie.Need-stretch-ok-requires
-stretch-ok-requires c κs = long-by (c .before .before .before .before .before .before .before .before .pre) _ (c .before .before .counts-fit .ensures) (c .before .if1 .left)
+stretch-ok-requires c κs =
+    let else1 : tie.Else1 = search in
+    let after-counts-fit : tie.After-counts-fit = search in
+    let start : tie.Start = search in
+    long-by (start .pre) _ (after-counts-fit .counts-fit .ensures) (else1 .if1 .left)
 
 check-kinds-requires : tie.Need-check-kinds-requires
-check-kinds-requires c κs = long-by (c .before .before .before .before .before .before .before .before .before .pre) _ (c .before .before .before .counts-fit .ensures) (c .before .before .if1 .left) .parts
+check-kinds-requires c κs =
+    let else1 : tie.Else1 = search in
+    let after-counts-fit : tie.After-counts-fit = search in
+    let start : tie.Start = search in
+    long-by (start .pre) _ (after-counts-fit .counts-fit .ensures) (else1 .if1 .left) .parts
 
 returns-2 : tie.Need-returns-2
-returns-2 c = held-yes _ _ (c .before .before .before .before .before .before .before .before .before .before .before .pre .is) (c .before .before .before .before .before .before .is-finished .ensures) (c .before .before .before .before .before .counts-fit .ensures) (c .before .before .before .before .if1 .left) ((c .before .before .stretch-ok .ensures) _) (c .before .check-kinds .ensures) (c .and .ensures)
+returns-2 c =
+    let after-check-kinds : tie.After-check-kinds = search in
+    let after-stretch-ok : tie.After-stretch-ok = search in
+    let else1 : tie.Else1 = search in
+    let after-counts-fit : tie.After-counts-fit = search in
+    let after-is-finished : tie.After-is-finished = search in
+    let start : tie.Start = search in
+    held-yes _ _ (start .pre .is) (after-is-finished .is-finished .ensures) (after-counts-fit .counts-fit .ensures) (else1 .if1 .left)
+    ((after-stretch-ok .stretch-ok .ensures) _) (after-check-kinds .check-kinds .ensures) (c .and .ensures)
 
 pub held-ok-spec : {M : Type 1} → statement M
 held-ok-spec =
