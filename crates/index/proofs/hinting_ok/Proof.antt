@@ -5,16 +5,42 @@ use Rattle.index.proofs.hinting_ok.Statement.{statement}
 use Rattle.index.proofs.hinting_ok.Tie as tie
 
 returns : tie.Need-returns
-returns c = hinting-no _ _ _ (c .before .hint-counts .ensures) (c .if1 .taken)
+returns c =
+    let after-hint-counts : tie.After-hint-counts = search in
+    hinting-no _ _ _ (after-hint-counts .hint-counts .ensures) (c .if1 .taken)
 
 check-hints-requires : tie.Need-check-hints-requires
-check-hints-requires c κs = hints-long (c .before .before .before .before .before .before .before .before .before .before .args .x) _ _ (c .before .before .before .before .before .before .before .before .before .before .pre) (c .before .before .before .before .before .before .before .hint-counts .ensures) (c .before .before .before .before .before .before .if1 .left) .hints
+check-hints-requires c κs =
+    let else1 : tie.Else1 = search in
+    let after-hint-counts : tie.After-hint-counts = search in
+    let start : tie.Start = search in
+    hints-long (start .args .x) _ _ (start .pre) (after-hint-counts .hint-counts .ensures) (else1 .if1 .left) .hints
 
 check-confirmations-requires : tie.Need-check-confirmations-requires
-check-confirmations-requires c κs = hints-long (c .before .before .before .before .before .before .before .before .before .before .before .args .x) _ _ (c .before .before .before .before .before .before .before .before .before .before .before .pre) (c .before .before .before .before .before .before .before .before .hint-counts .ensures) (c .before .before .before .before .before .before .before .if1 .left) .confirmed
+check-confirmations-requires c κs =
+    let else1 : tie.Else1 = search in
+    let after-hint-counts : tie.After-hint-counts = search in
+    let start : tie.Start = search in
+    hints-long (start .args .x) _ _ (start .pre) (after-hint-counts .hint-counts .ensures) (else1 .if1 .left) .confirmed
 
 returns-2 : tie.Need-returns-2
-returns-2 c = rw ((c .and2 .ensures), (c .before .and .ensures), (c .before .before .before .before .or .ensures), (c .before .before .before .check-hints .ensures), (c .before .before .check-confirmations .ensures), (c .before .before .before .before .before .is-stated .ensures)) (hinting-yes (c .before .before .before .before .before .before .before .before .before .before .before .before .before .before .args .x) _ _ (c .before .before .before .before .before .before .before .before .before .before .before .hint-counts .ensures) (c .before .before .before .before .before .before .before .before .before .before .if1 .left))
+returns-2 c =
+    let after-and : tie.After-and = search in
+    let after-check-confirmations : tie.After-check-confirmations = search in
+    let after-check-hints : tie.After-check-hints = search in
+    let after-or : tie.After-or = search in
+    let after-is-stated : tie.After-is-stated = search in
+    let else1 : tie.Else1 = search in
+    let after-hint-counts : tie.After-hint-counts = search in
+    let start : tie.Start = search in
+    rw (
+      (c .and2 .ensures),
+      (after-and .and .ensures),
+      (after-or .or .ensures),
+      (after-check-hints .check-hints .ensures),
+      (after-check-confirmations .check-confirmations .ensures),
+      (after-is-stated .is-stated .ensures),
+    ) (hinting-yes (start .args .x) _ _ (after-hint-counts .hint-counts .ensures) (else1 .if1 .left))
 
 pub hinting-ok-spec : {M : Type 1} → statement M
 hinting-ok-spec =
