@@ -4,45 +4,63 @@
 #[derive(Clone, Copy)]
 pub struct Area {
     pub slot: u8,
+    pub channels: u8,
     pub key_start: u32,
     pub key_end: u32,
-    pub channels: u8,
     pub sectors: u64,
     pub start: u64,
     pub end: u64,
 }
 
-/// A file and what its tables take.
+/// The bytes of a held frame.
+pub const FRAME: u32 = 65_536;
+/// The first sector of every area here.
+pub const START: u32 = 1000;
+
+/// A list, before it is a file.
+#[derive(Clone)]
 pub struct List {
-    pub name: &'static str,
-    pub area: Area,
+    pub boundaries: u32,
     pub interval: u32,
-    pub file: Vec<u8>,
-    pub budget: u64,
-    pub most: u64,
+    /// How many checkpoints it has.
     pub checkpoints: u32,
-    pub frames: u32,
-    pub hints: u32,
+    /// The checkpoints with a held frame, every tenth at most.
+    pub held: Vec<u32>,
+    pub budget: u64,
+    pub most: u32,
+    pub hints: Vec<(u32, u32)>,
+    pub confirmed: Vec<(u32, u32, u64)>,
+    pub fingerprint: Option<u64>,
 }
 
-impl List {
-    pub fn boundaries(&self) -> usize {
-        (self.area.end - self.area.start).div_ceil(u64::from(self.interval)) as usize
+/// A list of all of `n` boundaries, and nothing else.
+pub fn list(n: u32, interval: u32) -> List {
+    List {
+        boundaries: n,
+        interval,
+        checkpoints: n,
+        held: Vec::new(),
+        budget: 0,
+        most: 2048,
+        hints: Vec::new(),
+        confirmed: Vec::new(),
+        fingerprint: None,
     }
 }
 
-/// An area of `sectors` audio sectors from 1,000 on.
-pub fn area(sectors: u64) -> Area {
-    let end = 1000 + sectors;
-    Area {
-        slot: 0,
-        key_start: 1000,
-        key_end: end as u32 - 1,
-        channels: 2,
-        sectors: end + 100,
-        start: 1000,
-        end,
-    }
+/// Frame numbers that rise by 1 to 15.
+fn number(i: u32) -> u32 {
+    8 * i + (i.wrapping_mul(0x9e37_79b9) >> 29)
+}
+
+/// The hint numbered `i`: every third sector.
+pub fn hint(i: u32) -> (u32, u32) {
+    (START + 3 * i, number(i))
+}
+
+/// The confirmation numbered `i`.
+pub fn confirmation(i: u32) -> (u32, u32, u64) {
+    (START + 3 * i, number(i), u64::from(i) * 0x9e37_79b9)
 }
 
 fn u32s(out: &mut Vec<u8>, values: &[u32]) {
@@ -51,42 +69,88 @@ fn u32s(out: &mut Vec<u8>, values: &[u32]) {
     }
 }
 
-/// A list of `n` checkpoints and an interval of 8, with `hints` hints, and `frames` held frames of 65,536 bytes.
-pub fn list(name: &'static str, n: u32, hints: u32, frames: u32) -> List {
-    let interval = 8u32;
-    let area = area(u64::from(n) * u64::from(interval));
-    let budget = u64::from(frames) * 65_536;
-    // A held frame starts 40 sectors before every tenth checkpoint from the tenth on.
-    let held = |j: u32| j >= 10 && j % 10 == 0 && j / 10 <= frames;
-    let version = if hints > 0 { 2u32 } else { 1 };
-    let mut b = b"SBSEEKIX".to_vec();
-    u32s(&mut b, &[version]);
-    b.extend_from_slice(&[area.slot, area.channels, 0, 0]);
-    u32s(&mut b, &[area.key_start, area.key_end]);
-    b.extend_from_slice(&area.sectors.to_le_bytes());
-    u32s(&mut b, &[interval, n, frames, frames, 0, 0]);
-    b.extend_from_slice(&budget.to_le_bytes());
-    b.extend_from_slice(&[0; 16]);
-    for j in 0..n {
-        u32s(&mut b, &[j, if held(j) { 40 } else { 0 }]);
-        b.extend_from_slice(&0u64.to_le_bytes());
-        b.extend_from_slice(&(u64::from(j) * 0x9e37_79b9).to_le_bytes());
+impl List {
+    pub fn area(&self) -> Area {
+        let start = u64::from(START);
+        let end = start + u64::from(self.boundaries) * u64::from(self.interval);
+        Area { slot: 0, channels: 2, key_start: START, key_end: end as u32 - 1, sectors: end + 100, start, end }
     }
-    for i in 1..=frames {
-        u32s(&mut b, &[1000 + 10 * i * interval - 40, 65_536]);
-        b.extend((0..65_536u32).map(|k| (k * i) as u8));
-    }
-    for i in 1..=frames {
-        u32s(&mut b, &[10 * i, i - 1, 65_536, 10 * i, 1, 0]);
-    }
-    if version == 2 {
-        b.extend_from_slice(&0u64.to_le_bytes());
-        u32s(&mut b, &[8, 2048, hints, 0]);
-        for i in 0..hints {
-            u32s(&mut b, &[1000 + 3 * i, 3 * i]);
+
+    fn version(&self) -> u32 {
+        match (self.confirmed.is_empty(), self.fingerprint.is_none() && self.hints.is_empty() && self.most == 2048) {
+            (false, _) => 3,
+            (true, false) => 2,
+            (true, true) => 1,
         }
     }
-    let sum = crate::plain::fnv(&b);
-    b.extend_from_slice(&sum.to_le_bytes());
-    List { name, area, interval, file: b, budget, most: 2048, checkpoints: n, frames, hints }
+
+    pub fn file(&self) -> Vec<u8> {
+        let (area, version, held) = (self.area(), self.version(), self.held.len() as u32);
+        let mut b = b"SBSEEKIX".to_vec();
+        u32s(&mut b, &[version]);
+        b.extend_from_slice(&[area.slot, area.channels, u8::from(self.fingerprint.is_some()) << 1, 0]);
+        u32s(&mut b, &[area.key_start, area.key_end]);
+        b.extend_from_slice(&area.sectors.to_le_bytes());
+        u32s(&mut b, &[self.interval, self.checkpoints, held, held, 0, 0]);
+        b.extend_from_slice(&self.budget.to_le_bytes());
+        b.extend_from_slice(&[0; 16]);
+        self.put_checkpoints(&mut b);
+        self.put_frames(&mut b);
+        self.put_hints(&mut b, version);
+        let sum = crate::plain::fnv(&b);
+        b.extend_from_slice(&sum.to_le_bytes());
+        b
+    }
+
+    /// A frame starts 40 sectors before every tenth checkpoint.
+    fn put_checkpoints(&self, b: &mut Vec<u8>) {
+        for j in 0..self.checkpoints {
+            let back = if j % 10 == 0 && j * self.interval >= 40 { 40 } else { 0 };
+            u32s(b, &[j, back]);
+            b.extend_from_slice(&0u64.to_le_bytes());
+            b.extend_from_slice(&(u64::from(j) * 0x9e37_79b9).to_le_bytes());
+        }
+    }
+
+    fn put_frames(&self, b: &mut Vec<u8>) {
+        for &j in &self.held {
+            u32s(b, &[START + j * self.interval - 40, FRAME]);
+            b.extend((0..FRAME).map(|k| k.wrapping_mul(j) as u8));
+        }
+        for (i, &j) in self.held.iter().enumerate() {
+            u32s(b, &[j, i as u32, FRAME, j, 1, 0]);
+        }
+    }
+
+    fn put_hints(&self, b: &mut Vec<u8>, version: u32) {
+        if version > 1 {
+            b.extend_from_slice(&self.fingerprint.unwrap_or(0).to_le_bytes());
+            u32s(b, &[8, self.most, self.hints.len() as u32, 0]);
+            for &(lsn, number) in &self.hints {
+                u32s(b, &[lsn, number]);
+            }
+        }
+        if version > 2 {
+            u32s(b, &[self.confirmed.len() as u32, 0]);
+            for &(lsn, threshold, digest) in &self.confirmed {
+                u32s(b, &[lsn, threshold]);
+                b.extend_from_slice(&digest.to_le_bytes());
+            }
+        }
+    }
+
+    /// The original's index of the file.
+    pub fn theirs(&self) -> oracle::seek::AreaIndex {
+        theirs(&self.area(), &self.file())
+    }
+}
+
+/// The original's area.
+pub fn their_area(a: &Area) -> oracle::toc::Area {
+    oracle::toc::Area::new(oracle::Slot::TwoChannel, a.key_start, a.key_end, a.channels)
+}
+
+/// The original's index of a file.
+pub fn theirs(a: &Area, file: &[u8]) -> oracle::seek::AreaIndex {
+    oracle::seek::AreaIndex::from_bytes(&their_area(a), a.sectors, file, usize::MAX).expect("the original refuses a file")
 }

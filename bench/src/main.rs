@@ -1,68 +1,55 @@
-//! Times the proved functions against the same in plain Rust: one function for each row.
+//! Times every call of the player's library beside the original Rust: one row for each case.
+//! `--quick` takes about a minute, `--markdown` writes the table of docs/SPEED.md, `--only WORD` takes the calls with this word in their name.
 
-mod compare;
+mod allocator;
+mod files;
+mod hints;
+mod limits;
 mod lists;
+mod merges;
 mod plain;
-mod sums;
+#[path = "../../bindings/rust/src/raw.rs"]
+mod raw;
+mod records;
+mod report;
+mod rounds;
+mod sectors;
 mod tables;
 
-use compare::compare;
-use std::hint::black_box;
+use report::Report;
+use rounds::Effort;
+use std::time::Duration;
+
+#[global_allocator]
+static COUNTING: allocator::Counting = allocator::Counting;
+
+fn options() -> Option<Report> {
+    let (mut quick, mut markdown, mut only) = (false, false, String::new());
+    let mut words = std::env::args().skip(1);
+    while let Some(w) = words.next() {
+        match w.as_str() {
+            "--quick" => quick = true,
+            "--markdown" => markdown = true,
+            "--only" => only = words.next()?,
+            _ => return None,
+        }
+    }
+    let effort = match quick {
+        true => Effort { row: Duration::from_millis(300), fewest: 3, most: 61 },
+        false => Effort { row: Duration::from_secs(5), fewest: 5, most: 101 },
+    };
+    Some(Report { effort, markdown, only })
+}
 
 fn main() {
-    fnv_agrees();
-    fnv(1 << 20, 4);
-    fnv(2048, 2000);
-    for list in [
-        lists::list("7,400 checkpoints, 2,048 hints", 7_400, 2_048, 0),
-        lists::list("475,000 checkpoints", 475_000, 0, 0),
-        lists::list("1 MiB of frame bytes", 1_000, 0, 16),
-    ] {
-        list_calls(&list);
-    }
-}
-
-/// Loading, saving and planning of one list, against the original Rust.
-fn list_calls(list: &lists::List) {
-    let slot = oracle::Slot::TwoChannel;
-    let a = list.area;
-    let area = oracle::toc::Area::new(slot, a.key_start, a.key_end, a.channels);
-    let theirs = || oracle::seek::AreaIndex::from_bytes(&area, a.sectors, &list.file, usize::MAX).expect("the original refuses");
-    let index = theirs();
-    let tables = std::cell::RefCell::new(tables::Tables::new(list));
-    assert_eq!(tables.borrow_mut().load(list), 0, "{}: refused", list.name);
-    assert_eq!(tables.borrow_mut().save(), list.file.len() as u64, "{}: not saved", list.name);
-    assert_eq!(tables.borrow().out, list.file, "{}: saved bytes differ", list.name);
-    assert_eq!(index.to_bytes(), list.file, "{}: the original's bytes differ", list.name);
-    println!("{}, {} bytes", list.name, list.file.len());
-    let calls = (4 << 20) / list.file.len() + 1;
-    compare("from_bytes", calls, || tables.borrow_mut().load(black_box(list)), || { black_box(theirs()); 0 });
-    compare("to_bytes", calls, || black_box(&tables).borrow_mut().save() as usize, || black_box(index.to_bytes()).len());
-    let frame = list.checkpoints / 2;
-    compare("plan", calls, || tables.borrow().jump(&a, black_box(frame)), || oracle::jump(&index, (a.start, a.end), black_box(frame)));
-}
-
-/// `n` bytes without a pattern, the same in every run.
-fn bytes(n: usize) -> Vec<u8> {
-    let mut x = 0x9e37_79b9_7f4a_7c15_u64;
-    let next = || {
-        x ^= x << 13;
-        x ^= x >> 7;
-        x ^= x << 17;
-        (x >> 32) as u8
+    let Some(report) = options() else {
+        eprintln!("bench/run [--quick] [--markdown] [--only WORD]");
+        std::process::exit(2);
     };
-    std::iter::repeat_with(next).take(n).collect()
-}
-
-/// The sums agree at every length to 4,096.
-fn fnv_agrees() {
-    let all = bytes(4096);
-    for n in 0..=all.len() {
-        assert_eq!(sums::fnv(&all[..n]), plain::fnv(&all[..n]), "fnv of {n} bytes");
-    }
-}
-
-fn fnv(n: usize, calls: usize) {
-    let s = bytes(n);
-    compare(&format!("fnv {n}"), calls, || sums::fnv(black_box(&s)), || plain::fnv(black_box(&s)));
+    report.names();
+    sectors::rows(&report);
+    files::rows(&report);
+    merges::rows(&report);
+    hints::rows(&report);
+    records::rows(&report);
 }

@@ -1,95 +1,276 @@
 //! Lent tables, and the calls of the player's library on them.
 
 use crate::lists::{Area, List};
+use crate::raw::{self, BLOCK};
 
-mod c {
-    #[allow(clippy::too_many_arguments)]
-    unsafe extern "C" {
-        pub fn seek_raw_load(
-            head: *mut u8, head_len: usize,
-            slot: u8, channels: u8, key_start: u32, key_end: u32, sectors: u64, start: u64, end: u64,
-            file: *const u8, file_len: usize, limit: u64,
-            t0: *mut u8, l0: usize, t1: *mut u8, l1: usize, t2: *mut u8, l2: usize, t3: *mut u8, l3: usize,
-            t4: *mut u8, l4: usize, t5: *mut u8, l5: usize, t6: *mut u8, l6: usize,
-        ) -> u32;
-        pub fn seek_raw_save(
-            head: *const u8, head_len: usize,
-            t0: *const u8, l0: usize, t1: *const u8, l1: usize, t2: *const u8, l2: usize, t3: *const u8, l3: usize,
-            t4: *const u8, l4: usize, t5: *const u8, l5: usize, t6: *const u8, l6: usize,
-            out: *mut u8, out_len: usize,
-        ) -> u64;
-        pub fn seek_raw_plan(
-            head: *const u8, head_len: usize, frame: u32, answer: *mut u8, answer_len: usize,
-            t0: *const u8, l0: usize, t1: *const u8, l1: usize, t2: *const u8, l2: usize, t3: *const u8, l3: usize,
-            t4: *const u8, l4: usize, t5: *const u8, l5: usize, t6: *const u8, l6: usize,
-        ) -> u32;
-    }
+/// A call over seven tables: what stands before them, the tables, what stands behind.
+macro_rules! seven {
+    ($f:ident ($($before:expr),*) $tables:expr, ($($after:expr),*)) => {{
+        let [t0, t1, t2, t3, t4, t5, t6] = &mut $tables;
+        // Safety: each pointer is that of a slice of the length behind it, and no two overlap.
+        unsafe {
+            raw::$f(
+                $($before,)* t0.as_mut_ptr(), t0.len(), t1.as_mut_ptr(), t1.len(), t2.as_mut_ptr(), t2.len(), t3.as_mut_ptr(), t3.len(),
+                t4.as_mut_ptr(), t4.len(), t5.as_mut_ptr(), t5.len(), t6.as_mut_ptr(), t6.len() $(, $after)*
+            )
+        }
+    }};
 }
 
-/// The bytes of a block.
-const BLOCK: usize = 192;
+/// A word of a block.
+pub fn word(block: &[u8; BLOCK], i: usize) -> u64 {
+    u64::from_le_bytes(std::array::from_fn(|k| block[8 * i + k]))
+}
 
-/// The seven tables of a list, as long as question 3 asks, and an output.
+/// A list: its head and its seven tables, as long as question 3 asks.
 pub struct Tables {
-    head: [u8; BLOCK],
-    tables: [Vec<u8>; 7],
-    pub out: Vec<u8>,
+    pub head: [u8; BLOCK],
+    pub tables: [Vec<u8>; 7],
+}
+
+/// How many bytes each table of a list needs.
+fn sizes(list: &List) -> [usize; 7] {
+    let (n, most) = (list.boundaries as usize, list.most as usize);
+    [24 * n, 8 * n, list.budget as usize, 24 * n, 4 * 4096, 8 * (most + 65_536), 16 * (most + 1)]
 }
 
 impl Tables {
     pub fn new(list: &List) -> Tables {
-        let n = list.boundaries();
-        let hints = list.most as usize + 65_536;
-        let sizes = [24 * n, 8 * n, list.budget as usize, 24 * n, 4 * 4096, 8 * hints, 16 * (list.most as usize + 1)];
-        Tables { head: [0; BLOCK], tables: sizes.map(|s| vec![0; s]), out: vec![0; list.file.len()] }
+        Tables { head: [0; BLOCK], tables: sizes(list).map(|s| vec![0; s]) }
     }
 
-    /// The file into the tables; its refusal number.
-    pub fn load(&mut self, list: &List) -> u32 {
-        let Area { slot, key_start, key_end, channels, sectors, start, end } = list.area;
-        let [t0, t1, t2, t3, t4, t5, t6] = &mut self.tables;
-        // Safety: each pointer is that of a slice of the length behind it, and no two overlap.
-        unsafe {
-            c::seek_raw_load(
-                self.head.as_mut_ptr(), BLOCK, slot, channels, key_start, key_end, sectors, start, end, list.file.as_ptr(), list.file.len(), u64::MAX,
-                t0.as_mut_ptr(), t0.len(), t1.as_mut_ptr(), t1.len(), t2.as_mut_ptr(), t2.len(), t3.as_mut_ptr(), t3.len(),
-                t4.as_mut_ptr(), t4.len(), t5.as_mut_ptr(), t5.len(), t6.as_mut_ptr(), t6.len(),
-            )
+    /// A list's file, loaded.
+    pub fn loaded(list: &List) -> Tables {
+        let mut t = Tables::new(list);
+        assert_eq!(t.load(&list.area(), &list.file()), 0, "a file is refused");
+        t
+    }
+
+    /// How many bytes of each table hold records.
+    pub fn used(&self) -> [usize; 7] {
+        let count = |i: usize| word(&self.head, i) as usize;
+        let frames = &self.tables[1][..8 * count(12)];
+        let length = |f: &[u8]| u32::from_le_bytes([f[4], f[5], f[6], f[7]]) as usize;
+        let store = frames.chunks_exact(8).map(length).sum();
+        [24 * count(11), 8 * count(12), store, 24 * count(13), 4 * count(14), 8 * count(15), 16 * count(16)]
+    }
+
+    /// The bytes that question 4 reads.
+    pub fn read(&self) -> usize {
+        let used = self.used();
+        used.iter().sum::<usize>() - used[2]
+    }
+
+    /// Makes this list the one of `from`, whose tables are as long.
+    pub fn restore(&mut self, from: &Tables) {
+        self.head = from.head;
+        for ((to, t), n) in self.tables.iter_mut().zip(&from.tables).zip(from.used()) {
+            to[..n].copy_from_slice(&t[..n]);
         }
     }
 
-    /// The tables into the output; the length saved, or a refusal number.
-    pub fn save(&mut self) -> u64 {
-        let [t0, t1, t2, t3, t4, t5, t6] = &self.tables;
-        // Safety: as above.
-        unsafe {
-            c::seek_raw_save(
-                self.head.as_ptr(), BLOCK,
-                t0.as_ptr(), t0.len(), t1.as_ptr(), t1.len(), t2.as_ptr(), t2.len(), t3.as_ptr(), t3.len(),
-                t4.as_ptr(), t4.len(), t5.as_ptr(), t5.len(), t6.as_ptr(), t6.len(),
-                self.out.as_mut_ptr(), self.out.len(),
-            )
-        }
+    pub fn copy(&self) -> Tables {
+        Tables { head: self.head, tables: self.tables.clone() }
     }
 
-    /// Where a jump to a frame starts.
-    pub fn jump(&self, area: &Area, frame: u32) -> u64 {
-        let [t0, t1, t2, t3, t4, t5, t6] = &self.tables;
+    pub fn create(&mut self, a: &Area, interval: u32, budget: u64, spacing: u32, most: u32) -> u32 {
+        let Area { slot, channels, key_start, key_end, sectors, start, end } = *a;
+        seven!(seek_raw_new(self.head.as_mut_ptr(), BLOCK, slot, channels, key_start, key_end, sectors, start, end, interval, budget, spacing, most)
+            self.tables, ())
+    }
+
+    pub fn load(&mut self, a: &Area, file: &[u8]) -> u32 {
+        let Area { slot, channels, key_start, key_end, sectors, start, end } = *a;
+        seven!(seek_raw_load(self.head.as_mut_ptr(), BLOCK, slot, channels, key_start, key_end, sectors, start, end, file.as_ptr(), file.len(), u64::MAX)
+            self.tables, ())
+    }
+
+    pub fn saved_length(&mut self) -> u64 {
+        seven!(seek_raw_saved_length(self.head.as_ptr(), BLOCK) self.tables, ())
+    }
+
+    pub fn save(&mut self, out: &mut [u8]) -> u64 {
+        seven!(seek_raw_save(self.head.as_ptr(), BLOCK) self.tables, (out.as_mut_ptr(), out.len()))
+    }
+
+    /// The saved file.
+    pub fn file(&mut self) -> Vec<u8> {
+        let mut out = vec![0; self.saved_length() as usize];
+        assert_eq!(self.save(&mut out), out.len() as u64, "a list is not saved");
+        out
+    }
+
+    pub fn plan(&mut self, frame: u32, answer: &mut [u8; BLOCK]) -> u32 {
+        seven!(seek_raw_plan(self.head.as_ptr(), BLOCK, frame, answer.as_mut_ptr(), BLOCK) self.tables, ())
+    }
+
+    /// The questions 1 to 4, as `plan` asks them.
+    pub fn four(&mut self) {
+        assert_eq!(self.plan(0, &mut [0; BLOCK]), 0, "a list is refused");
+    }
+
+    /// Where a jump to a frame starts: an LSN.
+    pub fn jump(&mut self, frame: u32) -> u64 {
         let mut answer = [0; BLOCK];
-        // Safety: as above.
-        let number = unsafe {
-            c::seek_raw_plan(
-                self.head.as_ptr(), BLOCK, frame, answer.as_mut_ptr(), BLOCK,
-                t0.as_ptr(), t0.len(), t1.as_ptr(), t1.len(), t2.as_ptr(), t2.len(), t3.as_ptr(), t3.len(),
-                t4.as_ptr(), t4.len(), t5.as_ptr(), t5.len(), t6.as_ptr(), t6.len(),
-            )
-        };
-        assert_eq!(number, 0, "plan refuses");
-        let word = |i: usize| u64::from_le_bytes(std::array::from_fn(|k| answer[8 * i + k]));
-        match word(0) {
-            0 => area.start,
-            1 => word(2),
-            _ => area.end,
+        assert_eq!(self.plan(frame, &mut answer), 0, "a list is refused");
+        match word(&answer, 0) {
+            0 => word(&self.head, 5),
+            1 => word(&answer, 2),
+            _ => word(&self.head, 6),
         }
     }
+
+    pub fn fingerprint(&mut self, value: u64) -> u32 {
+        seven!(seek_raw_fingerprint(self.head.as_mut_ptr(), BLOCK, value) self.tables, ())
+    }
+
+    pub fn merge(&mut self, other: &Tables) -> u32 {
+        let [u0, u1, u2, u3, u4, u5, u6] = &other.tables;
+        seven!(seek_raw_merge(self.head.as_mut_ptr(), BLOCK, other.head.as_ptr(), BLOCK) self.tables, (
+            u0.as_ptr(), u0.len(), u1.as_ptr(), u1.len(), u2.as_ptr(), u2.len(), u3.as_ptr(), u3.len(), u4.as_ptr(), u4.len(), u5.as_ptr(), u5.len(),
+            u6.as_ptr(), u6.len()))
+    }
+
+    pub fn adds(&mut self, other: &Tables, answer: &mut [u8; BLOCK]) -> u32 {
+        let [u0, u1, u2, u3, u4, u5, u6] = &other.tables;
+        seven!(seek_raw_adds(self.head.as_ptr(), BLOCK, other.head.as_ptr(), BLOCK, answer.as_mut_ptr(), BLOCK) self.tables, (
+            u0.as_ptr(), u0.len(), u1.as_ptr(), u1.len(), u2.as_ptr(), u2.len(), u3.as_ptr(), u3.len(), u4.as_ptr(), u4.len(), u5.as_ptr(), u5.len(),
+            u6.as_ptr(), u6.len()))
+    }
+
+    /// Hints of 8 bytes each.
+    pub fn add_hints(&mut self, list: &[u8]) -> u32 {
+        seven!(seek_raw_add_hints(self.head.as_mut_ptr(), BLOCK, list.as_ptr(), list.len()) self.tables, ())
+    }
+
+    pub fn keep_confirmation(&mut self, (lsn, threshold, digest): (u32, u32, u64), answer: &mut [u8; BLOCK]) -> u32 {
+        seven!(seek_raw_keep_confirmation(self.head.as_mut_ptr(), BLOCK, u64::from(lsn), threshold, digest, answer.as_mut_ptr(), BLOCK) self.tables, ())
+    }
+
+    pub fn hint(&mut self, first: u32, end: u32, playtime: u32, answer: &mut [u8; BLOCK]) -> u32 {
+        seven!(seek_raw_hint(self.head.as_ptr(), BLOCK, first, end, playtime, answer.as_mut_ptr(), BLOCK) self.tables, ())
+    }
+
+    pub fn recorder(&mut self, from: u64, block: &mut [u8; BLOCK]) -> u32 {
+        seven!(seek_raw_recorder(self.head.as_ptr(), BLOCK, from, block.as_mut_ptr(), BLOCK) self.tables, ())
+    }
+
+    pub fn hint_recorder(&mut self, block: &mut [u8; BLOCK]) -> u32 {
+        seven!(seek_raw_hint_recorder(self.head.as_ptr(), BLOCK, block.as_mut_ptr(), BLOCK) self.tables, ())
+    }
+
+    pub fn absorb(&mut self, r: &mut Recorder, image: u64) -> u32 {
+        let [u0, u1, u2, u3] = &r.tables;
+        seven!(seek_raw_absorb(self.head.as_mut_ptr(), BLOCK, r.block.as_mut_ptr(), BLOCK, 1, image, [].as_ptr(), 0) self.tables, (
+            u0.as_ptr(), u0.len(), u1.as_ptr(), u1.len(), u2.as_ptr(), u2.len(), u3.as_ptr(), u3.len()))
+    }
+}
+
+/// A recorder: its block and its four tables.
+pub struct Recorder {
+    pub block: [u8; BLOCK],
+    pub tables: [Vec<u8>; 4],
+}
+
+impl Recorder {
+    pub fn new(list: &List) -> Recorder {
+        let [a, b, c, d, ..] = sizes(list);
+        Recorder { block: [0; BLOCK], tables: [a, b, c, d].map(|s| vec![0; s]) }
+    }
+
+    /// A checkpoint at `lsn`, with the frame under assembly: the sector that it starts in, and its bytes.
+    pub fn record(&mut self, lsn: u64, threshold: u32, frame: Option<(u64, &[u8])>, sector: &[u8]) -> u32 {
+        let (mark, (start, bytes)) = (u8::from(frame.is_some()), frame.unwrap_or((0, &[])));
+        let [t0, t1, t2, t3] = &mut self.tables;
+        // Safety: as above.
+        unsafe {
+            raw::seek_raw_record(
+                self.block.as_mut_ptr(), BLOCK, lsn, threshold, 0, mark, start, threshold, 0, 3, bytes.as_ptr(), bytes.len(), sector.as_ptr(),
+                sector.len(), t0.as_mut_ptr(), t0.len(), t1.as_mut_ptr(), t1.len(), t2.as_mut_ptr(), t2.len(), t3.as_mut_ptr(), t3.len(),
+            )
+        }
+    }
+
+    /// The questions 1 to 4: a record that is not due, refused with 5.
+    pub fn four(&mut self) {
+        assert_eq!(self.record(0, 0, None, &[]), 5, "a record that is not due");
+    }
+
+    pub fn finish(&mut self, threshold: u32, malformed: u64) -> u32 {
+        let [t0, t1, t2, t3] = &mut self.tables;
+        // Safety: as above.
+        unsafe {
+            raw::seek_raw_finish(
+                self.block.as_mut_ptr(), BLOCK, threshold, malformed, t0.as_ptr(), t0.len(), t1.as_ptr(), t1.len(), t2.as_ptr(), t2.len(), t3.as_ptr(),
+                t3.len(),
+            )
+        }
+    }
+
+    pub fn copy(&self) -> Recorder {
+        Recorder { block: self.block, tables: self.tables.clone() }
+    }
+}
+
+/// A hint recorder: its block and its list.
+pub struct Hints {
+    pub block: [u8; BLOCK],
+    pub list: Vec<u8>,
+}
+
+impl Hints {
+    pub fn new() -> Hints {
+        Hints { block: [0; BLOCK], list: vec![0; 8 * 65_536] }
+    }
+
+    pub fn see(&mut self, lsn: u64, sector: &[u8]) -> u32 {
+        // Safety: as above.
+        unsafe { raw::seek_raw_see(self.block.as_mut_ptr(), BLOCK, lsn, sector.as_ptr(), sector.len(), self.list.as_mut_ptr(), self.list.len()) }
+    }
+
+    pub fn flush(&mut self) -> u32 {
+        // Safety: as above.
+        unsafe { raw::seek_raw_flush(self.block.as_mut_ptr(), BLOCK, self.list.as_mut_ptr(), self.list.len()) }
+    }
+
+    pub fn take(&mut self, answer: &mut [u8; BLOCK]) -> u32 {
+        // Safety: as above.
+        unsafe { raw::seek_raw_take(self.block.as_mut_ptr(), BLOCK, answer.as_mut_ptr(), BLOCK, self.list.as_ptr(), self.list.len()) }
+    }
+}
+
+/// The sum of bytes.
+pub fn sum(bytes: &[u8]) -> u64 {
+    // Safety: as above.
+    unsafe { raw::seek_raw_sum(bytes.as_ptr(), bytes.len()) }
+}
+
+/// The frame number of a sector's first record.
+pub fn first_record(sector: &[u8]) -> Option<u32> {
+    let mut answer = [0; BLOCK];
+    // Safety: as above.
+    unsafe { raw::seek_raw_first_record(sector.as_ptr(), sector.len(), answer.as_mut_ptr(), BLOCK) };
+    (word(&answer, 0) != 0).then(|| word(&answer, 1) as u32)
+}
+
+/// The lengths of the tables of an area, as the library says them.
+pub fn area_sizes(a: &Area, interval: u32, budget: u64, most: u32, answer: &mut [u8; BLOCK]) -> u32 {
+    let Area { slot, channels, key_start, key_end, sectors, start, end } = *a;
+    // Safety: as above.
+    unsafe { raw::seek_raw_sizes(slot, channels, key_start, key_end, sectors, start, end, interval, budget, most, answer.as_mut_ptr(), BLOCK) }
+}
+
+/// The lengths of the tables of a file.
+pub fn file_sizes(a: &Area, file: &[u8], answer: &mut [u8; BLOCK]) -> u32 {
+    let Area { slot, channels, key_start, key_end, sectors, start, end } = *a;
+    // Safety: as above.
+    unsafe {
+        raw::seek_raw_file_sizes(slot, channels, key_start, key_end, sectors, start, end, file.as_ptr(), file.len(), u64::MAX, answer.as_mut_ptr(), BLOCK)
+    }
+}
+
+/// The area that a file says it is of.
+pub fn file_area(file: &[u8], answer: &mut [u8; BLOCK]) -> u32 {
+    // Safety: as above.
+    unsafe { raw::seek_raw_file_area(file.as_ptr(), file.len(), answer.as_mut_ptr(), BLOCK) }
 }

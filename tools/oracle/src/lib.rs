@@ -1,6 +1,7 @@
 //! The original seek index behind a script of calls: see tools/README.md. The benches use it too.
 #![allow(dead_code, deprecated, private_interfaces)]
 
+pub mod calls;
 mod damage;
 mod driver;
 mod file;

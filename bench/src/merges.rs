@@ -1,0 +1,93 @@
+//! merge and adds.
+
+use crate::limits::Work;
+use crate::lists::{List, confirmation, hint, list};
+use crate::raw::BLOCK;
+use crate::report::{Report, Row};
+use crate::rounds::{fresh, repeat, restored};
+use crate::tables::Tables;
+use oracle::calls;
+
+pub fn rows(r: &Report) {
+    if r.wants("merge") || r.wants("adds") {
+        checkpoints(r);
+        confirmations(r, 4_096, 2_048);
+        confirmations(r, 65_536, 65_536);
+    }
+}
+
+fn hints(from: u32, n: u32) -> Vec<(u32, u32)> {
+    (from..from + n).map(hint).collect()
+}
+
+fn checkpoints(r: &Report) {
+    let full = List { hints: hints(0, 2_048), ..list(7_400, 64) };
+    let half = List { checkpoints: 3_700, hints: hints(1_024, 2_048), ..full.clone() };
+    let none = List { checkpoints: 0, hints: hints(4_096, 2_048), ..full.clone() };
+    both(r, "7,400 checkpoints, 2,048 hints: half known, hints thinned", &half, &full);
+    both(r, "7,400 checkpoints, 2,048 hints: nothing new", &full, &full);
+    both(r, "7,400 checkpoints, 2,048 hints: all new, hints thinned", &none, &full);
+    let room = |l: &List| List { most: 8_192, ..l.clone() };
+    both(r, "the same, half known, room for all hints", &room(&half), &room(&full));
+    both(r, "the same, all new, room for all hints", &room(&none), &room(&full));
+    let long = list(475_000, 1);
+    both(r, "475,000 checkpoints: half known", &List { checkpoints: 237_500, ..long.clone() }, &long);
+    both(r, "475,000 checkpoints: nothing new", &long, &long);
+    both(r, "475,000 checkpoints: all new", &List { checkpoints: 0, ..long.clone() }, &long);
+    let own = List { checkpoints: 500, held: (1..=16).map(|i| 10 * i).collect(), budget: 1 << 21, ..list(1_000, 64) };
+    let other = List { checkpoints: 1_000, held: (1..=16).map(|i| 500 + 10 * i).collect(), ..own.clone() };
+    both(r, "1 MiB of frame bytes each, all new", &own, &other);
+}
+
+/// Two lists of `n` confirmations, none common.
+fn confirmations(r: &Report, most: u32, n: u32) {
+    let with = |odd: u32| List { most, confirmed: (0..n).map(|i| confirmation(2 * i + odd)).collect(), fingerprint: Some(7), ..list(7_400, 64) };
+    both(r, &format!("{0} confirmations and {0}", crate::report::grouped(u64::from(n))), &with(0), &with(1));
+}
+
+fn both(r: &Report, case: &str, own: &List, other: &List) {
+    let (mut start, other_ours) = (Tables::loaded(own), Tables::loaded(other));
+    let (mut theirs, other_theirs) = (own.theirs(), other.theirs());
+    if own.fingerprint.is_some() {
+        assert!(start.fingerprint(7) == 0 && calls::fingerprint(&mut theirs, 7), "the fingerprint is refused");
+    }
+    let (mut ours, mut same) = (start.copy(), theirs.clone());
+    assert_eq!(ours.merge(&other_ours), 0, "{case}: refused");
+    assert!(same.merge(&other_theirs).is_ok(), "{case}: the original refuses");
+    assert_eq!(ours.file(), same.to_bytes(), "{case}: the merged lists differ");
+    let (a, b) = (start.used(), other_ours.used());
+    let common = a[0].min(b[0]);
+    let rest = b[0] - common;
+    let list_bytes = |u: [usize; 7]| u[5] + u[6];
+    let parts = if rest > 0 { b[1] + b[2] + b[3] } else { 0 };
+    let least = Work { sum: 0, read: start.read() + other_ours.read(), compare: common, copy: rest + parts + list_bytes(a) + list_bytes(b) };
+    if r.wants("merge") {
+        let (mut one, mut two) = (start.copy(), other_ours.copy());
+        let four = repeat(move || (one.four(), two.four()));
+        r.row(Row {
+            call: "merge",
+            case: case.to_string(),
+            ours: restored(ours, |t| t.restore(&start), |t| t.merge(&other_ours)),
+            theirs: Some(fresh(|| theirs.clone(), |ix| ix.merge(&other_theirs).is_ok())),
+            four: Some(four),
+            least,
+            goal: Some((0.7, true)),
+        });
+    }
+    if r.wants("adds") {
+        adds(r, case, &start, &other_ours, Work { copy: 0, ..least });
+    }
+}
+
+fn adds(r: &Report, case: &str, own: &Tables, other: &Tables, least: Work) {
+    let (mut ours, mut one, mut two, mut answer) = (own.copy(), own.copy(), other.copy(), [0; BLOCK]);
+    r.row(Row {
+        call: "adds",
+        case: case.to_string(),
+        ours: repeat(move || ours.adds(other, &mut answer)),
+        theirs: None,
+        four: Some(repeat(move || (one.four(), two.four()))),
+        least,
+        goal: None,
+    });
+}
