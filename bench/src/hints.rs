@@ -54,6 +54,9 @@ fn adding(r: &Report) {
 }
 
 fn add(r: &Report, case: &str, held: &List, given: Vec<(u32, u32)>, goal: f64) {
+    if !r.has(case) {
+        return;
+    }
     let (start, theirs) = (Tables::loaded(held), held.theirs());
     let list: Vec<u8> = given.iter().flat_map(|&(lsn, n)| [lsn.to_le_bytes(), n.to_le_bytes()].concat()).collect();
     let (mut ours, mut same, mut asked) = (start.copy(), theirs.clone(), start.copy());

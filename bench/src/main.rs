@@ -1,5 +1,5 @@
 //! Times every call of the player's library beside the original Rust: one row for each case.
-//! `--quick` takes about a minute, `--markdown` writes the table of docs/SPEED.md, `--only WORD` takes the calls with this word in their name.
+//! `--quick` takes about a minute, `--markdown` writes the table of docs/SPEED.md, `--only` and `--case` take the calls and cases with these words in their name.
 
 mod allocator;
 mod files;
@@ -24,13 +24,14 @@ use std::time::Duration;
 static COUNTING: allocator::Counting = allocator::Counting;
 
 fn options() -> Option<Report> {
-    let (mut quick, mut markdown, mut only) = (false, false, String::new());
+    let (mut quick, mut markdown, mut only, mut case) = (false, false, String::new(), String::new());
     let mut words = std::env::args().skip(1);
     while let Some(w) = words.next() {
         match w.as_str() {
             "--quick" => quick = true,
             "--markdown" => markdown = true,
             "--only" => only = words.next()?,
+            "--case" => case = words.next()?,
             _ => return None,
         }
     }
@@ -38,15 +39,15 @@ fn options() -> Option<Report> {
         true => Effort { row: Duration::from_millis(300), fewest: 3, most: 61 },
         false => Effort { row: Duration::from_secs(5), fewest: 5, most: 101 },
     };
-    Some(Report { effort, markdown, only })
+    Some(Report { effort, markdown, only, case })
 }
 
 fn main() {
     let Some(report) = options() else {
-        eprintln!("bench/run [--quick] [--markdown] [--only WORD]");
+        eprintln!("bench/run [--quick] [--markdown] [--only CALL] [--case WORDS]");
         std::process::exit(2);
     };
-    report.names();
+    report.head();
     sectors::rows(&report);
     files::rows(&report);
     merges::rows(&report);

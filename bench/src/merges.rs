@@ -46,6 +46,9 @@ fn confirmations(r: &Report, most: u32, n: u32) {
 }
 
 fn both(r: &Report, case: &str, own: &List, other: &List) {
+    if !r.has(case) {
+        return;
+    }
     let (mut start, other_ours) = (Tables::loaded(own), Tables::loaded(other));
     let (mut theirs, other_theirs) = (own.theirs(), other.theirs());
     if own.fingerprint.is_some() {

@@ -22,6 +22,8 @@ pub struct Report {
     pub markdown: bool,
     /// Only calls whose name has this in it.
     pub only: String,
+    /// Only cases with this in them.
+    pub case: String,
 }
 
 /// A number with its thousands apart.
@@ -62,20 +64,41 @@ fn pair(t: Option<Timed>) -> String {
     t.map_or("none".to_string(), |t| format!("{} / {}", micros(t.least), micros(t.median)))
 }
 
+/// The processor's model, as the system says it.
+fn model() -> String {
+    let text = std::fs::read_to_string("/proc/cpuinfo").unwrap_or_default();
+    let line = text.lines().find_map(|l| l.strip_prefix("model name"));
+    line.map_or("processor not told", |l| l.trim_start_matches([' ', '\t', ':'])).to_string()
+}
+
+/// What a program says.
+fn said(program: &str, word: &str) -> String {
+    let output = std::process::Command::new(program).arg(word).output();
+    output.map_or(format!("{program} not told"), |o| String::from_utf8_lossy(&o.stdout).trim().to_string())
+}
+
 const NAMES: [&str; 10] = [
     "call", "case", "Rattle, us", "Rust, us", "ratio", "goal", "questions 1 to 4, us", "ratio without them", "limit, us: bytes", "the Rust allocates",
 ];
 
 impl Report {
-    pub fn names(&self) {
-        if self.markdown {
-            println!("| {} |", NAMES.join(" | "));
-            println!("|{}", "---|".repeat(NAMES.len()));
+    /// What stands above the table: the machine, the date, the compiler.
+    pub fn head(&self) {
+        if !self.markdown {
+            return;
         }
+        let cores = std::thread::available_parallelism().map_or(0, |n| n.get());
+        let effort = format!("{} to {} rounds, about {} ms for a row", self.effort.fewest, self.effort.most, self.effort.row.as_millis());
+        println!("## Numbers\n\n{}, {cores} cores, {}, {}; {effort}.\n", model(), said("date", "+%Y-%m-%d"), said("rustc", "--version"));
+        println!("| {} |", NAMES.join(" | "));
+        println!("|{}", "---|".repeat(NAMES.len()));
     }
 
     /// Runs a case and prints its row.
     pub fn row(&self, row: Row<'_>) {
+        if !self.has(&row.case) {
+            return;
+        }
         let (has_theirs, has_four, limit) = (row.theirs.is_some(), row.four.is_some(), row.least.text());
         let mut rounds = vec![row.ours];
         rounds.extend(row.theirs);
@@ -125,5 +148,9 @@ impl Report {
 
     pub fn wants(&self, call: &str) -> bool {
         call.contains(&self.only)
+    }
+
+    pub fn has(&self, case: &str) -> bool {
+        case.contains(&self.case)
     }
 }
