@@ -111,10 +111,14 @@ pub struct Effort {
 
 /// The calls of a round, so that it takes about 2 ms.
 fn calls_of(round: &mut Round<'_>) -> usize {
-    round(1);
-    let start = Instant::now();
-    round(1);
-    let one = start.elapsed().as_secs_f64();
+    let mut elapsed = || {
+        let start = Instant::now();
+        round(1);
+        start.elapsed().as_secs_f64()
+    };
+    // The first call warms up.
+    let first = elapsed();
+    let one = if first < 0.05 { elapsed() } else { first };
     (0.002 / one.max(1e-8)).clamp(1.0, 100_000.0) as usize
 }
 
