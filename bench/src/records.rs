@@ -5,7 +5,7 @@ use crate::lists::{List, START, list};
 use crate::plain;
 use crate::raw::BLOCK;
 use crate::report::{Report, Row, grouped};
-use crate::rounds::{fresh, partly};
+use crate::rounds::{Clock, fresh, partly, repeat};
 use crate::tables::{Recorder, Tables};
 use oracle::calls;
 use oracle::seek::AreaIndex;
@@ -107,17 +107,15 @@ impl Reading {
         self.read(&mut ours, &mut recorder, stretch);
         self.their_read(&mut theirs, &mut calls::Recorder::new(&empty, u64::from(START)), stretch);
         assert_eq!(ours.file(), theirs.to_bytes(), "the recorded lists differ");
-        let ready = (ours.copy(), recorder.copy());
-        let (mut t, mut rec) = ready;
-        let run = partly(|clock| {
-            t.restore(&start);
-            rec.block = block;
-            clock.time(|| self.read(&mut t, &mut rec, stretch));
-        });
+        let (mut t, mut rec) = (ours.copy(), recorder.copy());
         r.row(Row {
             call: "record and absorb",
             case: format!("7,400 checkpoints in stretches of {}", grouped(u64::from(stretch))),
-            ours: run,
+            ours: partly(|clock| {
+                t.restore(&start);
+                rec.block = block;
+                clock.time(|| self.read(&mut t, &mut rec, stretch));
+            }),
             theirs: Some(fresh(
                 || (empty.clone(), calls::Recorder::new(&empty, u64::from(START))),
                 |(ix, rec)| self.their_read(ix, rec, stretch),
@@ -133,7 +131,7 @@ impl Reading {
     }
 
     /// The same reading; only the questions 1 to 4 of its calls are timed.
-    fn asked(&self, t: &mut Tables, r: &mut Recorder, stretch: u32, clock: &mut crate::rounds::Clock) {
+    fn asked(&self, t: &mut Tables, r: &mut Recorder, stretch: u32, clock: &mut Clock) {
         for j in 0..self.list.boundaries {
             clock.time(|| r.four());
             self.record(r, j);
@@ -168,7 +166,7 @@ impl Reading {
                 clock.time(|| ours.absorb(&mut recorder, IMAGE));
             }),
             theirs: Some(fresh(|| (theirs.clone(), theirs_from.clone()), |(ix, rec)| rec.absorb(ix, IMAGE))),
-            four: Some(crate::rounds::repeat(move || (asked.four(), asked_recorder.four()))),
+            four: Some(repeat(move || (asked.four(), asked_recorder.four()))),
             least: Work { read: start.read() + 24 * stretch as usize, copy: 24 * stretch as usize, ..Work::default() },
             goal: Some((1.0, false)),
         });
@@ -190,8 +188,8 @@ impl Reading {
                 recorder.block = block;
                 clock.time(|| recorder.finish(n, 0));
             }),
-            theirs: Some(crate::rounds::repeat(move || black_box(&mut theirs).finish(n, 0))),
-            four: Some(crate::rounds::repeat(move || asked.four())),
+            theirs: Some(repeat(move || black_box(&mut theirs).finish(n, 0))),
+            four: Some(repeat(move || asked.four())),
             least: Work { read: 24 * n as usize, ..Work::default() },
             goal: None,
         });

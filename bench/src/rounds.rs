@@ -67,10 +67,7 @@ pub fn fresh<'a, S, T>(mut ready: impl FnMut() -> S + 'a, mut call: impl FnMut(&
 }
 
 /// The same where the state is kept and made ready again.
-pub fn restored<'a, S, T>(mut s: S, mut ready: impl FnMut(&mut S) + 'a, mut call: impl FnMut(&mut S) -> T + 'a) -> Round<'a>
-where
-    S: 'a,
-{
+pub fn restored<'a, S: 'a, T>(mut s: S, mut ready: impl FnMut(&mut S) + 'a, mut call: impl FnMut(&mut S) -> T + 'a) -> Round<'a> {
     Box::new(move |calls| {
         let mut clock = Clock::default();
         for _ in 0..calls {

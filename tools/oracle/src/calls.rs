@@ -23,8 +23,21 @@ impl Recorder {
     }
 
     #[inline]
-    pub fn record(&mut self, lsn: u64, threshold: u32, malformed: u64, frame: Option<Frame<'_>>, sector: &[u8; SECTOR_SIZE]) {
-        let under = frame.map(|f| Assembling { start_lsn: f.start, number: f.number, kind: FrameKind::Dst, remaining: 3, data: f.bytes });
+    pub fn record(
+        &mut self,
+        lsn: u64,
+        threshold: u32,
+        malformed: u64,
+        frame: Option<Frame<'_>>,
+        sector: &[u8; SECTOR_SIZE],
+    ) {
+        let under = frame.map(|f| Assembling {
+            start_lsn: f.start,
+            number: f.number,
+            kind: FrameKind::Dst,
+            remaining: 3,
+            data: f.bytes,
+        });
         if let Some(r) = self.0.recorder_mut() {
             r.record(lsn, threshold, malformed, under, sector);
         }
