@@ -431,3 +431,236 @@ pub fn wrong_flush(wrong: u32, hr: &mut HintRecorder) {
         hr.last = Some(tail.1);
     }
 }
+
+// ---- branches, for the counts only
+
+/// How a part was taken: the original's own `add`, on a store that it may change.
+fn way(st: &mut Stored, at: u32, start: u64, h: (u32, FrameKind, i32), data: &[u8], budget: usize) -> &'static str {
+    let (frames, used) = (st.frames.len(), st.used);
+    let same = st.frames.last().is_some_and(|f| f.start == start);
+    if st.add(at, start, h, data, budget) {
+        return match (st.frames.len() > frames, st.used > used) {
+            (true, _) => "part: a frame of its own",
+            (false, true) => "part: the last frame grown",
+            (false, false) => "part: joined to the last frame",
+        };
+    }
+    if data.len() > crate::audio::MAX_FRAME_BYTES {
+        return "part: passed over, longer than a frame";
+    }
+    let unlike = st.frames.last().is_some_and(|f| {
+        let common = f.bytes.len().min(data.len());
+        f.bytes[..common] != data[..common]
+    });
+    match (same, same && unlike) {
+        (_, true) => "part: passed over, other bytes than the last frame",
+        (true, _) => "part: passed over, growth past the budget",
+        _ => "part: passed over, a frame past the budget",
+    }
+}
+
+/// The ways of the parts of `from` for checkpoints `first` to `end` into `own`.
+fn ways(own: &AreaIndex, from: &Stored, list: &[Checkpoint], first: usize, end: usize) -> Vec<&'static str> {
+    let mut st = own.stored.clone();
+    let mut out = Vec::new();
+    for j in own.checkpoints.len()..end {
+        if let Some((h, bytes)) = from.get(j as u32) {
+            let start = own.checkpoint_lsn(j) - u64::from(list[j - first].back);
+            out.push(way(&mut st, j as u32, start, (h.number, h.kind, h.remaining), bytes, own.inline_budget));
+        }
+    }
+    out
+}
+
+/// What an accepted merge did.
+pub fn merge_branches(own: &AreaIndex, other: &AreaIndex) -> Vec<&'static str> {
+    let (n, m) = (own.checkpoints.len(), other.checkpoints.len());
+    let news = own.end_state.is_none() && (other.end_state.is_some() || m > n);
+    let mut out = match (news, m > n, m == n) {
+        (false, _, true) => vec!["nothing new, as many checkpoints"],
+        (false, ..) => vec!["nothing new, fewer checkpoints"],
+        (true, true, _) if other.end_state.is_some() => vec!["checkpoints and end state"],
+        (true, true, _) => vec!["checkpoints"],
+        (true, ..) => vec!["end state only"],
+    };
+    if news {
+        out.extend(ways(own, &other.stored, &other.checkpoints, 0, m));
+    }
+    if own.malformed != other.malformed {
+        out.push(if news { "another malformed list taken" } else { "another malformed list not taken" });
+    }
+    if own.fingerprint.is_none() && other.fingerprint.is_some() {
+        out.push("fingerprint taken");
+    }
+    if own.image_id.is_none() && other.image_id.is_some() {
+        out.push("image id taken");
+    }
+    out.extend(hint_list_branch(own, &other.samples).map(|b| match b {
+        "thinned" => "hints thinned",
+        "no hints kept" => "no hints kept",
+        _ => "hints added",
+    }));
+    if other.confirmed.iter().any(|_| own.fingerprint_checked && own.max_hints > 0) {
+        out.push("confirmations kept");
+    }
+    out
+}
+
+/// What an accepted absorb of `r` does.
+pub fn absorb_branches(own: &AreaIndex, r: Option<&Recorder>) -> Vec<&'static str> {
+    let Some(r) = r else { return vec!["a stopped recorder"] };
+    let (n, first, m) = (own.checkpoints.len(), r.first as usize, r.first as usize + r.checkpoints.len());
+    let mut out = Vec::new();
+    out.push(match (m > n, r.checkpoints.is_empty(), first < n) {
+        (true, _, true) => "checkpoints, some of them held already",
+        (true, ..) => "checkpoints, none of them held already",
+        (_, true, _) => "no checkpoint recorded",
+        _ => "all checkpoints held already",
+    });
+    if r.end_state.is_some() {
+        out.push(if own.end_state.is_some() { "an end state that is held" } else { "a new end state" });
+    }
+    if r.from < own.frontier() {
+        out.push("recorder from before the frontier");
+    }
+    if m > n {
+        out.extend(ways(own, &r.stored, &r.checkpoints, first, m));
+    }
+    if own.malformed.len() == MAX_MALFORMED_WARNINGS {
+        out.push("malformed list full");
+    }
+    out
+}
+
+/// What `record` does with the frame under assembly.
+pub fn record_branch(old: &Recorder, new: &Recorder, frame: Option<(u64, u32, FrameKind, i32, &[u8])>) -> &'static str {
+    let Some((start, number, kind, remaining, bytes)) = frame else { return "no frame under assembly" };
+    if new.checkpoints.last().is_some_and(|c| u64::from(c.back) <= REPLAY_SECTORS) {
+        return "part: none, back 32 or less";
+    }
+    let at = old.first + old.checkpoints.len() as u32;
+    way(&mut old.stored.clone(), at, start, (number, kind, remaining), bytes, old.budget)
+}
+
+/// How a list of hints goes to the held ones; None where there is none.
+pub fn hint_list_branch(ix: &AreaIndex, list: &[(u32, u32)]) -> Option<&'static str> {
+    if list.is_empty() {
+        return None;
+    }
+    if ix.max_hints == 0 {
+        return Some("no hints kept");
+    }
+    let inside = |l: u32| (ix.start..ix.end).contains(&u64::from(l));
+    let mut all: Vec<u32> = ix.samples.iter().map(|s| s.0).chain(list.iter().map(|s| s.0).filter(|&l| inside(l))).collect();
+    all.sort_unstable();
+    all.dedup();
+    let rising = list.windows(2).all(|w| w[0].0 < w[1].0);
+    Some(match (all.len() > ix.max_hints, rising, ix.samples.last().is_none_or(|s| s.0 < list[0].0)) {
+        (true, ..) => "thinned",
+        (_, true, true) => "rising, behind the held ones",
+        (_, true, false) => "rising, among the held ones",
+        (_, false, _) => "not rising",
+    })
+}
+
+/// What `keep_confirmation` does.
+pub fn confirm_branch(ix: &AreaIndex, lsn: u64, u: u32, digest: u64) -> &'static str {
+    if !ix.fingerprint_checked {
+        return "nothing kept, fingerprint not checked";
+    }
+    if ix.max_hints == 0 {
+        return "nothing kept, M is 0";
+    }
+    match ix.confirmed.iter().find(|c| u64::from(c.0) == lsn) {
+        Some(c) if c.2 != digest => "another digest replaces",
+        Some(c) if u < c.1 => "the same digest, a lower threshold",
+        Some(_) => "the same digest, no lower threshold",
+        None if ix.confirmed.len() < ix.max_hints => "a new one",
+        None if ix.confirmed.first().is_some_and(|c| u64::from(c.0) > lsn) => "a new one, which is dropped",
+        None => "a new one, the lowest is dropped",
+    }
+}
+
+/// The branches of `hint`.
+pub fn hint_branches(ix: &AreaIndex, first: u32, end: u32, playtime: u32) -> Vec<&'static str> {
+    let Some((lsn, t, upper, later)) = ix.hint(first, end, playtime) else {
+        return vec![if ix.samples.is_empty() { "none, no hints" } else { "none, none in reach" }];
+    };
+    let near = |s: &(u32, u32)| s.1 < first && first - s.1 <= HINT_REACH;
+    let nearest = ix.samples.iter().filter(|s| near(s)).max_by_key(|s| (s.1, s.0));
+    let confirmed = ix.confirmation(lsn, first).is_some();
+    let mut out = vec![match (confirmed, nearest.is_some_and(|s| u64::from(s.0) == lsn)) {
+        (true, true) => "a confirmed one, also the nearest",
+        (true, false) => "a confirmed one, another is nearer",
+        _ => "the nearest, none confirmed",
+    }];
+    if ix.samples.iter().filter(|s| near(s) && s.1 == t).count() > 1 {
+        out.push("several of its number");
+    }
+    if later {
+        out.push("through a later hint");
+        return out;
+    }
+    let Some(i) = ix.samples.iter().position(|s| u64::from(s.0) == lsn) else { return out };
+    let run = ix.samples[i + 1..].iter().take_while(|s| s.1 > t && s.1 < end).last().copied();
+    let before = i.checked_sub(1).map(|p| ix.samples[p]).filter(|s| s.1 < t);
+    if ix.samples[i + 1..].iter().any(|s| s.1 >= end) {
+        out.push("a later hint too far past the end");
+    }
+    let average = (ix.end - ix.start, playtime.max(1));
+    let local = match (run, before) {
+        (Some(r), _) if r.1 - t >= 3 => {
+            out.push("spacing of the run behind it");
+            Some((u64::from(r.0) - lsn, r.1 - t))
+        }
+        (r, b) => {
+            if r.is_some() {
+                out.push("a run of fewer than 3 frames");
+            }
+            out.push(if b.is_some() { "spacing to the hint before" } else { "no local spacing" });
+            b.map(|b| (lsn - u64::from(b.0), t - b.1))
+        }
+    };
+    let larger =
+        local.is_some_and(|l| u128::from(l.0) * u128::from(average.1) > u128::from(average.0) * u128::from(l.1));
+    out.push(if larger { "the local spacing is larger" } else { "the average is larger, or alone" });
+    if upper == u64::MAX {
+        out.push("saturated");
+    }
+    out
+}
+
+/// What `see` does.
+pub fn see_branch(hr: &HintRecorder, lsn: u64, sector: &[u8; SECTOR_SIZE]) -> &'static str {
+    let Some(t) = first_record(sector) else { return "no number" };
+    if lsn > u64::from(u32::MAX) {
+        return "an LSN above 32 bits";
+    }
+    match hr.last {
+        None => "listed, the first",
+        _ if hr.list.len() >= MAX_HINTS => "the tail, list full",
+        Some(l) if t < l => "listed, a lower number",
+        Some(l) if t >= l.saturating_add(hr.spacing) => "listed, the spacing reached",
+        _ => "the tail",
+    }
+}
+
+/// What `flush` does.
+pub fn flush_branch(hr: &HintRecorder) -> &'static str {
+    match hr.tail {
+        Some(_) if hr.list.len() < MAX_HINTS => "the tail listed",
+        Some(_) => "the tail lost, list full",
+        None => "no tail",
+    }
+}
+
+/// Where a jump starts.
+pub fn plan_branch(ix: &AreaIndex, frame: u32) -> &'static str {
+    match ix.plan(frame) {
+        Plan::Start => "the start",
+        Plan::End(_) => "the end",
+        Plan::At { held: Some(_), .. } => "a checkpoint, part held",
+        Plan::At { checkpoint, .. } if checkpoint.back == 0 => "a checkpoint, no frame under assembly",
+        Plan::At { .. } => "a checkpoint, no part held",
+    }
+}

@@ -1,5 +1,6 @@
 //! Writes scripts with counts of their answers, the fixed list, and runs the comparison.
 
+use std::collections::BTreeMap;
 use std::io::{Read, Write};
 use std::process::{Command, Stdio};
 use std::time::{Duration, Instant};
@@ -78,9 +79,8 @@ fn answers(oracle: &mut Oracle, scripts: &[u8]) -> Result<Vec<u8>, String> {
     Ok(out)
 }
 
-/// The counts, and what never occurred.
+/// Prints the counts; Err: what never occurred.
 fn report(stats: &Stats, a: &Arguments) -> Result<(), String> {
-    let mut missing = Vec::new();
     if a.notes {
         let mut last = "";
         for ((note, n), count) in &stats.notes {
@@ -113,6 +113,13 @@ fn report(stats: &Stats, a: &Arguments) -> Result<(), String> {
     for (name, count) in &stats.places {
         eprintln!("  {name} x{count}");
     }
+    let missing = missing(stats, a);
+    if missing.is_empty() || a.unchecked { Ok(()) } else { Err(format!("never occurred: {}", missing.join(", "))) }
+}
+
+/// What never occurred of what the kinds asked for have.
+fn missing(stats: &Stats, a: &Arguments) -> Vec<String> {
+    let mut missing = Vec::new();
     let mut need = |command: &str, n: u64| {
         if asked(a, command) && !stats.answers.contains_key(&(command.to_string(), n)) {
             missing.push(format!("{command} {n}"));
@@ -197,7 +204,37 @@ fn report(stats: &Stats, a: &Arguments) -> Result<(), String> {
             missing.push("an accepted file: malformed list capped".to_string());
         }
     }
-    if missing.is_empty() || a.unchecked { Ok(()) } else { Err(format!("never occurred: {}", missing.join(", "))) }
+    missing
+}
+
+/// The counts as tables: calls by answer, accepted calls by what they did, files.
+fn tables(stats: &Stats) -> String {
+    let mut out = "| call | answered | accepted | refused, by number |\n|---|---:|---:|---|\n".to_string();
+    let mut calls: BTreeMap<&str, Vec<(u64, u64)>> = BTreeMap::new();
+    for ((call, n), count) in &stats.answers {
+        if !["script", "area"].contains(&call.as_str()) {
+            calls.entry(call).or_default().push((*n, *count));
+        }
+    }
+    for (call, list) in &calls {
+        let sum: u64 = list.iter().map(|x| x.1).sum();
+        let accepted: u64 = list.iter().filter(|x| x.0 == 0).map(|x| x.1).sum();
+        let refused: Vec<String> = list.iter().filter(|x| x.0 != 0).map(|(n, count)| format!("{n}: {count}")).collect();
+        out += &format!("| `{call}` | {sum} | {accepted} | {} |\n", refused.join(", "));
+    }
+    out += &format!("| all | {} | | |\n", stats.calls());
+    out += "\n| accepted call | what it did | times |\n|---|---|---:|\n";
+    for ((call, what), count) in &stats.branches {
+        out += &format!("| `{call}` | {what} | {count} |\n");
+    }
+    out += "\n| file | times |\n|---|---:|\n";
+    for (what, count) in &stats.accepted {
+        out += &format!("| accepted: {what} | {count} |\n");
+    }
+    for (what, count) in &stats.places {
+        out += &format!("| refused with {what} | {count} |\n");
+    }
+    out
 }
 
 pub fn generate(a: &Arguments) -> Result<(), String> {
@@ -229,8 +266,14 @@ pub fn generate(a: &Arguments) -> Result<(), String> {
 
 /// The fixed list: small scripts, and their answers.
 pub fn fixed(a: &Arguments) -> Result<(), String> {
-    let a =
-        &Arguments { small: true, rest: a.rest.clone(), kinds: a.kinds.clone(), only: a.only.clone(), ..*a };
+    let a = &Arguments {
+        small: true,
+        rest: a.rest.clone(),
+        kinds: a.kinds.clone(),
+        only: a.only.clone(),
+        counts: None,
+        ..*a
+    };
     let mut oracle = Oracle::counting();
     let names: Vec<String> = a.kinds.iter().map(|k| format!("{k:?}").to_lowercase()).collect();
     let mut scripts =
@@ -507,10 +550,14 @@ pub fn differences(a: &Arguments) -> Result<(), String> {
         }
     }
     println!(
-        "{number} scripts, {} files, {lines} lines of answers: no difference ({:.0} s, seed {})",
+        "{number} scripts, {} calls, {} files, {lines} lines of answers: no difference ({:.0} s, seed {})",
+        oracle.stats.calls(),
         oracle.stats.loads,
         began.elapsed().as_secs_f64(),
         a.seed
     );
-    if a.counts { report(&oracle.stats, a) } else { Ok(()) }
+    let Some(file) = &a.counts else { return Ok(()) };
+    std::fs::write(file, tables(&oracle.stats)).map_err(|e| format!("{file}: {e}"))?;
+    let missing = missing(&oracle.stats, a);
+    if missing.is_empty() || a.unchecked { Ok(()) } else { Err(format!("never occurred: {}", missing.join(", "))) }
 }

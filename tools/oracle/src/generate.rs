@@ -674,7 +674,8 @@ fn equals(s: &mut Script<'_>, rng: &mut Rng, r: &Reading) {
     let m = (n + rng.below(3) as usize).saturating_sub(1).min(b);
     for (p, count) in [(0, n), (1, m)] {
         let x = twin(rng, r);
-        let x = if rng.chance(1, 2) { r.clone() } else { Reading { checkpoints: r.checkpoints.clone(), end: r.end, ..x } };
+        let x =
+            if rng.chance(1, 2) { r.clone() } else { Reading { checkpoints: r.checkpoints.clone(), end: r.end, ..x } };
         let complete = count == b && rng.chance(1, 2);
         let mut l = x.cut(rng, count, complete, 8);
         l.budget += *rng.pick(&[0, 1, 12, 200]);

@@ -30,8 +30,8 @@ oracle gen [options]                     writes scripts, and on standard error h
 oracle fixed SCRIPT ANSWERS [options]    writes a list of scripts and the file of their answers
 oracle sources                           which texts of the original were built: length and FNV-1a
 oracle diff COUNT|SECONDSs REPLAY [options]  runs fresh scripts through both, until the first difference
-options: --seed N  --kinds load,merge,calls|all  --scripts N  --files N  --small  --only CALL,CALL,..
-         --notes (counts by kind of damage)  --counts (diff: counts too)  --unchecked (no answer need occur)
+options: --seed N  --kinds load,merge,calls,seams|all  --scripts N  --files N  --small  --only CALL,CALL,..
+         --notes (counts by kind of damage)  --counts FILE (diff: tables of the counts)  --unchecked (no answer need occur)
 ";
 
 /// The words after the command: options by name, the rest in order.
@@ -46,7 +46,8 @@ pub struct Arguments {
     pub only: Vec<String>,
     pub show: bool,
     pub notes: bool,
-    pub counts: bool,
+    /// The file that the counts of a comparison go to.
+    pub counts: Option<String>,
     pub unchecked: bool,
     pub wrong: u32,
 }
@@ -62,7 +63,7 @@ fn arguments(words: impl Iterator<Item = String>) -> Option<Arguments> {
         only: Vec::new(),
         show: false,
         notes: false,
-        counts: false,
+        counts: None,
         unchecked: false,
         wrong: 0,
     };
@@ -77,7 +78,7 @@ fn arguments(words: impl Iterator<Item = String>) -> Option<Arguments> {
             "--only" => a.only = words.next()?.split(',').map(str::to_string).collect(),
             "--show" => a.show = true,
             "--notes" => a.notes = true,
-            "--counts" => a.counts = true,
+            "--counts" => a.counts = Some(words.next()?),
             "--unchecked" => a.unchecked = true,
             "--wrong" => a.wrong = words.next()?.parse().ok()?,
             _ if w.starts_with("--") => return None,

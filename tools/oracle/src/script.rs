@@ -106,9 +106,18 @@ pub struct Stats {
     pub notes: BTreeMap<(String, u64), u64>,
     /// Accepted loads, by version and by what the list is like and the limit did.
     pub accepted: BTreeMap<String, u64>,
+    /// Accepted calls by what they did, of those that do more than one thing.
+    pub branches: BTreeMap<(&'static str, &'static str), u64>,
     /// Refusals 20 and 28 of loads, by the place in the file that gave them.
     pub places: BTreeMap<&'static str, u64>,
     pub loads: u64,
+}
+
+impl Stats {
+    /// Calls that were answered by a number.
+    pub fn calls(&self) -> u64 {
+        self.answers.iter().filter(|a| !["script", "area"].contains(&a.0.0.as_str())).map(|a| a.1).sum()
+    }
 }
 
 /// Where a file that was refused with 20 or 28 breaks the rule: for the counts only.
@@ -256,6 +265,13 @@ impl Oracle {
         Oracle { count: true, ..Default::default() }
     }
 
+    /// Counts what a call did.
+    fn branch(&mut self, call: &'static str, list: impl IntoIterator<Item = &'static str>) {
+        for name in list {
+            *self.stats.branches.entry((call, name)).or_default() += 1;
+        }
+    }
+
     /// Runs one line; false where it is not a line of a script.
     pub fn line(&mut self, line: &[u8], out: &mut Vec<u8>) -> bool {
         if line.is_empty() || line.len() >= LINE {
@@ -393,6 +409,10 @@ impl Oracle {
                 // Fault 8: a threshold equal to the frame does not serve.
                 let frame = if self.wrong == 8 { frame.saturating_sub(1) } else { frame };
                 access::put_plan(&mut values, ix, frame);
+                if self.count {
+                    let branch = access::plan_branch(ix, frame);
+                    self.branch("plan", [branch]);
+                }
                 Some(Number(0, values))
             }
             b"merge" => {
@@ -423,10 +443,12 @@ impl Oracle {
                 lists.push(p);
                 let Some(ix) = &mut self.places[p].list else { return Some(Nothing) };
                 let mut values = Vec::new();
+                let branch = self.count.then(|| access::confirm_branch(ix, lsn, u, digest));
                 Some(match access::confirm(ix, lsn, u, digest) {
                     None => Number(14, values),
                     Some(kept) => {
                         put(&mut values, u64::from(kept));
+                        self.branch("confirm", branch);
                         Number(0, values)
                     }
                 })
@@ -446,6 +468,10 @@ impl Oracle {
                         }
                     }
                 }
+                if self.count {
+                    let branches = access::hint_branches(ix, first, end, playtime);
+                    self.branch("hint", branches);
+                }
                 Some(Number(0, values))
             }
             b"recorder" => {
@@ -454,6 +480,10 @@ impl Oracle {
                 let place = &mut self.places[p];
                 let Some(ix) = &place.list else { return Some(Nothing) };
                 place.cursor = Some(AreaCursor { recorder: ix.recorder(from), ..AreaCursor::default() });
+                if self.count {
+                    let stopped = place.cursor.as_ref().is_none_or(|c| c.recorder().is_none());
+                    self.branch("recorder", [if stopped { "stopped, of a complete list" } else { "running" }]);
+                }
                 Some(accepted())
             }
             b"record" => {
@@ -493,6 +523,9 @@ impl Oracle {
                         put(&mut values, u64::from(t));
                     }
                 }
+                if self.count {
+                    self.branch("first_record", [if values == b" 0" { "none" } else { "a number" }]);
+                }
                 Some(Number(0, values))
             }
             b"hint_recorder" => {
@@ -500,6 +533,10 @@ impl Oracle {
                 *hint_recorder = true;
                 let Some(ix) = &self.places[p].list else { return Some(Nothing) };
                 self.hints = ix.hint_recorder();
+                if self.count {
+                    let none = self.hints.is_none();
+                    self.branch("hint_recorder", [if none { "none, no hints kept" } else { "made" }]);
+                }
                 Some(accepted())
             }
             b"see" => {
@@ -508,14 +545,18 @@ impl Oracle {
                 let Some(hr) = &mut self.hints else { return Some(Nothing) };
                 let mut sector = [0u8; SECTOR_SIZE];
                 sector.get_mut(..bytes.len())?.copy_from_slice(&bytes);
+                let branch = self.count.then(|| access::see_branch(hr, lsn, &sector));
                 hr.see(lsn, &sector);
+                self.branch("see", branch);
                 Some(accepted())
             }
             b"flush" => {
                 *hint_recorder = true;
                 let Some(hr) = &mut self.hints else { return Some(Nothing) };
                 access::wrong_flush(self.wrong, hr);
+                let branch = self.count.then(|| access::flush_branch(hr));
                 hr.flush();
+                self.branch("flush", branch);
                 Some(accepted())
             }
             b"take" => {
@@ -692,7 +733,9 @@ impl Oracle {
             Ok(()) if access::hints_clash(own, access::samples(other)) => Outside,
             Ok(()) => match access::loadable(&new) {
                 Ok(()) => {
+                    let branches = if self.count { access::merge_branches(own, other) } else { Vec::new() };
                     access::wrong_merge(self.wrong, &mut new, own, other);
+                    self.branch("merge", branches);
                     self.places[p].list = Some(new);
                     accepted()
                 }
@@ -711,7 +754,9 @@ impl Oracle {
         if access::hints_clash(ix, &list) {
             return Outside;
         }
+        let branch = if self.count { access::hint_list_branch(ix, &list).or(Some("no hint")) } else { None };
         ix.add_hints(list);
+        self.branch("add_hints", branch);
         accepted()
     }
 
@@ -738,7 +783,10 @@ impl Oracle {
         if access::added_test_alone(access::stored_of(&new)) {
             return Some(Outside);
         }
+        let branch =
+            self.count.then(|| access::record_branch(r, &new, frame.as_ref().map(|f| (f.0, f.1, f.2, f.3, &f.4[..]))));
         *r = new;
+        self.branch("record", branch);
         Some(accepted())
     }
 
@@ -763,6 +811,10 @@ impl Oracle {
                 Twelve::Passes => accepted(),
             },
         };
+        if self.count && matches!(answer, Number(0, _)) {
+            let branches = access::absorb_branches(old, recorder.recorder());
+            self.branch("absorb", branches);
+        }
         cursor.image_id = None;
         cursor.warnings = Vec::new();
         self.places[p].list = Some(new);
