@@ -533,7 +533,7 @@ pub fn differences(a: &Arguments) -> Result<(), String> {
                 println!("{name} (seed {}), line {line} of its answers:\n  original {x}\n  replay   {y}", a.seed);
             }
             let alone = differs(replay, &script);
-            let small = if alone { shrink(replay, script, Duration::from_secs(30)) } else { script };
+            let small = if alone { shrink(replay, script, Duration::from_secs(a.shrink)) } else { script };
             let script = join(&small);
             let (mut x, mut oracle) = (Vec::new(), Oracle::default());
             let _ = oracle.run(&script, &mut x);

@@ -32,6 +32,7 @@ oracle sources                           which texts of the original were built:
 oracle diff COUNT|SECONDSs REPLAY [options]  runs fresh scripts through both, until the first difference
 options: --seed N  --kinds load,merge,calls,seams|all  --scripts N  --files N  --small  --only CALL,CALL,..
          --notes (counts by kind of damage)  --counts FILE (diff: tables of the counts)  --unchecked (no answer need occur)
+         --shrink SECONDS (30: how long a script that shows a difference is made smaller)
 ";
 
 /// The words after the command: options by name, the rest in order.
@@ -49,6 +50,8 @@ pub struct Arguments {
     /// The file that the counts of a comparison go to.
     pub counts: Option<String>,
     pub unchecked: bool,
+    /// For how many seconds a script that shows a difference is made smaller.
+    pub shrink: u64,
     pub wrong: u32,
 }
 
@@ -65,6 +68,7 @@ fn arguments(words: impl Iterator<Item = String>) -> Option<Arguments> {
         notes: false,
         counts: None,
         unchecked: false,
+        shrink: 30,
         wrong: 0,
     };
     let mut words = words;
@@ -80,6 +84,7 @@ fn arguments(words: impl Iterator<Item = String>) -> Option<Arguments> {
             "--notes" => a.notes = true,
             "--counts" => a.counts = Some(words.next()?),
             "--unchecked" => a.unchecked = true,
+            "--shrink" => a.shrink = words.next()?.parse().ok()?,
             "--wrong" => a.wrong = words.next()?.parse().ok()?,
             _ if w.starts_with("--") => return None,
             _ => a.rest.push(w),
