@@ -5,7 +5,7 @@ use std::io::Write;
 use crate::damage;
 use crate::file::{AreaNumbers, File, LIM, List, Reading, Shape};
 use crate::rng::Rng;
-use crate::script::MOST;
+use crate::script::sizes;
 use crate::text::put_hex;
 
 /// What scripts are about.
@@ -19,6 +19,8 @@ pub enum Kind {
     Calls,
     /// Readings and lists that are equal but for one number: `record`, `finish`, `absorb`, `merge`.
     Seams,
+    /// Lists that need larger tables: 65,536 hints and confirmations, up to 16,384 boundaries, budgets up to 1,048,576.
+    Large,
 }
 
 pub fn kinds(names: &str) -> Option<Vec<Kind>> {
@@ -29,6 +31,7 @@ pub fn kinds(names: &str) -> Option<Vec<Kind>> {
             "merge" => Some(vec![Kind::Merge]),
             "calls" => Some(vec![Kind::Calls]),
             "seams" => Some(vec![Kind::Seams]),
+            "large" => Some(vec![Kind::Large]),
             "all" => Some(vec![Kind::Load, Kind::Load, Kind::Merge, Kind::Calls, Kind::Seams]),
             _ => None,
         })
@@ -77,6 +80,7 @@ pub fn script(kind: Kind, number: u32, seed: u64, small: bool, out: &mut Vec<u8>
         Kind::Merge => merges(&mut s, &mut rng, small),
         Kind::Calls => calls(&mut s, &mut rng, small),
         Kind::Seams => seams(&mut s, &mut rng),
+        Kind::Large => large(&mut s, &mut rng),
     }
     s.loads
 }
@@ -184,7 +188,7 @@ fn loads(s: &mut Script<'_>, rng: &mut Rng, small: bool) {
     let mut reading = Reading::random(rng, first);
     reading.free_digests(rng);
     let p = if rng.chance(5, 6) { 0 } else { rng.range(1, 3) as usize };
-    let most = MOST as u64;
+    let most = sizes().most as u64;
     say!(s, "area {p} {}", reading.area.words());
     if rng.chance(1, 150) {
         // Question 1: an area that ends past 4,294,967,295, or a slot that is neither.
@@ -740,5 +744,162 @@ fn seams(s: &mut Script<'_>, rng: &mut Rng) {
         0 | 1 => scans(s, rng, &reading),
         2 => equals(s, rng, &reading),
         _ => surplus(s, rng, &reading),
+    }
+}
+
+/// A place's area and an empty list.
+fn fresh(s: &mut Script<'_>, p: usize, a: &AreaNumbers, numbers: (u64, u64, u64, u64)) {
+    let (interval, budget, spacing, most) = numbers;
+    say!(s, "area {p} {}", a.words());
+    say!(s, "new {p} {interval} {budget} {spacing} {most}");
+}
+
+/// About `count` hints of the area: rising, falling here and there, or in no order.
+fn many_hints(rng: &mut Rng, a: &AreaNumbers, k: u64, count: u64) -> Vec<(u64, u32)> {
+    let len = a.end - a.start;
+    let mut out: Vec<(u64, u32)> = (0..count)
+        .map(|_| {
+            let lsn = a.start + rng.below(len);
+            (lsn, number_at(lsn, a.start, k))
+        })
+        .collect();
+    match rng.below(4) {
+        0 => {}
+        1 => {
+            // As many as asked for, each LSN once.
+            out = (0..count.min(len))
+                .map(|i| a.start + i * (len / count.max(1)).max(1))
+                .map(|l| (l, number_at(l, a.start, k)))
+                .collect();
+        }
+        2 => {
+            out.sort_unstable();
+            for _ in 0..rng.range(1, 5) {
+                let (i, j) = (rng.below(count) as usize, rng.below(count) as usize);
+                out.swap(i, j);
+            }
+        }
+        _ => out.sort_unstable(),
+    }
+    out
+}
+
+/// Lists of hints up to 65,536, one more, and their merges.
+fn large_hints(s: &mut Script<'_>, rng: &mut Rng) {
+    let a = AreaNumbers::new(0, 1000, 1000 + rng.range(200_000, 400_000) as u32, 2, 1 << 21);
+    let k = rng.below(7);
+    for p in 0..2 {
+        let most = *rng.pick(&[65_536, 65_536, 65_535, 49_152, 2048, 4, 3, 2, 1]);
+        fresh(s, p, &a, (65_536, 0, 8, most));
+        say!(s, "fingerprint {p} 5");
+        for _ in 0..rng.range(1, 3) {
+            let count = *rng.pick(&[65_537, 65_536, 65_536, 65_535, 40_000, 20_000, 3000]);
+            let list = many_hints(rng, &a, k, count);
+            say_hints(s, p, &list);
+        }
+        confirmations(s, rng, p, &a, 4);
+        hint_calls(s, rng, p, &a, k, 6);
+    }
+    say!(s, "merge 0 1");
+    say!(s, "save 0 4194304");
+    say!(s, "reload 0 {}", *rng.pick(&[1u64 << 20, 524_288, 524_287, 131_072, 16]));
+    say!(s, "merge 1 0");
+    hint_calls(s, rng, 1, &a, k, 6);
+}
+
+/// Files with up to 65,536 hints and confirmations, and their merges.
+fn large_files(s: &mut Script<'_>, rng: &mut Rng) {
+    let shape = Shape { boundaries: rng.range(2, 5), k: 65_536, under: 4, frame_bytes: 100, malformed: 3 };
+    let mut reading = Reading::random(rng, shape);
+    reading.sector_digests();
+    let a = reading.area;
+    for p in 0..2 {
+        let n = reading.checkpoints.len();
+        let mut l = reading.cut(rng, n, false, 8);
+        l.most = *rng.pick(&[65_536, 65_536, 40_000, 20_000]);
+        let count = *rng.pick(&[65_536, 30_000, 1000]);
+        let mut hints: Vec<(u32, u32)> =
+            many_hints(rng, &a, reading.k, count).into_iter().map(|h| (h.0 as u32, h.1)).collect();
+        hints.sort_unstable();
+        hints.dedup();
+        hints.truncate(l.most as usize);
+        l.hints = hints;
+        l.fingerprint = Some(5);
+        let count = *rng.pick(&[200_000, 30_000, 100]);
+        let mut lsns = l.lsns(rng, count);
+        lsns.truncate(l.most as usize);
+        l.confirmations = lsns.iter().map(|&x| (x, rng.below(100) as u32, rng.below(3))).collect();
+        say!(s, "area {p} {}", a.words());
+        let limit = *rng.pick(&[1 << 21, 1 << 20, 1_048_575, 524_288, 320_000]);
+        s.load("large", p, limit, &l.encode().bytes);
+        say!(s, "fingerprint {p} 5");
+    }
+    let (p, q) = *rng.pick(&[(0, 1), (1, 0)]);
+    say!(s, "merge {p} {q}");
+    confirmations(s, rng, p, &a, 4);
+    hint_calls(s, rng, p, &a, reading.k, 6);
+    say!(s, "merge {q} {p}");
+    say!(s, "save {q} 4194304");
+    say!(s, "reload {q} {}", *rng.pick(&[1u64 << 21, 1 << 20, 300_000]));
+}
+
+/// Lists of one reading that is longer, or has longer frames or more malformed sectors, than the usual tables hold.
+fn large_lists(s: &mut Script<'_>, rng: &mut Rng, shape: Shape) {
+    let mut reading = Reading::random(rng, shape);
+    reading.sector_digests();
+    let b = reading.checkpoints.len();
+    let places = rng.range(2, 4) as usize;
+    for p in 0..places {
+        let complete = rng.chance(1, 3);
+        let n = if complete { b } else { rng.below(b as u64 + 1) as usize };
+        let keep = *rng.pick(&[4, 8, 8]);
+        let mut l = reading.cut(rng, n, complete, keep);
+        l.budget = (l.used() + *rng.pick(&[0, 1, 70_000, 200_000, 1_000_000])).min(1_048_576);
+        say!(s, "area {p} {}", l.area.words());
+        let limit = *rng.pick(&[1 << 21, 1 << 20, 131_073, 200_000]);
+        s.load("large", p, limit, &l.encode().bytes);
+        if n < b && rng.chance(1, 2) {
+            // A recorder from the frontier, or from a little before it.
+            let from = reading.lsn((n.saturating_sub(rng.range(1, 3) as usize)).min(b));
+            say!(s, "recorder {p} {from}");
+            for j in n..(n + rng.below(40) as usize).min(b) {
+                record(s, rng, p, &reading, j, false);
+            }
+            let all = rng.chance(1, 2);
+            absorb(s, rng, p, p, &reading, b.saturating_sub(1), all);
+        }
+    }
+    for _ in 0..rng.range(2, 6) {
+        let p = rng.below(places as u64) as usize;
+        let q = (p + 1 + rng.below(places as u64 - 1) as usize) % places;
+        if rng.chance(3, 4) {
+            say!(s, "merge {p} {q}");
+        } else {
+            say!(s, "reload {p} {}", *rng.pick(&[1 << 20, 131_073, 70_000]));
+        }
+        let whole = reading.cut(rng, b, true, 0);
+        plans(s, rng, p, &whole, 3);
+    }
+    say!(s, "save 0 4194304");
+}
+
+fn large(s: &mut Script<'_>, rng: &mut Rng) {
+    let usual = Shape { boundaries: 5, k: 64, under: 6, frame_bytes: 100, malformed: 3 };
+    match rng.below(5) {
+        0 => large_hints(s, rng),
+        1 => large_files(s, rng),
+        2 => {
+            let boundaries = *rng.pick(&[1024, 1025, 2000, 7400, 16_383, 16_384, 16_385]);
+            let (k, under) = (*rng.pick(&[1, 2, 33, 64]), rng.below(4));
+            large_lists(s, rng, Shape { boundaries, k, under, frame_bytes: 30, ..usual });
+        }
+        3 => {
+            let (boundaries, frame_bytes) = (rng.range(20, 60), *rng.pick(&[20_000, 65_536]));
+            large_lists(s, rng, Shape { boundaries, k: 100, under: 7, frame_bytes, malformed: 0 });
+        }
+        _ => {
+            let (boundaries, malformed) = (rng.range(3, 30), rng.range(4000, 12_000));
+            large_lists(s, rng, Shape { boundaries, k: 4096, malformed, ..usual });
+        }
     }
 }

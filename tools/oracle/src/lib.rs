@@ -25,12 +25,12 @@ pub fn jump(ix: &seek::AreaIndex, area: (u64, u64), frame: u32) -> u64 {
 }
 
 const USAGE: &str = "\
-oracle run [--show]                      answers the script on standard input
+oracle run [--show] [--large]            answers the script on standard input; --large: over the tables of kind large
 oracle gen [options]                     writes scripts, and on standard error how often each answer occurred
 oracle fixed SCRIPT ANSWERS [options]    writes a list of scripts and the file of their answers
 oracle sources                           which texts of the original were built: length and FNV-1a
 oracle diff COUNT|SECONDSs REPLAY [options]  runs fresh scripts through both, until the first difference
-options: --seed N  --kinds load,merge,calls,seams|all  --scripts N  --files N  --small  --only CALL,CALL,..
+options: --seed N  --kinds load,merge,calls,seams,large|all  --scripts N  --files N  --small  --only CALL,CALL,..
          --notes (counts by kind of damage)  --counts FILE (diff: tables of the counts)  --unchecked (no answer need occur)
          --shrink SECONDS (30: how long a script that shows a difference is made smaller)
 ";
@@ -75,7 +75,13 @@ fn arguments(words: impl Iterator<Item = String>) -> Option<Arguments> {
     while let Some(w) = words.next() {
         match w.as_str() {
             "--seed" => a.seed = words.next()?.parse().ok()?,
-            "--kinds" => a.kinds = generate::kinds(&words.next()?)?,
+            "--kinds" => {
+                a.kinds = generate::kinds(&words.next()?)?;
+                if a.kinds.contains(&generate::Kind::Large) {
+                    script::enlarge();
+                }
+            }
+            "--large" => script::enlarge(),
             "--scripts" => a.scripts = Some(words.next()?.parse().ok()?),
             "--files" => a.files = Some(words.next()?.parse().ok()?),
             "--small" => a.small = true,

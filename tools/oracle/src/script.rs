@@ -13,18 +13,46 @@ use crate::toc::Area;
 
 /// Places that hold a list each.
 pub const PLACES: usize = 4;
-/// Records in the tables of checkpoints, frames and parts of a place.
-pub const BOUNDARIES: usize = 1024;
-/// Bytes in a place's store of frame bytes.
-pub const STORE: usize = 131_072;
-/// The largest M whose tables of hints (M + 65,536) and confirmations (M + 1) a place has.
-pub const MOST: usize = 16_384;
-/// The longest output that `save` lends.
-pub const OUTPUT: usize = 262_144;
-/// The longest line, its newline included.
-pub const LINE: usize = 532_480;
-/// The most hints that one `add_hints` brings.
-pub const GIVEN_HINTS: u32 = 4_096;
+/// How large the tables are that both sides lend, and what a line may bring.
+pub struct Sizes {
+    /// Records in the tables of checkpoints, frames and parts of a place.
+    pub boundaries: usize,
+    /// Bytes in a place's store of frame bytes.
+    pub store: usize,
+    /// The largest M whose tables of hints (M + 65,536) and confirmations (M + 1) a place has.
+    pub most: usize,
+    /// The longest output that `save` lends.
+    pub output: usize,
+    /// The longest line, its newline included.
+    pub line: usize,
+    /// The most hints that one `add_hints` brings.
+    pub given_hints: u32,
+}
+
+const USUAL: Sizes =
+    Sizes { boundaries: 1024, store: 131_072, most: 16_384, output: 262_144, line: 532_480, given_hints: 4_096 };
+
+/// The sizes of kind `large`.
+const LARGE: Sizes = Sizes {
+    boundaries: 16_384,
+    store: 1_048_576,
+    most: 65_536,
+    output: 4_194_304,
+    line: 8_388_608,
+    given_hints: 65_537,
+};
+
+static LARGER: std::sync::atomic::AtomicBool = std::sync::atomic::AtomicBool::new(false);
+
+/// From here on the tables are those of kind `large`.
+pub fn enlarge() {
+    LARGER.store(true, std::sync::atomic::Ordering::Relaxed);
+}
+
+pub fn sizes() -> &'static Sizes {
+    if LARGER.load(std::sync::atomic::Ordering::Relaxed) { &LARGE } else { &USUAL }
+}
+
 /// The most malformed LSNs that one `absorb` brings.
 pub const GIVEN_LSNS: u32 = 16_384;
 /// The most bytes of a frame under assembly that one `record` brings.
@@ -274,7 +302,7 @@ impl Oracle {
 
     /// Runs one line; false where it is not a line of a script.
     pub fn line(&mut self, line: &[u8], out: &mut Vec<u8>) -> bool {
-        if line.is_empty() || line.len() >= LINE {
+        if line.is_empty() || line.len() >= sizes().line {
             return false;
         }
         if line[0] == b'#' {
@@ -430,7 +458,7 @@ impl Oracle {
                 Some(Number(ix.bind_fingerprint(v).map_or_else(|e| number(&e), |()| 0), Vec::new()))
             }
             b"add_hints" => {
-                let (p, n) = (w.place()?, w.u32().filter(|&n| n <= GIVEN_HINTS)?);
+                let (p, n) = (w.place()?, w.u32().filter(|&n| n <= sizes().given_hints)?);
                 let mut list = Vec::new();
                 for _ in 0..n {
                     list.push((w.u32()?, w.u32()?));
@@ -687,7 +715,7 @@ impl Oracle {
     }
 
     fn save(&mut self, w: &mut Words<'_>) -> Option<Answer> {
-        let (p, len) = (w.place()?, usize::try_from(w.u64()?).ok().filter(|&n| n <= OUTPUT)?);
+        let (p, len) = (w.place()?, usize::try_from(w.u64()?).ok().filter(|&n| n <= sizes().output)?);
         let Some(ix) = &self.places[p].list else { return Some(Nothing) };
         let bytes = ix.to_bytes();
         let mut output = vec![0xa5u8; len];
@@ -710,12 +738,12 @@ impl Oracle {
         Some(Number(n, values))
     }
 
-    /// A save into an output of OUTPUT bytes, and a load of exactly these bytes in the same place.
+    /// A save into the longest output, and a load of exactly these bytes in the same place.
     fn reload(&mut self, p: usize, limit: u64) -> Option<Answer> {
         let Some(ix) = &self.places[p].list else { return Some(Nothing) };
         let a = self.places[p].area?;
         let bytes = ix.to_bytes();
-        if bytes.len() > OUTPUT {
+        if bytes.len() > sizes().output {
             return Some(Number(40, Vec::new()));
         }
         match AreaIndex::from_bytes(&a.area(), a.image, &bytes, usize::try_from(limit).ok()?) {
@@ -826,5 +854,5 @@ impl Oracle {
 /// Question 3, for a place's tables.
 fn too_large(ix: &AreaIndex) -> bool {
     let (boundaries, budget, most) = access::sizes(ix);
-    boundaries > BOUNDARIES || budget > STORE || most > MOST
+    boundaries > sizes().boundaries || budget > sizes().store || most > sizes().most
 }
