@@ -3,7 +3,6 @@
 use crate::limits::Work;
 use crate::lists::{List, START, list};
 use crate::plain;
-use crate::raw::BLOCK;
 use crate::report::{Report, Row, grouped};
 use crate::rounds::{Clock, fresh, partly, repeat};
 use crate::tables::{Recorder, Tables};
@@ -27,6 +26,11 @@ pub fn rows(r: &Report) {
     let list = List { checkpoints: 0, budget: 1 << 20, ..list(7_400, 64) };
     let reading = Reading { list, sector, frame: plain::bytes(8_192) };
     if r.wants("record") {
+        for held in [1, 64, 7_399] {
+            reading.recorded(r, held);
+        }
+    }
+    if r.wants("record and absorb") {
         for stretch in [64, 1_024, 7_400] {
             reading.whole(r, stretch);
         }
@@ -172,15 +176,39 @@ impl Reading {
         });
     }
 
-    fn finished(&self, r: &Report) {
-        let n = self.list.boundaries;
-        let (mut t, mut theirs) = (Tables::loaded(&self.list), calls::Recorder::new(&self.list.theirs(), u64::from(START)));
-        let mut recorder = self.recorder(&mut t);
+    /// Recorders with the first `n` checkpoints, not yet absorbed.
+    fn begun(&self, n: u32) -> (Recorder, calls::Recorder) {
+        let mut t = Tables::loaded(&self.list);
+        let (mut ours, mut theirs) = (self.recorder(&mut t), calls::Recorder::new(&self.list.theirs(), u64::from(START)));
         for j in 0..n {
-            self.record(&mut recorder, j);
+            self.record(&mut ours, j);
             self.their_record(&mut theirs, j);
         }
-        let (block, mut asked): ([u8; BLOCK], Recorder) = (recorder.block, recorder.copy());
+        (ours, theirs)
+    }
+
+    /// One checkpoint more.
+    fn recorded(&self, r: &Report, n: u32) {
+        let (mut recorder, theirs) = self.begun(n);
+        let (block, mut asked) = (recorder.block, recorder.copy());
+        r.row(Row {
+            call: "record",
+            case: format!("with {} recorded", grouped(u64::from(n))),
+            ours: partly(|clock| {
+                recorder.block = block;
+                clock.time(|| self.record(&mut recorder, n));
+            }),
+            theirs: Some(fresh(|| theirs.clone(), |rec| self.their_record(rec, n))),
+            four: Some(repeat(move || asked.four())),
+            least: Work { sum: 2048, read: 24 * n as usize, ..Work::default() },
+            goal: Some((1.0, false)),
+        });
+    }
+
+    fn finished(&self, r: &Report) {
+        let n = self.list.boundaries;
+        let (mut recorder, mut theirs) = self.begun(n);
+        let (block, mut asked) = (recorder.block, recorder.copy());
         r.row(Row {
             call: "finish",
             case: "7,400 checkpoints".to_string(),
