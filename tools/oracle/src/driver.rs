@@ -117,6 +117,147 @@ fn report(stats: &Stats, a: &Arguments) -> Result<(), String> {
     if missing.is_empty() || a.unchecked { Ok(()) } else { Err(format!("never occurred: {}", missing.join(", "))) }
 }
 
+/// What accepted calls do in scripts of all kinds.
+const BRANCHES: [(&str, &[&str]); 12] = [
+    (
+        "absorb",
+        &[
+            "a new end state",
+            "a stopped recorder",
+            "all checkpoints held already",
+            "an end state that is held",
+            "checkpoints, none of them held already",
+            "checkpoints, some of them held already",
+            "malformed list full",
+            "no checkpoint recorded",
+            "part: a frame of its own",
+            "part: joined to the last frame",
+            "part: passed over, a frame past the budget",
+            "part: passed over, growth past the budget",
+            "part: passed over, other bytes than the last frame",
+            "part: the last frame grown",
+            "recorder from before the frontier",
+        ],
+    ),
+    (
+        "add_hints",
+        &[
+            "no hint",
+            "no hints kept",
+            "not rising",
+            "rising, among the held ones",
+            "rising, behind the held ones",
+            "thinned",
+        ],
+    ),
+    (
+        "confirm",
+        &[
+            "a new one",
+            "a new one, the lowest is dropped",
+            "a new one, which is dropped",
+            "another digest replaces",
+            "nothing kept, M is 0",
+            "nothing kept, fingerprint not checked",
+            "the same digest, a lower threshold",
+            "the same digest, no lower threshold",
+        ],
+    ),
+    ("first_record", &["a number", "none"]),
+    ("flush", &["no tail", "the tail listed"]),
+    (
+        "hint",
+        &[
+            "a confirmed one, also the nearest",
+            "a confirmed one, another is nearer",
+            "a later hint too far past the end",
+            "a run of fewer than 3 frames",
+            "no local spacing",
+            "none, no hints",
+            "none, none in reach",
+            "several of its number",
+            "spacing of the run behind it",
+            "spacing to the hint before",
+            "the average is larger, or alone",
+            "the local spacing is larger",
+            "the nearest, none confirmed",
+            "through a later hint",
+        ],
+    ),
+    ("hint_recorder", &["made", "none, no hints kept"]),
+    (
+        "merge",
+        &[
+            "another malformed list not taken",
+            "another malformed list taken",
+            "checkpoints",
+            "checkpoints and end state",
+            "confirmations kept",
+            "end state only",
+            "fingerprint taken",
+            "hints added",
+            "hints thinned",
+            "image id taken",
+            "no hints kept",
+            "nothing new, as many checkpoints",
+            "nothing new, fewer checkpoints",
+            "part: a frame of its own",
+            "part: joined to the last frame",
+            "part: passed over, a frame past the budget",
+            "part: passed over, growth past the budget",
+            "part: passed over, other bytes than the last frame",
+            "part: the last frame grown",
+        ],
+    ),
+    (
+        "plan",
+        &[
+            "a checkpoint, no frame under assembly",
+            "a checkpoint, no part held",
+            "a checkpoint, part held",
+            "the end",
+            "the start",
+        ],
+    ),
+    (
+        "record",
+        &[
+            "no frame under assembly",
+            "part: a frame of its own",
+            "part: joined to the last frame",
+            "part: none, back 32 or less",
+            "part: passed over, a frame past the budget",
+            "part: passed over, growth past the budget",
+            "part: passed over, longer than a frame",
+            "part: passed over, other bytes than the last frame",
+            "part: the last frame grown",
+        ],
+    ),
+    ("recorder", &["running", "stopped, of a complete list"]),
+    (
+        "see",
+        &[
+            "an LSN above 32 bits",
+            "listed, a lower number",
+            "listed, the first",
+            "listed, the spacing reached",
+            "no number",
+            "the tail",
+        ],
+    ),
+];
+
+/// What no accepted call did, where scripts of all kinds were run.
+fn missing_branches(stats: &Stats, a: &Arguments) -> Vec<String> {
+    let every = generate::kinds("all").unwrap_or_default();
+    if every.iter().any(|k| !a.kinds.contains(k)) {
+        return Vec::new();
+    }
+    let all = BRANCHES.iter().flat_map(|(call, list)| list.iter().map(move |what| (*call, *what)));
+    let never = all.filter(|b| asked(a, b.0) && !stats.branches.contains_key(b));
+    never.map(|(call, what)| format!("{call}: {what}")).collect()
+}
+
 /// What never occurred of what the kinds asked for have.
 fn missing(stats: &Stats, a: &Arguments) -> Vec<String> {
     let mut missing = Vec::new();
@@ -558,6 +699,7 @@ pub fn differences(a: &Arguments) -> Result<(), String> {
     );
     let Some(file) = &a.counts else { return Ok(()) };
     std::fs::write(file, tables(&oracle.stats)).map_err(|e| format!("{file}: {e}"))?;
-    let missing = missing(&oracle.stats, a);
+    let mut missing = missing(&oracle.stats, a);
+    missing.extend(missing_branches(&oracle.stats, a));
     if missing.is_empty() || a.unchecked { Ok(()) } else { Err(format!("never occurred: {}", missing.join(", "))) }
 }

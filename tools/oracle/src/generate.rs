@@ -19,6 +19,8 @@ pub enum Kind {
     Calls,
     /// Readings and lists that are equal but for one number: `record`, `finish`, `absorb`, `merge`.
     Seams,
+    /// Hints and confirmations at the bounds: M, ties, falling numbers, reach, merges of two lists.
+    Hints,
     /// Lists that need larger tables: 65,536 hints and confirmations, up to 16,384 boundaries, budgets up to 1,048,576.
     Large,
 }
@@ -31,8 +33,9 @@ pub fn kinds(names: &str) -> Option<Vec<Kind>> {
             "merge" => Some(vec![Kind::Merge]),
             "calls" => Some(vec![Kind::Calls]),
             "seams" => Some(vec![Kind::Seams]),
+            "hints" => Some(vec![Kind::Hints]),
             "large" => Some(vec![Kind::Large]),
-            "all" => Some(vec![Kind::Load, Kind::Load, Kind::Merge, Kind::Calls, Kind::Seams]),
+            "all" => Some(vec![Kind::Load, Kind::Load, Kind::Merge, Kind::Calls, Kind::Seams, Kind::Hints]),
             _ => None,
         })
         .collect::<Option<Vec<_>>>()
@@ -80,6 +83,7 @@ pub fn script(kind: Kind, number: u32, seed: u64, small: bool, out: &mut Vec<u8>
         Kind::Merge => merges(&mut s, &mut rng, small),
         Kind::Calls => calls(&mut s, &mut rng, small),
         Kind::Seams => seams(&mut s, &mut rng),
+        Kind::Hints => hints(&mut s, &mut rng, small),
         Kind::Large => large(&mut s, &mut rng),
     }
     s.loads
@@ -901,5 +905,101 @@ fn large(s: &mut Script<'_>, rng: &mut Rng) {
             let (boundaries, malformed) = (rng.range(3, 30), rng.range(4000, 12_000));
             large_lists(s, rng, Shape { boundaries, k: 4096, malformed, ..usual });
         }
+    }
+}
+
+/// The frame number at a place of the area: all equal, falling, rising, in ties, in waves or scattered.
+fn numbered(i: u64, form: u64) -> u32 {
+    let n = match form {
+        0 => 100,
+        1 => 20_000 - i.min(20_000),
+        2 => i,
+        3 => i / 7,
+        4 => i % 90,
+        5 => 3 * i,
+        _ => (i * 7919) % 5000,
+    };
+    (n % u64::from(LIM)) as u32
+}
+
+/// A list of hints in the area: rising, reversed, with two changed places, or in no order; some of them more than once.
+fn hints_of(rng: &mut Rng, a: &AreaNumbers, form: u64, count: u64) -> Vec<(u64, u32)> {
+    let len = a.end - a.start;
+    let mut out: Vec<(u64, u32)> =
+        (0..count).map(|_| rng.below(len)).map(|i| (a.start + i, numbered(i, form))).collect();
+    if rng.chance(3, 4) {
+        out.sort_unstable();
+        out.dedup();
+    }
+    match rng.below(6) {
+        0 => out.reverse(),
+        1 if out.len() > 1 => {
+            let (i, j) = (rng.below(out.len() as u64) as usize, rng.below(out.len() as u64) as usize);
+            out.swap(i, j);
+        }
+        2 if !out.is_empty() => {
+            let h = *rng.pick(&out);
+            out.push(h);
+        }
+        _ => {}
+    }
+    out
+}
+
+fn hints(s: &mut Script<'_>, rng: &mut Rng, small: bool) {
+    let len = if small || rng.chance(9, 10) { rng.range(1, 300) } else { rng.range(300, 20_000) } as u32;
+    let start = rng.range(500, 600_000) as u32;
+    let a = AreaNumbers::new(0, start, start + len - 1, 2, u64::from(start + len) + rng.below(100));
+    let form = rng.below(7);
+    let mut known: Vec<(u64, u32)> = vec![(a.start, numbered(0, form))];
+    for p in 0..2 {
+        let most = *rng.pick(&[0, 1, 2, 3, 4, 5, 8, 2048, 16_384]);
+        fresh(s, p, &a, (65_536, 0, *rng.pick(&[0, 1, 2, 8, 75]), most));
+        if rng.chance(2, 3) {
+            say!(s, "fingerprint {p} 5");
+        }
+        for _ in 0..rng.range(1, 4) {
+            let near = (most + rng.below(4)).saturating_sub(1);
+            let count = *rng.pick(&[0, 1, 2, 3, near.min(40), near.min(40), 2 * most.min(20)]);
+            let count = if !small && rng.chance(1, 60) { *rng.pick(&[near.min(4095), 4095]) } else { count };
+            let list = hints_of(rng, &a, form, count);
+            say_hints(s, p, &list);
+            if !list.is_empty() {
+                known = list;
+            }
+            for _ in 0..rng.below(4) {
+                let (lsn, t) = *rng.pick(&known);
+                let u = (u64::from(t) + rng.below(130)).saturating_sub(1) as u32;
+                say!(s, "confirm {p} {lsn} {u} {}", rng.below(2));
+            }
+        }
+        ask_near(s, rng, p, &known, 6);
+    }
+    say!(s, "hint_recorder {}", rng.below(2));
+    let mut i = rng.below(u64::from(len));
+    for _ in 0..rng.below(12) {
+        let t = numbered(i, form);
+        say!(s, "see {} 04{:02x}{:02x}{:02x}", a.start + i, t / 4500, t / 75 % 60, t % 75);
+        i = (i + rng.below(3)) % u64::from(len);
+    }
+    say!(s, "flush");
+    say!(s, "take 0");
+    let (p, q) = *rng.pick(&[(0, 1), (1, 0)]);
+    say!(s, "merge {p} {q}");
+    ask_near(s, rng, p, &known, 6);
+    say!(s, "reload {p} {}", *rng.pick(&[0, 8, 16, 24, 64, 100, 16_384, 131_072]));
+    say!(s, "merge {q} {p}");
+    say!(s, "save {q} 200000");
+}
+
+/// `hint` for frames at the reach of a hint, or one more or less, over ranges of about a reach.
+fn ask_near(s: &mut Script<'_>, rng: &mut Rng, p: usize, known: &[(u64, u32)], count: u64) {
+    for _ in 0..count {
+        let t = rng.pick(known).1;
+        let first = t.saturating_add(*rng.pick(&[0, 1, 2, 30, 63, 64, 65]));
+        let end =
+            if rng.chance(1, 3) { rng.pick(known).1.saturating_sub(*rng.pick(&[0, 1, 63, 64, 65])) } else { first };
+        let end = end.max(first).saturating_add(*rng.pick(&[0, 0, 1, 2, 3, 64]));
+        say!(s, "hint {p} {first} {end} {}", *rng.pick(&[0, 1, 75, 1000, 270_000]));
     }
 }
