@@ -137,8 +137,13 @@ impl Shape {
 
 impl Reading {
     pub fn random(rng: &mut Rng, shape: Shape) -> Reading {
+        let area = area(rng, shape.boundaries, shape.k);
+        Reading::of(rng, shape, area)
+    }
+
+    /// A reading of this area, which has the shape's boundaries.
+    pub fn of(rng: &mut Rng, shape: Shape, area: AreaNumbers) -> Reading {
         let Shape { boundaries, k, .. } = shape;
-        let area = area(rng, boundaries, k);
         let len = area.end - area.start;
         let mut malformed: Vec<u32> =
             (0..shape.malformed.min(len)).map(|_| (area.start + rng.below(len)) as u32).collect();

@@ -19,6 +19,8 @@ pub enum Kind {
     Calls,
     /// Readings and lists that are equal but for one number: `record`, `finish`, `absorb`, `merge`.
     Seams,
+    /// Two readings of one area that have nothing in common: `merge`, `absorb`, `save`, `reload`.
+    Unrelated,
     /// Hints and confirmations at the bounds: M, ties, falling numbers, reach, merges of two lists.
     Hints,
     /// Lists that need larger tables: 65,536 hints and confirmations, up to 16,384 boundaries, budgets up to 1,048,576.
@@ -33,9 +35,12 @@ pub fn kinds(names: &str) -> Option<Vec<Kind>> {
             "merge" => Some(vec![Kind::Merge]),
             "calls" => Some(vec![Kind::Calls]),
             "seams" => Some(vec![Kind::Seams]),
+            "unrelated" => Some(vec![Kind::Unrelated]),
             "hints" => Some(vec![Kind::Hints]),
             "large" => Some(vec![Kind::Large]),
-            "all" => Some(vec![Kind::Load, Kind::Load, Kind::Merge, Kind::Calls, Kind::Seams, Kind::Hints]),
+            "all" => {
+                Some(vec![Kind::Load, Kind::Load, Kind::Merge, Kind::Calls, Kind::Seams, Kind::Hints, Kind::Unrelated])
+            }
             _ => None,
         })
         .collect::<Option<Vec<_>>>()
@@ -84,6 +89,7 @@ pub fn script(kind: Kind, number: u32, seed: u64, small: bool, out: &mut Vec<u8>
         Kind::Calls => calls(&mut s, &mut rng, small),
         Kind::Seams => seams(&mut s, &mut rng),
         Kind::Hints => hints(&mut s, &mut rng, small),
+        Kind::Unrelated => unrelated(&mut s, &mut rng),
         Kind::Large => large(&mut s, &mut rng),
     }
     s.loads
@@ -1001,5 +1007,60 @@ fn ask_near(s: &mut Script<'_>, rng: &mut Rng, p: usize, known: &[(u64, u32)], c
             if rng.chance(1, 3) { rng.pick(known).1.saturating_sub(*rng.pick(&[0, 1, 63, 64, 65])) } else { first };
         let end = end.max(first).saturating_add(*rng.pick(&[0, 0, 1, 2, 3, 64]));
         say!(s, "hint {p} {first} {end} {}", *rng.pick(&[0, 1, 75, 1000, 270_000]));
+    }
+}
+
+/// Lists and recorders of two readings of one area, merged and absorbed in any order.
+fn unrelated(s: &mut Script<'_>, rng: &mut Rng) {
+    let shape = Shape {
+        boundaries: rng.range(0, 8),
+        k: *rng.pick(&[1, 2, 33, 64]),
+        under: *rng.pick(&[0, 4, 8]),
+        frame_bytes: 20,
+        malformed: *rng.pick(&[0, 3, 10]),
+    };
+    let first = Reading::random(rng, shape);
+    let second = Reading::of(rng, shape, first.area);
+    let mut readings = [first, second];
+    for r in &mut readings {
+        r.sector_digests();
+    }
+    let b = readings[0].checkpoints.len();
+    let places = rng.range(2, 4) as usize;
+    for p in 0..places {
+        let r = rng.pick(&readings).clone();
+        let complete = rng.chance(1, 4);
+        let n = if complete { b } else { rng.below(b as u64 + 1) as usize };
+        let mut l = r.cut(rng, n, complete, 8);
+        l.budget += *rng.pick(&[0, 10, 200]);
+        l.most = *rng.pick(&[0, 3, 40]);
+        l.fingerprint = rng.chance(1, 3).then(|| rng.below(2));
+        say!(s, "area {p} {}", l.area.words());
+        s.load("unrelated", p, 131_072, &l.encode().bytes);
+        if rng.chance(1, 2) {
+            say!(s, "recorder {p} {}", r.lsn(n.saturating_sub(1)));
+            let other = rng.pick(&readings).clone();
+            for j in n..(n + rng.below(4) as usize).min(b) {
+                record(s, rng, p, &other, j, false);
+            }
+            if rng.chance(1, 2) {
+                say!(s, "finish {p} {} {}", other.end.0, other.end.1);
+            }
+            let q = rng.below(p as u64 + 1) as usize;
+            absorb_below(s, q, p, &other, u64::MAX);
+        }
+    }
+    for _ in 0..rng.range(3, 10) {
+        let p = rng.below(places as u64) as usize;
+        let q = (p + 1 + rng.below(places as u64 - 1) as usize) % places;
+        match rng.below(8) {
+            0 => say!(s, "reload {p} {}", *rng.pick(&[0, 20, 131_072])),
+            1 => say!(s, "save {p} 8192"),
+            2 => {
+                let whole = readings[0].cut(rng, b, true, 0);
+                plans(s, rng, p, &whole, 2);
+            }
+            _ => say!(s, "merge {p} {q}"),
+        }
     }
 }

@@ -30,7 +30,7 @@ oracle gen [options]                     writes scripts, and on standard error h
 oracle fixed SCRIPT ANSWERS [options]    writes a list of scripts and the file of their answers
 oracle sources                           which texts of the original were built: length and FNV-1a
 oracle diff COUNT|SECONDSs REPLAY [options]  runs fresh scripts through both, until the first difference
-options: --seed N  --kinds load,merge,calls,seams,hints,large|all  --scripts N  --files N  --small  --only CALL,CALL,..
+options: --seed N  --kinds load,merge,calls,seams,hints,unrelated,large|all  --scripts N  --files N  --small  --only CALL,CALL,..
          --notes (counts by kind of damage)  --counts FILE (diff: tables of the counts)  --unchecked (no answer need occur)
          --shrink SECONDS (30: how long a script that shows a difference is made smaller)
 ";
