@@ -2,3 +2,4 @@ pub mod Tests
 pub mod Walk
 pub mod Same
 pub mod Examples
+pub mod DiscExamples

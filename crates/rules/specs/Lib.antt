@@ -19,3 +19,5 @@ pub mod RecorderExamples
 pub mod AbsorbExamples
 pub mod HintExamples
 pub mod MergeExamples
+pub mod Disc
+pub mod DiscExamples
