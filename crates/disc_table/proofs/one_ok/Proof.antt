@@ -4,7 +4,7 @@ use Rattle.disc_table.proofs.one_ok.Statement.{statement}
 use Rattle.disc_table.proofs.one_ok.Tie as tie
 
 returns : tie.Need-returns
-returns c = 
+returns c =
     let begins : tie.After-entry-ok = search in
     let both : tie.After-and = search in
     one-laid _ _ (begins .entry-ok .ensures) (both .and .ensures)

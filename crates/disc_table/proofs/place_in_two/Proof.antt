@@ -7,7 +7,7 @@ returns : tie.Need-returns
 returns c = place-here _ _ (c .if1 .taken)
 
 returns-2 : tie.Need-returns-2
-returns-2 c = 
+returns-2 c =
     let other : tie.Else1 = search in
     let rest : tie.After-place-in-one = search in
     place-later _ _ (other .if1 .left) (rest .place-in-one .ensures)

@@ -8,7 +8,7 @@ returns : tie.Need-returns
 returns c = too-short _ (c .if1 .taken)
 
 returns-2 : tie.Need-returns-2
-returns-2 c = 
+returns-2 c =
     let long : tie.Else1 = search in
     let count : tie.After-read-u32 = search in
     let is : tie.Then2 = search in
@@ -17,19 +17,19 @@ returns-2 c =
     done .one .ensures ∙ rw (entry .read-entry .ensures) (of-one _ (count .read-u32 .ensures) (is .if2 .taken) (long .if1 .left))
 
 returns-3 : tie.Need-returns-3
-returns-3 c = 
+returns-3 c =
     let count : tie.After-read-u32 = search in
     let none : tie.Else2 = search in
     other-count _ (count .read-u32 .ensures) (none .if2 .left) (c .if3 .taken)
 
 returns-4 : tie.Need-returns-4
-returns-4 c = 
+returns-4 c =
     let count : tie.After-read-u32 = search in
     let is : tie.Else3 = search in
     two-short _ (count .read-u32 .ensures) (is .if3 .left) (c .if4 .taken)
 
 returns-5 : tie.Need-returns-5
-returns-5 c = 
+returns-5 c =
     let count : tie.After-read-u32 = search in
     let is : tie.Else3 = search in
     let long : tie.Else4 = search in

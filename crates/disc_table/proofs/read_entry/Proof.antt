@@ -4,7 +4,7 @@ use Rattle.disc_table.proofs.read_entry.Statement.{statement}
 use Rattle.disc_table.proofs.read_entry.Tie as tie
 
 returns : tie.Need-returns
-returns c = 
+returns c =
     let slot : tie.After-read-u32 = search in
     let offset : tie.After-read-u322 = search in
     let len : tie.After-read-u323 = search in

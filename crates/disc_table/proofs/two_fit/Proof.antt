@@ -7,7 +7,7 @@ returns : tie.Need-returns
 returns c = two-refused _ _ _ _ (c .if1 .taken)
 
 returns-2 : tie.Need-returns-2
-returns-2 c = 
+returns-2 c =
     let small : tie.Else1 = search in
     let there : tie.After-and = search in
     let both : tie.After-and2 = search in

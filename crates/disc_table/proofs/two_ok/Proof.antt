@@ -4,7 +4,7 @@ use Rattle.disc_table.proofs.two_ok.Statement.{statement}
 use Rattle.disc_table.proofs.two_ok.Tie as tie
 
 returns : tie.Need-returns
-returns c = 
+returns c =
     let begins : tie.After-entry-ok = search in
     let rest : tie.After-and = search in
     let first : tie.After-entry-ok2 = search in

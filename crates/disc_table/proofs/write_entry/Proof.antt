@@ -4,7 +4,7 @@ use Rattle.disc_table.proofs.write_entry.Statement.{statement}
 use Rattle.disc_table.proofs.write_entry.Tie as tie
 
 returns : tie.Need-returns
-returns c = 
+returns c =
     let slot : tie.After-write-u32 = search in
     let offset : tie.After-write-u322 = search in
     let len : tie.After-write-u323 = search in

@@ -4,7 +4,7 @@ use Rattle.disc_table.proofs.write_one.Statement.{statement}
 use Rattle.disc_table.proofs.write_one.Tie as tie
 
 returns : tie.Need-returns
-returns c = 
+returns c =
     let count : tie.After-write-u32 = search in
     let entry : tie.After-write-entry = search in
     put-both (put-one 4 _ 0 1 (count .write-u32 .ensures)) (entry .write-entry .ensures)

@@ -4,7 +4,7 @@ use Rattle.disc_table.proofs.write_two.Statement.{statement}
 use Rattle.disc_table.proofs.write_two.Tie as tie
 
 returns : tie.Need-returns
-returns c = 
+returns c =
     let count : tie.After-write-u32 = search in
     let first : tie.After-write-entry = search in
     let second : tie.After-write-entry2 = search in
