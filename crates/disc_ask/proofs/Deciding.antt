@@ -1,0 +1,79 @@
+-- What the questions of a disc file answer. Assumes nothing.
+use mathlib.Core.Path.{_≡_, refl, sym, ap, _∙_}
+use mathlib.Core.Bool.{Bool, true, false, _&&_}
+use mathlib.Core.List.{List}
+use mathlib.Core.Option.{Option, none, some}
+use Prim.Native.Nat.{ℕ}
+use native.Mathlib.Omega.{arith}
+use Rattle.rules.specs.declared.Area.{Area}
+use Rattle.rules.specs.Tests.{Answer, Refused, Accepted, firstNo, after, bind}
+use Rattle.rules.specs.Values.{Index}
+use Rattle.rules.specs.Disc.{Disc, entriesIn, entryOf, contentsOk, bodyOf, slotArea, loadBody, loadBodies, loadDisc}
+use Rattle.disc_table.specs.declared.Contents.the-variants.{Broken, Lists}
+use Rattle.disc_table.specs.declared.Place.{Place}
+use Rattle.disc_table.specs.Contents.{entryIn, contentsIn}
+use Rattle.disc_table.specs.Inside.{Locates}
+use Rattle.disc_table.proofs.Inside.{locates, breaks}
+use Rattle.index.specs.Index.{Tables, roomOf}
+use Rattle.disc_ask.specs.declared.Asked.{Asked}
+use Rattle.disc_ask.specs.declared.Asked.the-variants as asked
+use Rattle.disc_ask.specs.declared.Decided.{Decided}
+use Rattle.disc_ask.specs.declared.Decided.the-variants as decided
+use Rattle.disc_ask.specs.Ask.{askedOf, decidedBy, Located, Ready, Decision}
+
+-- ---- by what the questions answered
+pub record Loads (r : Answer (Option Index)) : Type 0 where
+  pub list : Option Index
+  pub is : r ≡ Accepted list
+
+pub loads-by : (r : Answer (Option Index)) → asked.Passed ≡ askedOf r → Loads r
+unfolding askedOf
+loads-by (Refused m) e = let z : _≡_ {A = ℕ} 0 1 = cc in let f : ⊥ = omega arith in absurd f
+loads-by (Accepted o) e = record { list = o; is = refl }
+
+refused-by : (r : Answer (Option Index)) {n : ℕ} → asked.Refused n ≡ askedOf r → r ≡ Refused n
+unfolding askedOf
+refused-by (Refused m) e = cc
+refused-by (Accepted o) e = let z : _≡_ {A = ℕ} 0 1 = cc in let f : ⊥ = omega arith in absurd f
+
+pub located : {a0 a1 : Area} {b : List ℕ} {r : Bool} {p q : Place} → r ≡ (slotArea 0 a0 && slotArea 1 a1) → r ≡ true → Lists p q ≡ contentsIn b → Located a0 a1 b p q
+located {a0} {a1} {b} e h k = record { areas = sym e ∙ h; table = locates b k }
+
+module _ {a0 a1 : Area} {b : List ℕ} (limit : ℕ) (t u : Tables) where
+  -- ---- what is decided
+  refuses : {n : ℕ} → loadDisc (roomOf t) (roomOf u) a0 a1 b limit ≡ Refused n → Decision a0 a1 b limit t u (decided.Refused n)
+  refuses {n} e =
+      record {
+        refused = λ m q. let p : n ≡ m = cc in rw (← p) e;
+        ready = λ p q h. let z : _≡_ {A = ℕ} 0 1 = cc in let f : ⊥ = omega arith in absurd f;
+      }
+
+  pub no-areas : {r : Bool} → r ≡ (slotArea 0 a0 && slotArea 1 a1) → r ≡ false → Decision a0 a1 b limit t u (decided.Refused 1)
+  unfolding loadDisc firstNo after
+  no-areas e h = refuses (rw (← e, h))
+
+  pub no-table : {r : Bool} → r ≡ (slotArea 0 a0 && slotArea 1 a1) → r ≡ true → Broken ≡ contentsIn b → Decision a0 a1 b limit t u (decided.Refused 54)
+  unfolding loadDisc firstNo after
+  no-table e h k = refuses (rw (← e, h, breaks b k))
+
+  module _ {p q : Place} (l : Located a0 a1 b p q) where
+    -- the file's answer by the places
+    pub by-places : loadDisc (roomOf t) (roomOf u) a0 a1 b limit
+        ≡ bind (loadBody (roomOf t) a0 limit (bodyOf b (entryIn p)))
+        (λ x. bind (loadBody (roomOf u) a1 limit (bodyOf b (entryIn q))) (λ y. Accepted (record { slot0 = x; slot1 = y })))
+    unfolding loadDisc firstNo after loadBodies
+    by-places = rw (l .areas, l .table .contents, l .table .entry0, l .table .entry1) refl
+
+    pub bodies : (v w : Asked) {r : Decided} → v ≡ askedOf (loadBody (roomOf t) a0 limit (bodyOf b (entryIn p)))
+        → w ≡ askedOf (loadBody (roomOf u) a1 limit (bodyOf b (entryIn q))) → r ≡ decidedBy p q v w → Decision a0 a1 b limit t u r
+    unfolding decidedBy bind
+    bodies (asked.Refused n) w e f d = rw d (refuses (by-places ∙ rw (refused-by _ e)))
+    bodies asked.Passed (asked.Refused n) e f d =
+        let x = loads-by _ e in rw d (refuses (by-places ∙ rw (x .is, refused-by _ f)))
+    bodies asked.Passed asked.Passed e f d =
+        rw d
+        (record {
+          refused = λ n h. let z : _≡_ {A = ℕ} 0 1 = cc in let g : ⊥ = omega arith in absurd g;
+          ready = λ p' q' h.
+              let i : p ≡ p' = cc in let j : q ≡ q' = cc in rw (← i, ← j) (record { located = l; loads0 = e; loads1 = f });
+        })
