@@ -1,0 +1,152 @@
+// Loading a disc file under the areas of slots 0 and 1, each list into tables of its own: all lists or none.
+use disc_ask::Decided;
+use disc_ask::decide;
+use disc_table::Place;
+use index::Made;
+use load::from_bytes;
+use rules::Area;
+use rules::AreaIndex;
+ghost use mathlib.Core.Path.{_≡_};
+ghost use Rattle.rules.specs.Disc.{bodyOf, loadBody};
+ghost use Rattle.disc_table.specs.Contents.{entryIn};
+ghost use Rattle.disc_table.specs.Inside.{Inside};
+ghost use Rattle.index.specs.Index.{tables, roomOf};
+ghost use Rattle.disc_load.specs.Calls.{discOut, loadDiscIn};
+ghost use Rattle.disc_load.specs.Needs.{listedOf, listOut, listOutOf};
+
+// The list of a slot: none in the file, or the numbers of the list that the slot's tables then hold.
+pub enum Listed {
+    Absent,
+    Index(AreaIndex),
+}
+
+// What loading answers: a refusal number, or the lists of slots 0 and 1.
+pub enum Loaded {
+    Refused(u32),
+    Lists(Listed, Listed),
+}
+
+fn listed_of(made: Made) -> Listed
+    ensures { λ r. ⌜ r ≡ listedOf made ⌝ }
+{
+    match made {
+        Made::Refused(_) => Listed::Absent,
+        Made::Index(x) => Listed::Index(x),
+    }
+}
+
+// Its list into the slot's tables; an absent one leaves them.
+fn commit_body(
+    place: Place,
+    area: Area,
+    bytes: &[u8],
+    limit: u64,
+    checkpoints: &mut [u8],
+    frames: &mut [u8],
+    store: &mut [u8],
+    parts: &mut [u8],
+    malformed: &mut [u8],
+    hints: &mut [u8],
+    confirmed: &mut [u8],
+) -> Listed
+    requires { ⌜ Inside (now bytes) place ⌝ }
+    ensures { λ r. ⌜ listOut r (tables (now (checkpoints .exit)) (now (frames .exit)) (now (store .exit)) (now (parts .exit)) (now (malformed .exit)) (now (hints .exit)) (now (confirmed .exit))) ≡ listOutOf (tables (now (checkpoints .entry)) (now (frames .entry)) (now (store .entry)) (now (parts .entry)) (now (malformed .entry)) (now (hints .entry)) (now (confirmed .entry))) (loadBody (roomOf (tables (now (checkpoints .entry)) (now (frames .entry)) (now (store .entry)) (now (parts .entry)) (now (malformed .entry)) (now (hints .entry)) (now (confirmed .entry)))) area limit (bodyOf (now (bytes .entry)) (entryIn place))) ⌝ }
+{
+    match place {
+        Place::Absent => Listed::Absent,
+        Place::At(e) => {
+            let from = e.offset as usize;
+            let to = from + e.len as usize;
+            let made = from_bytes(
+                area,
+                &bytes[from..to],
+                limit,
+                checkpoints,
+                frames,
+                store,
+                parts,
+                malformed,
+                hints,
+                confirmed,
+            );
+            listed_of(made)
+        }
+    }
+}
+
+// The lists of a disc file, limited: that of slot 0 into the first tables, that of slot 1 into the other ones.
+pub fn from_disc(
+    area0: Area,
+    area1: Area,
+    bytes: &[u8],
+    limit: u64,
+    checkpoints: &mut [u8],
+    frames: &mut [u8],
+    store: &mut [u8],
+    parts: &mut [u8],
+    malformed: &mut [u8],
+    hints: &mut [u8],
+    confirmed: &mut [u8],
+    other_checkpoints: &mut [u8],
+    other_frames: &mut [u8],
+    other_store: &mut [u8],
+    other_parts: &mut [u8],
+    other_malformed: &mut [u8],
+    other_hints: &mut [u8],
+    other_confirmed: &mut [u8],
+) -> Loaded
+    ensures { λ r. ⌜ discOut r (tables (now (checkpoints .exit)) (now (frames .exit)) (now (store .exit)) (now (parts .exit)) (now (malformed .exit)) (now (hints .exit)) (now (confirmed .exit))) (tables (now («other_checkpoints» .exit)) (now («other_frames» .exit)) (now («other_store» .exit)) (now («other_parts» .exit)) (now («other_malformed» .exit)) (now («other_hints» .exit)) (now («other_confirmed» .exit))) ≡ loadDiscIn area0 area1 (now (bytes .entry)) limit (tables (now (checkpoints .entry)) (now (frames .entry)) (now (store .entry)) (now (parts .entry)) (now (malformed .entry)) (now (hints .entry)) (now (confirmed .entry))) (tables (now («other_checkpoints» .entry)) (now («other_frames» .entry)) (now («other_store» .entry)) (now («other_parts» .entry)) (now («other_malformed» .entry)) (now («other_hints» .entry)) (now («other_confirmed» .entry))) ⌝ }
+{
+    let decided = decide(
+        area0,
+        area1,
+        bytes,
+        limit,
+        checkpoints,
+        frames,
+        store,
+        parts,
+        malformed,
+        hints,
+        confirmed,
+        other_checkpoints,
+        other_frames,
+        other_store,
+        other_parts,
+        other_malformed,
+        other_hints,
+        other_confirmed,
+    );
+    match decided {
+        Decided::Refused(n) => Loaded::Refused(n),
+        Decided::Ready(first, second) => {
+            let x = commit_body(
+                first,
+                area0,
+                bytes,
+                limit,
+                checkpoints,
+                frames,
+                store,
+                parts,
+                malformed,
+                hints,
+                confirmed,
+            );
+            let y = commit_body(
+                second,
+                area1,
+                bytes,
+                limit,
+                other_checkpoints,
+                other_frames,
+                other_store,
+                other_parts,
+                other_malformed,
+                other_hints,
+                other_confirmed,
+            );
+            Loaded::Lists(x, y)
+        }
+    }
+}
