@@ -1,0 +1,121 @@
+use mathlib.Core.Path.{refl}
+use mathlib.Core.List.{[], _∷_}
+use native.Mathlib.Omega.{arith}
+use borrow.Author.Tests.{not-true, not-false}
+use Rattle.index.specs.Index.{Tables, tables, indexIn}
+use Rattle.save.proofs.Saving.{framed}
+use Rattle.disc_save.proofs.Files.{file-of-one}
+use Rattle.disc_save.proofs.Answers.{one-contents, one-small, one-length, as-broken, as-short, as-done}
+use borrow.Author.Needs.{needs}
+use Rattle.disc_save.proofs.write_list.Statement.{statement}
+use Rattle.disc_save.proofs.write_list.Tie as tie
+
+-- the tables as they are lent
+abbrev lent : tie.Start → Tables
+lent s =
+    let a = s .args in
+    tables (a .checkpoints .now) (a .frames .now) (a .store .now) (a .parts .now) (a .malformed .now) (a .hints .now) (a .confirmed .now)
+
+abbrev begin : tie.After-slot-of → tie.Start
+begin p = search
+
+-- where 54 is asked
+abbrev sized : tie.After-one-fits → tie.After-saved-length
+sized p = search
+
+abbrev slot-at : tie.After-saved-length → tie.After-slot-of
+slot-at p = search
+
+abbrev fits-at : tie.Else1 → tie.After-one-fits
+fits-at p = search
+
+saved-length-requires : tie.Need-saved-length-requires
+saved-length-requires c κs =
+    let start : tie.Start = search in
+    framed (start .args .x) (lent start) refl (start .pre)
+
+returns : tie.Need-returns
+returns c =
+    let fits : tie.After-one-fits = search in
+    let size = sized fits in
+    let slot = slot-at size in
+    let start = begin slot in
+    as-broken ((indexIn (start .args .x) (lent start)) ∷ []) (start .args .out .now)
+    (one-contents (indexIn (start .args .x) (lent start)) (slot .slot-of .ensures) (size .saved-length .ensures (lent start) refl) (fits .one-fits .ensures)) (not-true _ (c .if1 .taken))
+
+add-total : tie.Need-add-total
+add-total c =
+    let passed : tie.Else1 = search in
+    let fits = fits-at passed in
+    let size = sized fits in
+    let slot = slot-at size in
+    let start = begin slot in
+    let l = size .saved-length .ensures (lent start) refl in
+    omega (arith, one-small (indexIn (start .args .x) (lent start)) l (one-contents (indexIn (start .args .x) (lent start)) (slot .slot-of .ensures) l (fits .one-fits .ensures)) (not-false _ (passed .if1 .left)))
+
+returns-2 : tie.Need-returns-2
+returns-2 c =
+    let passed : tie.Else1 = search in
+    let fits = fits-at passed in
+    let size = sized fits in
+    let slot = slot-at size in
+    let start = begin slot in
+    let l = size .saved-length .ensures (lent start) refl in
+    as-short ((indexIn (start .args .x) (lent start)) ∷ []) (start .args .out .now) (one-contents (indexIn (start .args .x) (lent start)) (slot .slot-of .ensures) l (fits .one-fits .ensures)) (not-false _ (passed .if1 .left))
+    (one-length (indexIn (start .args .x) (lent start)) l) (c .if2 .taken)
+
+cast-t20 : tie.Need-cast-t20
+cast-t20 c =
+    let passed : tie.Else1 = search in
+    let fits = fits-at passed in
+    let size = sized fits in
+    let slot = slot-at size in
+    let start = begin slot in
+    let l = size .saved-length .ensures (lent start) refl in
+    omega (arith, one-small (indexIn (start .args .x) (lent start)) l (one-contents (indexIn (start .args .x) (lent start)) (slot .slot-of .ensures) l (fits .one-fits .ensures)) (not-false _ (passed .if1 .left)))
+
+write-one-requires : tie.Need-write-one-requires
+write-one-requires c κs =
+    let long : tie.Else2 = search in
+    omega (arith, long .if2 .left)
+
+put-list-requires : tie.Need-put-list-requires
+put-list-requires c κs =
+    let table : tie.After-write-one = search in
+    let long : tie.Else2 = search in
+    let passed : tie.Else1 = search in
+    let size = sized (fits-at passed) in
+    let start = begin (slot-at size) in
+    (start .pre, size .saved-length .ensures (lent start) refl, omega (arith, long .if2 .left, table .write-one .ensures .ends, table .write-one .kept .0))
+
+returns-3 : tie.Need-returns-3
+returns-3 c =
+    let list : tie.After-put-list = search in
+    let table : tie.After-write-one = search in
+    let long : tie.Else2 = search in
+    let passed : tie.Else1 = search in
+    let fits = fits-at passed in
+    let size = sized fits in
+    let slot = slot-at size in
+    let start = begin slot in
+    let l = size .saved-length .ensures (lent start) refl in
+    as-done ((indexIn (start .args .x) (lent start)) ∷ []) (start .args .out .now) (one-contents (indexIn (start .args .x) (lent start)) (slot .slot-of .ensures) l (fits .one-fits .ensures)) (not-false _ (passed .if1 .left))
+    (one-length (indexIn (start .args .x) (lent start)) l) (long .if2 .left)
+    (file-of-one (indexIn (start .args .x) (lent start)) (slot .slot-of .ensures) l (long .if2 .left) (table .write-one .ensures) (list .put-list .ensures))
+
+pub write-list-spec : {M : Type 1} → statement M
+write-list-spec =
+    tie.close
+    (tie.spec
+    (λ c κs. search needs)
+    saved-length-requires
+    (λ c κs. search needs)
+    returns
+    add-total
+    returns-2
+    (λ c. search needs)
+    cast-t20
+    write-one-requires
+    put-list-requires
+    (λ c. search needs)
+    returns-3)
