@@ -1,0 +1,281 @@
+-- What holds of disc files. Assumes nothing.
+use mathlib.Core.Path.{_≡_, refl, sym, ap, _∙_}
+use mathlib.Core.Bool.{Bool, true, false, _&&_, cond}
+use mathlib.Core.List.{List, [], _∷_, _++_, append-assoc}
+use mathlib.Core.Option.{Option, none, some}
+use Prim.Native.Nat.{ℕ, _+_, _≤_, _<_}
+use native.Mathlib.Omega.{arith}
+use borrow.Author.Tests.{eq-eqb, eqb-true, leb-true, ltb-true, ltb-false, lt-ltb, le-ltb, lt-leb}
+use lib.Dec.{eqb, leb, ltb}
+use lib.ListN.{length}
+use Rattle.field.specs.Number.{encode}
+use Rattle.field.specs.Records.{bytesOf}
+use Rattle.field.proofs.Format.{Each, none as nothing, one}
+use Rattle.rules.specs.declared.Area.{Area}
+use Rattle.rules.specs.declared.Header.{Header}
+use Rattle.rules.specs.Tests.{all, Ask, ask, firstNo, Answer, Refused, Accepted, after, bind}
+use Rattle.rules.specs.Values.{Index, Lengths}
+use Rattle.rules.specs.Questions.{areaOk, question1, question2, question3, question4, Four, both, askFour, fourOf}
+use Rattle.rules.specs.Sizes.{sized}
+use Rattle.rules.specs.File.{readHeader, headerBytes, headerOf, bodyOf, saved, savedLength}
+use Rattle.rules.specs.Load.{limited, load}
+use Rattle.rules.proofs.Tests.{test, order, never, all→, and-left, and-right, both as each-of, asked→, →asked, accepted-eq, bind→, →bind}
+use Rattle.filelaws.specs.Statements.{Savable}
+use Rattle.filelaws.proofs.Facts.{facts}
+use Rattle.filelaws.proofs.Header.{header-fits}
+use Rattle.filelaws.proofs.Layouts.{header-back}
+use Rattle.filelaws.proofs.Length.{savedLength-is}
+use Rattle.filelaws.proofs.Limit.{limited-load}
+use Rattle.rules.specs.declared.Entry.{Entry}
+use Rattle.rules.specs.Disc.{Disc, entry, encodeEntry, slotOf, slotArea, entriesIn, entryOf, entriesFrom, contentsOf, contentsOk, listed, bodiesLength, discLength, discBytes, loadBody, loadBodies, loadDisc, saveLists, saveOne, bySlot, saveBoth}
+use Rattle.rules.specs.Disc as rules
+use Rattle.disc_theorems.specs.DiscFile.{OneDiscFile, disc, BothLoad, OneLoads, Loads, BodiesLoad}
+use Rattle.disc_theorems.proofs.Tables.{Fit, First, first→, savedOf, table-ok, body-is}
+
+-- ---- an accepted save
+-- 1 to 4 of what p asks, 54, 40, and the file
+pub record Saves (p : Four) (xs : List Index) (out : ℕ) (b : List ℕ) : Type 0 where
+  pub one : p .one ≡ true
+  pub two : p .two ≡ true
+  pub four : p .four ≡ true
+  pub rising : listed 0 (contentsOf xs) ≡ true
+  pub is : discBytes xs ≡ b
+
+saves : (p : Four) (xs : List Index) (out : ℕ) (b : List ℕ) → saveLists p xs out ≡ Accepted b → Saves p xs out b
+unfolding saveLists
+saves p xs out b e =
+    let r = asked→ (askFour p (ask (listed 0 (contentsOf xs)) 54 ∷ ask (leb (discLength xs) out) 40 ∷ [])) (Accepted (discBytes xs)) b refl e in
+    let q = r .0 in
+    record { one = q .0; two = q .1 .0; four = q .1 .1 .1 .0; rising = q .1 .1 .1 .1 .0; is = accepted-eq (discBytes xs) b (r .1) }
+
+-- both lists of an accepted save
+module _ (l : Lengths) (x : Index) (m : Lengths) (y : Index) (out : ℕ) (b : List ℕ) (e : saveBoth l x m y out ≡ Accepted b) where
+  both-saves : Saves (both (fourOf l x) (fourOf m y)) (bySlot x y) out b
+  unfolding saveBoth
+  both-saves = saves (both (fourOf l x) (fourOf m y)) (bySlot x y) out b e
+
+  first-savable : sized x ≡ true → Savable x
+  first-savable z =
+      let s = both-saves in
+      record {
+        one = and-left (question1 x) (question1 y) (s .one);
+        two = and-left (question2 x) (question2 y) (s .two);
+        four = and-left (question4 x) (question4 y) (s .four);
+        sizes = z;
+      }
+
+  second-savable : sized y ≡ true → Savable y
+  second-savable z =
+      let s = both-saves in
+      record {
+        one = and-right (question1 x) (question1 y) (s .one);
+        two = and-right (question2 x) (question2 y) (s .two);
+        four = and-right (question4 x) (question4 y) (s .four);
+        sizes = z;
+      }
+
+-- ---- the slot is in the bytes
+slot-saved : (x : Index) → Savable x → slotOf x ≡ readHeader (saved x) .slot
+unfolding saved bodyOf headerOf
+slot-saved x s =
+    let h = header-back (headerOf x) _ (header-fits x (facts x s)) in
+    sym (ap (λ (g : Header). g .slot) (ap readHeader (append-assoc (headerBytes (headerOf x)) _ _) ∙ h))
+
+length-saved : (x x' : Index) → saved x ≡ saved x' → savedLength x ≡ savedLength x'
+length-saved x x' e = savedLength-is x .0 ∙ ap length e ∙ sym (savedLength-is x' .0)
+
+-- lists of equal content in order have one file
+-- the file of two lists, by what it is made of
+abbrev fileOf : ℕ → ℕ → ℕ → ℕ → List ℕ → List ℕ → List ℕ
+fileOf s t m n u v =
+    encode 4 2 ++ (bytesOf encodeEntry (entry s 28 m ∷ entry t (28 + m) n ∷ []) ++ (u ++ (v ++ [])))
+
+file-is : (x y : Index) → discBytes (x ∷ y ∷ []) ≡ fileOf (slotOf x) (slotOf y) (savedLength x) (savedLength y) (saved x) (saved y)
+unfolding discBytes entriesFrom bytesOf
+file-is x y = refl
+
+same-entries : (x y x' y' : Index) → slotOf x ≡ slotOf x' → slotOf y ≡ slotOf y' → saved x ≡ saved x' → saved y ≡ saved y'
+    → discBytes (x ∷ y ∷ []) ≡ discBytes (x' ∷ y' ∷ [])
+same-entries x y x' y' p q e f =
+    file-is x y ∙ (λ i. fileOf (p i) (q i) (length-saved x x' e i) (length-saved y y' f i) (e i) (f i)) ∙ sym (file-is x' y')
+
+same-order : (x y x' y' : Index) → slotOf x ≡ slotOf x' → slotOf y ≡ slotOf y' → saved x ≡ saved x' → saved y ≡ saved y'
+    → discBytes (bySlot x y) ≡ discBytes (bySlot x' y')
+unfolding bySlot
+same-order x y x' y' p q e f =
+    let t : ltb (slotOf x) (slotOf y) ≡ ltb (slotOf x') (slotOf y') = rw (p, q) in
+    test (ltb (slotOf x) (slotOf y)) (λ h. rw (h, sym t ∙ h) (same-entries x y x' y' p q e f)) (λ h. rw (h, sym t ∙ h) (same-entries y x y' x' q p f e))
+
+-- ---- whichever is given first
+-- behind a 54 nothing matters
+broken-bits : {A : Type 0} (a b c d q q' : Bool) (r r' : Answer A)
+    → after (firstNo (ask a 1 ∷ ask b 2 ∷ ask c 3 ∷ ask d 4 ∷ ask false 54 ∷ ask q 40 ∷ [])) r
+    ≡ after (firstNo (ask a 1 ∷ ask b 2 ∷ ask c 3 ∷ ask d 4 ∷ ask false 54 ∷ ask q' 40 ∷ [])) r'
+unfolding firstNo after
+broken-bits false b c d q q' r r' = refl
+broken-bits true false c d q q' r r' = refl
+broken-bits true true false d q q' r r' = refl
+broken-bits true true true false q q' r r' = refl
+broken-bits true true true true q q' r r' = refl
+
+-- lists of one slot
+equal-slots : (x y : Index) → slotOf x ≡ slotOf y → listed 0 (contentsOf (x ∷ y ∷ [])) ≡ false
+equal-slots x y e =
+    test (listed 0 (contentsOf (x ∷ y ∷ [])))
+    (λ h. let f = first→ 0 28 x (y ∷ []) h in let g = first→ (slotOf x + 1) (28 + savedLength x) y [] (f .rest) in let z : ⊥ = omega (arith, g .slot, e) in absurd z)
+    (λ h. h)
+
+and-comm : (a b : Bool) → (a && b) ≡ (b && a)
+and-comm true true = refl
+and-comm true false = refl
+and-comm false true = refl
+and-comm false false = refl
+
+both-swap : (p q : Four) → both p q ≡ both q p
+both-swap p q =
+    λ i. record { one = and-comm (p .one) (q .one) i; two = and-comm (p .two) (q .two) i; three = and-comm (p .three) (q .three) i; four = and-comm (p .four) (q .four) i }
+
+broken : (p : Four) (xs ys : List Index) (out : ℕ) → listed 0 (contentsOf xs) ≡ false → listed 0 (contentsOf ys) ≡ false → saveLists p xs out ≡ saveLists p ys out
+unfolding saveLists
+broken p xs ys out h k =
+    rw (h, k)
+    (broken-bits (p .one) (p .two) (p .three) (p .four) (leb (discLength xs) out) (leb (discLength ys) out) (Accepted (discBytes xs)) (Accepted (discBytes ys)))
+
+slots-apart : (x y : Index) → slotOf x < slotOf y → bySlot x y ≡ bySlot y x
+unfolding bySlot
+slots-apart x y h = rw (lt-ltb (slotOf x) (slotOf y) h, le-ltb (slotOf y) (slotOf x) (omega arith))
+
+slots-same : (x y : Index) → slotOf x ≡ slotOf y → bySlot x y ≡ y ∷ x ∷ []
+unfolding bySlot
+slots-same x y h = rw (le-ltb (slotOf x) (slotOf y) (omega arith))
+
+swap : (l m : Lengths) (x y : Index) (out : ℕ) → saveBoth l x m y out ≡ saveBoth m y l x out
+unfolding saveBoth
+swap l m x y out =
+    let p = fourOf l x in
+    let q = fourOf m y in
+    ap (λ (r : Four). saveLists r (bySlot x y) out) (both-swap p q)
+    ∙ order (slotOf x) (slotOf y) (λ h. ap (λ (xs : List Index). saveLists (both q p) xs out) (slots-apart x y h))
+    (λ h. ap (λ (xs : List Index). saveLists (both q p) xs out) (sym (slots-apart y x h)))
+    (λ h. ap (λ (xs : List Index). saveLists (both q p) xs out) (slots-same x y h) ∙ broken (both q p) (y ∷ x ∷ []) (x ∷ y ∷ []) out (equal-slots y x (sym h)) (equal-slots x y h)
+    ∙ ap (λ (xs : List Index). saveLists (both q p) xs out) (sym (slots-same y x (sym h))))
+
+pub one-disc-file : OneDiscFile
+one-disc-file =
+    record {
+      same = λ l m l' m' x y x' y' out out' b b' z w z' w' e f s t.
+          let p = slot-saved x (first-savable l x m y out b s z) ∙ ap (λ (c : List ℕ). readHeader c .slot) e ∙ sym (slot-saved x' (first-savable l' x' m' y' out' b' t z')) in
+          let q = slot-saved y (second-savable l x m y out b s w) ∙ ap (λ (c : List ℕ). readHeader c .slot) f ∙ sym (slot-saved y' (second-savable l' x' m' y' out' b' t w')) in
+          sym (both-saves l x m y out b s .is) ∙ same-order x y x' y' p q e f ∙ both-saves l' x' m' y' out' b' t .is;
+      swapped = swap;
+    }
+
+-- ---- what is saved loads
+loads-file : (l m : Lengths) (a0 a1 : Area) (limit : ℕ) (xs : List Index) (o0 o1 : Option Index) → Fit xs → slotArea 0 a0 ≡ true → slotArea 1 a1 ≡ true
+    → loadBody l a0 limit (savedOf 0 xs) ≡ Accepted o0 → loadBody m a1 limit (savedOf 1 xs) ≡ Accepted o1
+    → loadDisc l m a0 a1 (discBytes xs) limit ≡ Accepted (disc o0 o1)
+unfolding loadDisc loadBodies
+loads-file l m a0 a1 limit xs o0 o1 f p q h k =
+    →asked (ask (slotArea 0 a0 && slotArea 1 a1) 1 ∷ ask (contentsOk (discBytes xs)) 54 ∷ []) (each-of p q, (table-ok xs f, tt))
+    (→bind _ (ap (loadBody l a0 limit) (body-is xs f 0) ∙ h) (→bind _ (ap (loadBody m a1 limit) (body-is xs f 1) ∙ k) refl))
+
+body-loads : (l : Lengths) (limit : ℕ) (x : Index) → Savable x → question3 l (limited limit x) ≡ true
+    → loadBody l (x .scan .area) limit (some (saved x)) ≡ Accepted (some (limited limit x))
+unfolding loadBody
+body-loads l limit x s q = →bind _ (limited-load l limit x s q) refl
+
+no-body : (l : Lengths) (a : Area) (limit : ℕ) → loadBody l a limit none ≡ Accepted none
+unfolding loadBody
+no-body l a limit = refl
+
+own-area : (k : ℕ) (x : Index) → question1 x ≡ true → slotOf x ≡ k → slotArea k (x .scan .area) ≡ true
+unfolding slotArea question1
+own-area k x p e = each-of p (eq-eqb (slotOf x) k e)
+
+pub both-load : BothLoad
+unfolding bySlot savedOf
+both-load l m l' m' x y out limit b z w p q e g h =
+    let s = both-saves l x m y out b e in
+    let v = first-savable l x m y out b e z in
+    let u = second-savable l x m y out b e w in
+    let lt : slotOf x < slotOf y = omega arith in
+    let xs = x ∷ y ∷ [] in
+    let order : bySlot x y ≡ xs = rw (lt-ltb (slotOf x) (slotOf y) lt) in
+    let f : Fit xs = record { few = omega arith; some' = omega arith; slots = one {x = x} (omega arith) (one {x = y} (omega arith) nothing); rising = rw order at (s .rising) } in
+    let t0 : savedOf 0 xs ≡ some (saved x) = rw (eq-eqb (slotOf x) 0 p) in
+    let t1 : savedOf 1 xs ≡ some (saved y) = rw (p, eq-eqb (slotOf y) 1 q) refl in
+    ap (λ (c : List ℕ). loadDisc l' m' (x .scan .area) (y .scan .area) c limit) (sym (ap discBytes (sym order) ∙ s .is))
+    ∙ loads-file l' m' (x .scan .area) (y .scan .area) limit xs (some (limited limit x)) (some (limited limit y)) f (own-area 0 x (v .one) p) (own-area 1 y (u .one) q)
+    (ap (loadBody l' (x .scan .area) limit) t0 ∙ body-loads l' limit x v g) (ap (loadBody m' (y .scan .area) limit) t1 ∙ body-loads m' limit y u h)
+
+-- one list alone
+module _ (l : Lengths) (x : Index) (out : ℕ) (b : List ℕ) (z : sized x ≡ true) (e : saveOne l x out ≡ Accepted b) where
+  one-saves : Saves (fourOf l x) (x ∷ []) out b
+  unfolding saveOne
+  one-saves = saves (fourOf l x) (x ∷ []) out b e
+
+  one-savable : Savable x
+  one-savable = let s = one-saves in record { one = s .one; two = s .two; four = s .four; sizes = z }
+
+  one-fit : slotOf x ≤ 1 → Fit (x ∷ [])
+  one-fit h = record { few = omega arith; some' = omega arith; slots = one {x = x} h nothing; rising = one-saves .rising }
+
+pub one-loads : OneLoads
+unfolding savedOf
+one-loads =
+    record {
+      first = λ l l' m' x a out limit b z p k e g.
+          let v = one-savable l x out b z e in
+          let f = one-fit l x out b z e (omega arith) in
+          let t0 : savedOf 0 (x ∷ []) ≡ some (saved x) = rw (eq-eqb (slotOf x) 0 p) in
+          let t1 : savedOf 1 (x ∷ []) ≡ none = rw p refl in
+          ap (λ (c : List ℕ). loadDisc l' m' (x .scan .area) a c limit) (sym (one-saves l x out b z e .is))
+          ∙ loads-file l' m' (x .scan .area) a limit (x ∷ []) (some (limited limit x)) none f (own-area 0 x (v .one) p) k
+          (ap (loadBody l' (x .scan .area) limit) t0 ∙ body-loads l' limit x v g) (ap (loadBody m' a limit) t1 ∙ no-body m' a limit);
+      second = λ l l' m' y a out limit b z p k e g.
+          let v = one-savable l y out b z e in
+          let f = one-fit l y out b z e (omega arith) in
+          let t0 : savedOf 0 (y ∷ []) ≡ none = rw p refl in
+          let t1 : savedOf 1 (y ∷ []) ≡ some (saved y) = rw (eq-eqb (slotOf y) 1 p) in
+          ap (λ (c : List ℕ). loadDisc l' m' a (y .scan .area) c limit) (sym (one-saves l y out b z e .is))
+          ∙ loads-file l' m' a (y .scan .area) limit (y ∷ []) none (some (limited limit y)) f k (own-area 1 y (v .one) p)
+          (ap (loadBody l' a limit) t0 ∙ no-body l' a limit) (ap (loadBody m' (y .scan .area) limit) t1 ∙ body-loads m' limit y v g);
+    }
+
+-- ---- the bodies load by themselves
+-- an accepted disc file
+pub record Opened (l m : Lengths) (a0 a1 : Area) (b : List ℕ) (limit : ℕ) (d : Disc) : Type 0 where
+  pub area0 : slotArea 0 a0 ≡ true
+  pub area1 : slotArea 1 a1 ≡ true
+  pub contents : contentsOk b ≡ true
+  pub body0 : loadBody l a0 limit (rules.bodyOf b (entryOf 0 (entriesIn b))) ≡ Accepted (d .slot0)
+  pub body1 : loadBody m a1 limit (rules.bodyOf b (entryOf 1 (entriesIn b))) ≡ Accepted (d .slot1)
+
+pub opened : (l m : Lengths) (a0 a1 : Area) (b : List ℕ) (limit : ℕ) (d : Disc) → loadDisc l m a0 a1 b limit ≡ Accepted d → Opened l m a0 a1 b limit d
+unfolding loadDisc loadBodies
+opened l m a0 a1 b limit d e =
+    let r = asked→ (ask (slotArea 0 a0 && slotArea 1 a1) 1 ∷ ask (contentsOk b) 54 ∷ []) _ d refl e in
+    let u = bind→ (loadBody l a0 limit (rules.bodyOf b (entryOf 0 (entriesIn b)))) _ d (r .1) in
+    let v = bind→ (loadBody m a1 limit (rules.bodyOf b (entryOf 1 (entriesIn b)))) _ d (u .second) in
+    let w : disc (u .value) (v .value) ≡ d = accepted-eq _ d (v .second) in
+    record {
+      area0 = and-left (slotArea 0 a0) (slotArea 1 a1) (r .0 .0);
+      area1 = and-right (slotArea 0 a0) (slotArea 1 a1) (r .0 .0);
+      contents = r .0 .1 .0;
+      body0 = rw (← w) (u .first);
+      body1 = rw (← w) (v .first);
+    }
+
+body-of : (l : Lengths) (a : Area) (limit : ℕ) (c : List ℕ) (o : Option Index) (t : Option (List ℕ)) → t ≡ some c → loadBody l a limit t ≡ Accepted o → Loads l a c limit o
+unfolding loadBody
+body-of l a limit c o t e h =
+    let k : bind (load l a c limit) (λ x. Accepted (some x)) ≡ Accepted o = rw e at h in
+    let u = bind→ (load l a c limit) (λ x. Accepted (some x)) o k in
+    record { list = u .value; loads = u .first; is = sym (accepted-eq (some (u .value)) o (u .second)) }
+
+pub bodies-load : BodiesLoad
+bodies-load =
+    record {
+      first = λ l m a0 a1 b limit d c e h. body-of l a0 limit c (d .slot0) _ h (opened l m a0 a1 b limit d e .body0);
+      second = λ l m a0 a1 b limit d c e h. body-of m a1 limit c (d .slot1) _ h (opened l m a0 a1 b limit d e .body1);
+    }

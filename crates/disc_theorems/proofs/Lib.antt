@@ -1,0 +1,4 @@
+pub mod Tables
+pub mod DiscFile
+pub mod Rebuilt
+pub mod Saves

@@ -1,0 +1,1 @@
+// Statements about disc files (change request 14), proved of its definitions. No code.
