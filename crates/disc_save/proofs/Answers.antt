@@ -112,14 +112,16 @@ module _ (x : AreaIndex) (t : Tables) (y : AreaIndex) (u : Tables) (o : List ℕ
   pub both-pass : n ≡ 0 → (refusal x t ≡ 0) × (refusal y u ≡ 0)
   both-pass z = lowest-zero (refusal x t) (refusal y u) (sym (l ∙ rw (e, f)) ∙ z)
 
-  both-saved : {s : SaveOut} → n ≡ 0 → s ≡ savedAs lists o → s ≡ saveBothIn x t y u o
+  pub both-saved : {s : SaveOut} → n ≡ 0 → s ≡ savedAs lists o → s ≡ saveBothIn x t y u o
   unfolding savedAs after
   both-saved z d = d ∙ sym (both-is ∙ simp (eq-eqb n 0 z))
 
-  pub first-saved : {s : SaveOut} {a b : ℕ} → n ≡ 0 → a ≡ x .area .key .slot → b ≡ y .area .key .slot → a < b → s ≡ savedAs (indexIn x t ∷ indexIn y u ∷ []) o → s ≡ saveBothIn x t y u o
+-- by slot
+module _ (x y : Index) (o : List ℕ) {s : SaveOut} {a b : ℕ} (p : a ≡ slotOf x) (q : b ≡ slotOf y) where
+  pub first-by-slot : a < b → s ≡ savedAs (x ∷ y ∷ []) o → s ≡ savedAs (bySlot x y) o
   unfolding bySlot
-  first-saved z p q h d = both-saved z (d ∙ rw (lt-ltb (x .area .key .slot) (y .area .key .slot) (rw (p, q) at h)))
+  first-by-slot h d = d ∙ rw (lt-ltb (slotOf x) (slotOf y) (rw (p, q) at h))
 
-  pub second-saved : {s : SaveOut} {a b : ℕ} → n ≡ 0 → a ≡ x .area .key .slot → b ≡ y .area .key .slot → b ≤ a → s ≡ savedAs (indexIn y u ∷ indexIn x t ∷ []) o → s ≡ saveBothIn x t y u o
+  pub second-by-slot : b ≤ a → s ≡ savedAs (y ∷ x ∷ []) o → s ≡ savedAs (bySlot x y) o
   unfolding bySlot
-  second-saved z p q h d = both-saved z (d ∙ rw (le-ltb (x .area .key .slot) (y .area .key .slot) (rw (p, q) at h)))
+  second-by-slot h d = d ∙ rw (le-ltb (slotOf x) (slotOf y) (rw (p, q) at h))

@@ -15,7 +15,9 @@ ghost use Prim.Native.Nat.{_+_, _≤_};
 ghost use mathlib.Core.List.{[], _∷_};
 ghost use lib.ListN.{length};
 ghost use Rattle.rules.specs.File.{saved, savedLength};
+ghost use Rattle.rules.specs.Disc.{bySlot};
 ghost use Rattle.index.specs.Index.{indexIn, tables, refusal};
+ghost use Rattle.index.specs.Needs.{lowest};
 ghost use Rattle.write.specs.Write.{Put};
 ghost use Rattle.save.specs.Save.{made};
 ghost use Rattle.disc_save.specs.Calls.{saveOneIn, saveBothIn};
@@ -232,8 +234,8 @@ fn write_lists(
     Saved::Length(total)
 }
 
-// The disc file of two lists, whichever is given first: 1 to 4 of both, 54, 40. What lies past the length stays.
-pub fn save_both(
+// 1 to 4 of both lists: the number of the first answered no, 0 for none.
+fn ask_both(
     x: AreaIndex,
     y: AreaIndex,
     checkpoints: &[u8],
@@ -250,9 +252,8 @@ pub fn save_both(
     other_malformed: &[u8],
     other_hints: &[u8],
     other_confirmed: &[u8],
-    out: &mut [u8],
-) -> Saved
-    ensures { λ r. ⌜ made r (now (out .exit)) ≡ saveBothIn x (tables (now (checkpoints .entry)) (now (frames .entry)) (now (store .entry)) (now (parts .entry)) (now (malformed .entry)) (now (hints .entry)) (now (confirmed .entry))) y (tables (now («other_checkpoints» .entry)) (now («other_frames» .entry)) (now («other_store» .entry)) (now («other_parts» .entry)) (now («other_malformed» .entry)) (now («other_hints» .entry)) (now («other_confirmed» .entry))) (now (out .entry)) ⌝ }
+) -> u32
+    ensures { λ r. ⌜ r ≡ lowest (refusal x (tables (now (checkpoints .entry)) (now (frames .entry)) (now (store .entry)) (now (parts .entry)) (now (malformed .entry)) (now (hints .entry)) (now (confirmed .entry)))) (refusal y (tables (now («other_checkpoints» .entry)) (now («other_frames» .entry)) (now («other_store» .entry)) (now («other_parts» .entry)) (now («other_malformed» .entry)) (now («other_hints» .entry)) (now («other_confirmed» .entry)))) ⌝ }
 {
     let own = refuses(
         x,
@@ -274,10 +275,32 @@ pub fn save_both(
         other_hints,
         other_confirmed,
     );
-    let number = lowest(own, other);
-    if number != 0 {
-        return Saved::Refused(number);
-    }
+    lowest(own, other)
+}
+
+// Two lists that pass 1 to 4, by slot.
+fn write_by_slot(
+    x: AreaIndex,
+    y: AreaIndex,
+    checkpoints: &[u8],
+    frames: &[u8],
+    store: &[u8],
+    parts: &[u8],
+    malformed: &[u8],
+    hints: &[u8],
+    confirmed: &[u8],
+    other_checkpoints: &[u8],
+    other_frames: &[u8],
+    other_store: &[u8],
+    other_parts: &[u8],
+    other_malformed: &[u8],
+    other_hints: &[u8],
+    other_confirmed: &[u8],
+    out: &mut [u8],
+) -> Saved
+    requires { ⌜ (refusal x (tables (now checkpoints) (now frames) (now store) (now parts) (now malformed) (now hints) (now confirmed)) ≡ 0) × (refusal y (tables (now «other_checkpoints») (now «other_frames») (now «other_store») (now «other_parts») (now «other_malformed») (now «other_hints») (now «other_confirmed»)) ≡ 0) ⌝ }
+    ensures { λ r. ⌜ made r (now (out .exit)) ≡ savedAs (bySlot (indexIn x (tables (now (checkpoints .entry)) (now (frames .entry)) (now (store .entry)) (now (parts .entry)) (now (malformed .entry)) (now (hints .entry)) (now (confirmed .entry)))) (indexIn y (tables (now («other_checkpoints» .entry)) (now («other_frames» .entry)) (now («other_store» .entry)) (now («other_parts» .entry)) (now («other_malformed» .entry)) (now («other_hints» .entry)) (now («other_confirmed» .entry))))) (now (out .entry)) ⌝ }
+{
     if slot_of(x) < slot_of(y) {
         return write_lists(
             x,
@@ -316,6 +339,70 @@ pub fn save_both(
         malformed,
         hints,
         confirmed,
+        out,
+    )
+}
+
+// The disc file of two lists, whichever is given first: 1 to 4 of both, 54, 40. What lies past the length stays.
+pub fn save_both(
+    x: AreaIndex,
+    y: AreaIndex,
+    checkpoints: &[u8],
+    frames: &[u8],
+    store: &[u8],
+    parts: &[u8],
+    malformed: &[u8],
+    hints: &[u8],
+    confirmed: &[u8],
+    other_checkpoints: &[u8],
+    other_frames: &[u8],
+    other_store: &[u8],
+    other_parts: &[u8],
+    other_malformed: &[u8],
+    other_hints: &[u8],
+    other_confirmed: &[u8],
+    out: &mut [u8],
+) -> Saved
+    ensures { λ r. ⌜ made r (now (out .exit)) ≡ saveBothIn x (tables (now (checkpoints .entry)) (now (frames .entry)) (now (store .entry)) (now (parts .entry)) (now (malformed .entry)) (now (hints .entry)) (now (confirmed .entry))) y (tables (now («other_checkpoints» .entry)) (now («other_frames» .entry)) (now («other_store» .entry)) (now («other_parts» .entry)) (now («other_malformed» .entry)) (now («other_hints» .entry)) (now («other_confirmed» .entry))) (now (out .entry)) ⌝ }
+{
+    let number = ask_both(
+        x,
+        y,
+        checkpoints,
+        frames,
+        store,
+        parts,
+        malformed,
+        hints,
+        confirmed,
+        other_checkpoints,
+        other_frames,
+        other_store,
+        other_parts,
+        other_malformed,
+        other_hints,
+        other_confirmed,
+    );
+    if number != 0 {
+        return Saved::Refused(number);
+    }
+    write_by_slot(
+        x,
+        y,
+        checkpoints,
+        frames,
+        store,
+        parts,
+        malformed,
+        hints,
+        confirmed,
+        other_checkpoints,
+        other_frames,
+        other_store,
+        other_parts,
+        other_malformed,
+        other_hints,
+        other_confirmed,
         out,
     )
 }
