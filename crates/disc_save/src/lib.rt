@@ -1,5 +1,4 @@
 // Saving one list, or both lists of a disc, as a disc file.
-use rules::Entry;
 use disc_table::one_fits;
 use disc_table::two_fit;
 use disc_table::write_one;
@@ -8,6 +7,7 @@ use index::lowest;
 use index::refuses;
 use layout::saved_length;
 use rules::AreaIndex;
+use rules::Entry;
 use save::Saved;
 use save::to_bytes;
 ghost use mathlib.Core.Path.{_≡_};

@@ -1,8 +1,8 @@
 // The contents table of a disc file, read and written, and question 54.
-use rules::Entry;
 use field::and;
 use field::read_u32;
 use field::write_u32;
+use rules::Entry;
 use rules::MAX_U32;
 ghost use mathlib.Core.Path.{_≡_};
 ghost use mathlib.Core.Bool.{_&&_};

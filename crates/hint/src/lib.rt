@@ -1,8 +1,8 @@
 // hint: the hint that a read for a range of frames begins at, and the end of the read.
 use hintdensity::local_end;
 use hintplace::hint_place;
-use index::refuses;
 use index::is_checked;
+use index::refuses;
 use rules::Area;
 use rules::AreaIndex;
 use rules::HINT_REACH;
