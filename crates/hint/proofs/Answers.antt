@@ -9,11 +9,16 @@ use Rattle.rules.specs.declared.AreaIndex.{AreaIndex}
 use Rattle.rules.specs.declared.Hinted.{Hinted}
 use Rattle.rules.specs.Tests.{Answer, each, ask, firstNo, after}
 use Rattle.rules.specs.Values.{isChecked}
+use Rattle.rules.specs.Sections.{confirmedLsn}
+use Rattle.rules.specs.Questions.{question4, hintingOk}
 use Rattle.rules.specs.Hints.{hintPlace, hintedAt}
 use Rattle.rules.specs.Hints as rules
+use Rattle.rules.proofs.Tests.{all→, and-left}
+use Rattle.hintlaws.specs.Order.{Rises}
+use Rattle.hintlaws.proofs.Keeping.{confirmed-rises}
 use Rattle.table.specs.Tables.{hintsIn, confirmationsIn}
-use Rattle.index.specs.Index.{Tables, refusal}
-use Rattle.index.specs.Needs.{Passes}
+use Rattle.index.specs.Index.{Tables, refusal, kindsIn}
+use Rattle.index.specs.Needs.{Passes, heldQuestion4}
 use Rattle.index.proofs.Four.{Later, kinded-index}
 use Rattle.index.proofs.Questions.{range, passes-hints}
 use Rattle.plan.specs.Needs.{lastIn}
@@ -22,11 +27,18 @@ use Rattle.hint.specs.declared.HintAnswer.the-variants as answer
 use Rattle.hint.specs.Calls.{hintedOf, answerOf, hintIn}
 use Rattle.hint.specs.Needs.{Ready, hintedFrom, answerIn}
 
+-- 4 asks the confirmations' LSNs to rise
+rise : {x : AreaIndex} {t : Tables} → Passes x t → Rises confirmedLsn 0 (confirmationsIn (x .confirmed) (t .confirmed))
+unfolding heldQuestion4 question4 hintingOk
+rise {x} {t} p =
+    let h = all→ _ (all→ _ (and-left _ (kindsIn x t) (p .held)) .1 .0) in
+    confirmed-rises (x .area) (confirmationsIn (x .confirmed) (t .confirmed)) (h .1 .1 .1 .1 .0)
+
 pub ready : {x : AreaIndex} {t : Tables} → Passes x t → Ready x (t .hints) (t .confirmed)
 ready {x} {t} p =
     let r = range (x .area) (p .roomy .area) in
     let l = passes-hints p in
-    record { order = r .order; end = r .end; hints = l .hints; confirmed = l .confirmed }
+    record { order = r .order; end = r .end; hints = l .hints; confirmed = record { there = l .confirmed; rises = rise p } }
 
 -- ---- by the place to begin at
 module _ {count : ℕ} {checked : Bool} (x : AreaIndex) (hints confirmed : List ℕ) (first end playtime : ℕ) (k : checked ≡ isChecked (x .fingerprint))

@@ -13,13 +13,14 @@ use Rattle.rules.specs.Values.{noHint, hintReach, isChecked}
 use Rattle.rules.specs.Hints.{hintPlace, firstFrom, hintedLocally, hintedLater, hintedAt}
 use Rattle.rules.specs.Hints as rules
 use Rattle.table.specs.Tables.{hintsIn, confirmationsIn}
+use Rattle.hintplace.specs.Place.{Ordered}
 
 -- what hint reads of the tables
 pub record Ready (x : AreaIndex) (hs cs : List ℕ) : Type 0 where
   pub order : x .area .start ≤ x .area .end
   pub end : x .area .end ≤ 4294967295
   pub hints : x .hints * 8 ≤ length hs
-  pub confirmed : x .confirmed * 16 ≤ length cs
+  pub confirmed : Ordered (x .confirmed) cs
 
 -- the upper end through a later hint, if at most 64 frames past end; 0 where there is none
 unfoldable pub laterEnd : ℕ → Option Hint → ℕ

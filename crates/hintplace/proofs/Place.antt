@@ -34,20 +34,6 @@ pub near-is : {r : Bool} (first : ℕ) (h : Hint) → h .number < first → r �
 unfolding near
 near-is first h l e = e ∙ sym (rw (lt-ltb (h .number) first l))
 
--- ---- one confirmation
-module _ (c : Confirmation) (lsn first : ℕ) {q : Bool} (e : q ≡ (eqb (c .lsn) lsn && leb (c .threshold) first)) (cs : List Confirmation) where
-  pub confirmed-yes : q ≡ true → confirmedAt (c ∷ cs) lsn first ≡ true
-  unfolding confirmedAt
-  confirmed-yes h = rw (← e, h)
-
-  pub confirmed-on : q ≡ false → confirmedAt (c ∷ cs) lsn first ≡ confirmedAt cs lsn first
-  unfolding confirmedAt
-  confirmed-on h = rw (← e, h)
-
-pub confirmed-none : (lsn first : ℕ) → false ≡ confirmedAt [] lsn first
-unfolding confirmedAt
-confirmed-none lsn first = refl
-
 -- ---- a candidate
 module _ {q : Bool} (checked any : Bool) (cs : List Confirmation) (first : ℕ) (h : Hint) (e : q ≡ near first h) where
   pub far : not q ≡ true → false ≡ candidate checked any cs first h

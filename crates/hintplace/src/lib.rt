@@ -13,7 +13,7 @@ ghost use lib.ListN.{length};
 ghost use Rattle.rules.specs.Hints.{near, confirmedAt, largerOf, hintPlace};
 ghost use Rattle.table.specs.Tables.{hintsIn, confirmationsIn};
 ghost use Rattle.plan.specs.Needs.{lastIn};
-ghost use Rattle.hintplace.specs.Place.{candidate, largestIn};
+ghost use Rattle.hintplace.specs.Place.{Ordered, candidate, largestIn};
 
 // At most 64 frames below first.
 fn near(first: u32, h: Hint) -> bool
@@ -27,23 +27,29 @@ fn near(first: u32, h: Hint) -> bool
 
 // Is there a confirmation at an LSN for first?
 fn confirmed_at(t: &[u8], n: usize, lsn: u32, first: u32) -> bool
-    requires { ⌜ n * 16 ≤ length (now t) ⌝ }
+    requires { ⌜ Ordered n (now t) ⌝ }
     ensures { λ r. ⌜ r ≡ confirmedAt (confirmationsIn n (now (t .entry))) lsn first ⌝ }
 {
-    let mut j = 0;
-    while j < n {
-        let c = read_confirmation(t, j);
-        if and(c.lsn == lsn, c.threshold <= first) {
-            return true;
+    let mut lo = 0;
+    let mut hi = n;
+    while lo < hi {
+        let mid = lo + (hi - lo) / 2;
+        let c = read_confirmation(t, mid);
+        if c.lsn == lsn {
+            return c.threshold <= first;
         }
-        j += 1;
+        if c.lsn < lsn {
+            lo = mid + 1;
+        } else {
+            hi = mid;
+        }
     }
     false
 }
 
 // May a read begin at h: is it near, and confirmed for first unless any near one counts?
 fn candidate(h: Hint, first: u32, checked: bool, any: bool, confirmed: &[u8], m: usize) -> bool
-    requires { ⌜ m * 16 ≤ length (now confirmed) ⌝ }
+    requires { ⌜ Ordered m (now confirmed) ⌝ }
     ensures { λ r. ⌜ r ≡ candidate checked any (confirmationsIn m (now (confirmed .entry))) first h ⌝ }
 {
     if !near(first, h) {
@@ -88,7 +94,7 @@ fn largest(
     any: bool,
     first: u32,
 ) -> usize
-    requires { ⌜ (n * 8 ≤ length (now hints)) × (m * 16 ≤ length (now confirmed)) ⌝ }
+    requires { ⌜ (n * 8 ≤ length (now hints)) × Ordered m (now confirmed) ⌝ }
     ensures { λ r. ⌜ lastIn r ≡ largestIn checked any (hintsIn n (now (hints .entry))) (confirmationsIn m (now (confirmed .entry))) first n ⌝ }
 {
     let mut best = 0;
@@ -111,7 +117,7 @@ pub fn hint_place(
     checked: bool,
     first: u32,
 ) -> usize
-    requires { ⌜ (n * 8 ≤ length (now hints)) × (m * 16 ≤ length (now confirmed)) ⌝ }
+    requires { ⌜ (n * 8 ≤ length (now hints)) × Ordered m (now confirmed) ⌝ }
     ensures { λ r. ⌜ lastIn r ≡ hintPlace checked (hintsIn n (now (hints .entry))) (confirmationsIn m (now (confirmed .entry))) first ⌝ }
 {
     let best = largest(hints, n, confirmed, m, checked, false, first);

@@ -1,44 +1,47 @@
-use Prim.Native.Nat.{_-_}
+use Prim.Native.Nat.{_+_, _-_, _/_}
+use mathlib.Core.Path.{refl}
 use native.Mathlib.Omega.{arith}
-use Rattle.rules.specs.File.{decodeConfirmation}
-use Rattle.rules.specs.Hints.{confirmedAt}
-use Rattle.table.specs.Tables.{confirmationsIn}
-use Rattle.hintplace.proofs.Rest.{Rest, rest-start, rest-on, rest-stop, rest-end}
-use Rattle.hintplace.proofs.Place.{confirmed-yes, confirmed-on, confirmed-none}
-use mathlib.Core.Path.{_∙_}
+use Rattle.hintplace.proofs.Confirmed.{Search, search-start, search-up, search-down, search-found, search-end}
 use borrow.Author.Needs.{needs}
 use Rattle.hintplace.proofs.confirmed_at.Statement.{statement}
 use Rattle.hintplace.proofs.confirmed_at.Tie as tie
 
 abbrev Inv-loop : tie.InvT-loop
-Inv-loop t n lsn first j₀ j = Rest 16 decodeConfirmation n t (λ cs. confirmedAt cs lsn first) (confirmedAt (confirmationsIn n t) lsn first) j
+Inv-loop t n lsn first lo₀ hi₀ lo hi = Search n t lsn lo hi
 
 abbrev μ-loop : tie.MeasureT-loop
-μ-loop t n lsn first j₀ j = n - j
+μ-loop t n lsn first lo₀ hi₀ lo hi = hi - lo
 
 loop-holds : tie.Need-loop-holds Inv-loop μ-loop
-loop-holds c = rest-start _ _ _ _ _ 0 (omega arith)
+loop-holds c = search-start _ _ _
 
 read-confirmation-requires : tie.Need-read-confirmation-requires Inv-loop μ-loop
 read-confirmation-requires c κs = search needs
 
-and-requires : tie.Need-and-requires Inv-loop μ-loop
-and-requires c κs = search needs
-
 returns : tie.Need-returns Inv-loop μ-loop
-returns c = rest-stop (c .before .before .before .before .before .before .loop .inv) (c .before .before .before .before .before .loop-test .taken) (c .before .before .before .before .read-confirmation .ensures) (λ cs. confirmed-yes _ _ _ (c .before .and .ensures) cs (c .if1 .taken))
-
-add-j : tie.Need-add-j Inv-loop μ-loop
-add-j c = search needs
-
-loop-less : tie.Need-loop-less Inv-loop μ-loop
-loop-less c = search needs
+returns c =
+    let start : tie.Start Inv-loop μ-loop = search in
+    let at-loop : tie.At-loop Inv-loop μ-loop = search in
+    let read : tie.After-read-confirmation Inv-loop μ-loop = search in
+    let l = at-loop .loop in
+    search-found (l .inv) (start .pre) {mid = l .lo + (l .hi - l .lo) / 2} (read .read-confirmation .ensures) (omega arith) (omega arith) _ (omega arith) refl
 
 loop-again : tie.Need-loop-again Inv-loop μ-loop
-loop-again c = rest-on (c .before .before .before .before .before .before .loop .inv) _ (c .before .before .before .before .before .loop-test .taken) (c .before .before .before .before .read-confirmation .ensures) (λ cs. confirmed-on _ _ _ (c .before .and .ensures) cs (c .if1 .left))
+loop-again c =
+    let start : tie.Start Inv-loop μ-loop = search in
+    let at-loop : tie.At-loop Inv-loop μ-loop = search in
+    let read : tie.After-read-confirmation Inv-loop μ-loop = search in
+    search-up (at-loop .loop .inv) (start .pre) (read .read-confirmation .ensures) (omega arith) (omega arith) (omega arith)
+
+loop-again-2 : tie.Need-loop-again-2 Inv-loop μ-loop
+loop-again-2 c =
+    let start : tie.Start Inv-loop μ-loop = search in
+    let at-loop : tie.At-loop Inv-loop μ-loop = search in
+    let read : tie.After-read-confirmation Inv-loop μ-loop = search in
+    search-down (at-loop .loop .inv) (start .pre) (read .read-confirmation .ensures) (omega arith) (omega arith) (omega arith)
 
 returns-2 : tie.Need-returns-2 Inv-loop μ-loop
-returns-2 c = confirmed-none _ _ ∙ rest-end (c .before .loop .inv) (c .loop-test .left)
+returns-2 c = search-end (c .before .loop .inv) (c .before .before .before .pre) _ (c .loop-test .left)
 
 pub confirmed-at-spec : {M : Type 1} → statement M
 confirmed-at-spec =
@@ -47,10 +50,13 @@ confirmed-at-spec =
     Inv-loop
     μ-loop
     loop-holds
+    (λ c. search needs)
+    (λ c. search needs)
     read-confirmation-requires
-    and-requires
     returns
-    add-j
-    loop-less
+    (λ c. search needs)
+    (λ c. search needs)
     loop-again
+    (λ c. search needs)
+    loop-again-2
     returns-2)
