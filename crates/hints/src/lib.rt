@@ -80,7 +80,7 @@ fn one_of(b: bool) -> usize
 }
 
 // How many gaps of the n hints are below g.
-fn count_below(t: &[u8], n: usize, g: u64) -> usize
+fn count_below(t: &[u8], n: usize, g: u32) -> usize
     requires { ⌜ n * 8 ≤ length (now t) ⌝ }
     ensures { λ r. ⌜ r ≡ lower (hintsIn n (now (t .entry))) g ⌝ }
 {
@@ -89,7 +89,7 @@ fn count_below(t: &[u8], n: usize, g: u64) -> usize
     let mut i: usize = 0;
     while i < n {
         let h = read_hint(t, i);
-        found += one_of(rise_of(before, h.number) < g);
+        found += one_of(rise_of(before, h.number) < g as u64);
         before = h.number;
         i += 1;
     }
@@ -102,6 +102,19 @@ pub struct Cut {
     pub rest: usize,
 }
 
+// A gap between two bounds: the middle, but below the double of the lower one and 64 as long as the upper one is 2^32.
+fn probe(low: u64, high: u64) -> u64
+    requires { ⌜ (low + 1 < high) × (high ≤ 4294967296) ⌝ }
+    ensures { λ r. ⌜ (low < r) × (r < high) ⌝ }
+{
+    let mid = (low + high) / 2;
+    if high < 4294967296 {
+        return mid;
+    }
+    let near = low * 2 + 64;
+    if near < mid { near } else { mid }
+}
+
 // The cutoff that drops `excess` of the n hints, by bisection.
 pub fn cutoff(t: &[u8], n: usize, excess: usize) -> Cut
     requires { ⌜ (n * 8 ≤ length (now t)) × (excess ≤ n) ⌝ }
@@ -111,8 +124,8 @@ pub fn cutoff(t: &[u8], n: usize, excess: usize) -> Cut
     let mut high: u64 = 4294967296;
     let mut less: usize = 0;
     while low + 1 < high {
-        let mid = (low + high) / 2;
-        let m = count_below(t, n, mid);
+        let mid = probe(low, high);
+        let m = count_below(t, n, mid as u32);
         if m == excess {
             return Cut { gap: mid, rest: 0 };
         }
