@@ -13,7 +13,7 @@ use Rattle.rules.specs.declared.AreaIndex.{AreaIndex}
 use Rattle.rules.specs.declared.Hint.{Hint}
 use Rattle.rules.specs.Tests.{each, ask, firstNo, after, Accepted}
 use Rattle.rules.specs.Values.{lim, maxList, mergeRoom}
-use Rattle.rules.specs.Sections.{hintOk}
+use Rattle.rules.specs.Sections.{hintOk, hintsOk}
 use Rattle.rules.specs.Questions.{question3, question4, hintingRoom, hintingOk}
 use Rattle.rules.specs.File.{decodeCheckpoint, decodeHeld, decodeLsn, decodeHint, decodeConfirmation}
 use Rattle.rules.specs.Hints.{question13, withHinting, withHints, joinedHints, addHints}
@@ -69,6 +69,10 @@ room-is {x} {t} {q} list p e n =
     yes : (q : Bool) → not q ≡ false → q ≡ true
     yes true n = refl
     yes false n = never refl n
+
+pub own-rise : {x : AreaIndex} {t : Tables} → Passes x t → hintsOk (x .area) (hintsIn (x .hints) (t .hints)) ≡ true
+unfolding heldQuestion4 question4 hintingOk
+own-rise {x} {t} p = all→ _ (all→ _ (and-left _ (kindsIn x t) (p .held)) .1 .0) .1 .1 .1 .0
 
 -- ---- the answers
 module _ (x : AreaIndex) (t : Tables) (list : List ℕ) {n : ℕ} (e : n ≡ refusal x t) where

@@ -48,7 +48,7 @@ module _ {x y : AreaIndex} {t u : Tables} {go : Bool} (j : Joins x t y u) (g : g
       let h = hinting-is (j .own) in let k = hinting-is (j .other) in
       let hf = h .few in let kf = k .few in let km = k .most in let r = hint-room (j .own) in let l = passes-hints (j .other) in
       let n = records-length 8 decodeHint (x .hints) (t .hints) in let m = records-length 8 decodeHint (y .hints) (u .hints) in
-      record { room = omega arith; there = l .hints; rising = rw (areas j) (k .hints) }
+      record { room = omega arith; there = l .hints; own = h .hints; rising = rw (areas j) (k .hints) }
 
   pub confirmed-ready : Rising (x .most) (x .confirmed) (y .confirmed) (t .confirmed) (u .confirmed)
   unfolding confirmationsOk

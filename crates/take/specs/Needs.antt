@@ -63,6 +63,7 @@ partsTaken x f h t u =
 pub record HintsReady (a : Area) (n m : ℕ) (t u : List ℕ) : Type 0 where
   pub room : n + m ≤ length t / 8
   pub there : m * 8 ≤ length u
+  pub own : hintsOk a (hintsIn n t) ≡ true
   pub rising : hintsOk a (hintsIn m u) ≡ true
 
 -- a count, and a table

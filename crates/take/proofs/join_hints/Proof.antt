@@ -7,7 +7,7 @@ use Rattle.take.proofs.join_hints.Tie as tie
 merge-hints-requires : tie.Need-merge-hints-requires
 merge-hints-requires c κs =
     let start : tie.Start = search in
-    hints-room (start .pre) refl
+    (hints-room (start .pre) refl, start .pre .own)
 
 returns : tie.Need-returns
 returns c =
