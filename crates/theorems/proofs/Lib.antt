@@ -10,6 +10,7 @@ pub mod Accepts
 pub mod Useful
 pub mod RoundTrip
 pub mod TableRun
+pub mod MergeInTables
 pub mod Demand3InTables
 pub mod RoundTripInTables
 pub mod Adds

@@ -27,16 +27,14 @@ use Rattle.index.proofs.Standing.{stands, stands-cleared, kinds-from, within, r
 use Rattle.save.specs.Save.{saveOut, saveIn}
 use Rattle.load.specs.Load.{loadIn}
 use Rattle.merge.specs.Merge.{hintsWritten, mergeIn}
-use Rattle.theorems.specs.TableRun.{TablePlace, TableCall, mergeTables, saveTables, loadTables, TableState, beginTables, numbersAfter, isAccepted, placed, fileOf, merging, saving, loadingInto, tableStep, tableRun, placeIn, callOf, callsOf, stateIn}
-use Rattle.theorems.specs.Demand3InTables.{CutIn, AllCutIn, afterTableCalls}
+use Rattle.theorems.specs.TableRun.{TablePlace, TableCall, mergeTables, saveTables, loadTables, TableState, beginTables, numbersAfter, isAccepted, placed, fileOf, merging, saving, loadingInto, tableStep, tableRun, placeIn, callOf, callsOf, stateIn, AllCutIn, afterTableCalls, RunSame}
 use Rattle.theorems.proofs.CutLaws.{merged-three, cut-merged, cut-limited, limited-three}
-use Rattle.theorems.proofs.Demand3 as demand3
-use Rattle.theorems.proofs.Demand3.{Inv, Good, JustOk, step-good, start-good, loaded}
+use Rattle.theorems.proofs.Demand3.{Good, JustOk, step-good, start-good}
 
 abbrev KindsIn : TablePlace → Type 0
 KindsIn p = kindsIn (p .numbers) (p .tables) ≡ true
 
-cut-savable : {R : Reading} (x : Index) → Cut R x → Savable x
+pub cut-savable : {R : Reading} (x : Index) → Cut R x → Savable x
 cut-savable x c = record { one = c .one; two = c .two; four = c .four; sizes = c .fits }
 
 pub kinds-pass : {A : Type 0} (ok : Bool) (r : Answer A) → ok ≡ true → kinded ok r ≡ r
@@ -172,11 +170,19 @@ module _ (R : Reading) (p : ℕ → Place) (cut : (i : ℕ) → Cut R (p i .list
   step-same (loadTables limit) s g k = load-same limit s (s .just) g (g .just) k
 
   -- any calls, from any state that the run of the rules can reach
-  pub run-same : (cs : List TableCall) (s : TableState) → Good R p cut (stateIn s) → AllKinds s → Same (tableRun (R .area) cs s) (run (R .area) (callsOf cs) (stateIn s))
+  run-from : (cs : List TableCall) (s : TableState) → Good R p cut (stateIn s) → AllKinds s → Same (tableRun (R .area) cs s) (run (R .area) (callsOf cs) (stateIn s))
   unfolding tableRun run callsOf
-  run-same [] s g k = record { is = refl; kinds = k }
-  run-same (c ∷ cs) s g k =
+  run-from [] s g k = record { is = refl; kinds = k }
+  run-from (c ∷ cs) s g k =
       let n = step-same c s g k in
       let g' : Good R p cut (stateIn (tableStep (R .area) c s)) = rw (n .is) (step-good R p cut (callOf c) (stateIn s) g) in
-      let r = run-same cs (tableStep (R .area) c s) g' (n .kinds) in
+      let r = run-from cs (tableStep (R .area) c s) g' (n .kinds) in
       record { is = r .is ∙ ap (run (R .area) (callsOf cs)) (n .is); kinds = r .kinds }
+
+-- from lists cut from the reading
+pub left : (R : Reading) (p : ℕ → TablePlace) → AllCutIn R p → (cs : List TableCall)
+    → Same (afterTableCalls R p cs) (run (R .area) (callsOf cs) (begin (λ k. placeIn (p k))))
+left R p c cs = run-from R (λ k. placeIn (p k)) (λ k. c k .cut) cs (beginTables p) (start-good R (λ k. placeIn (p k)) (λ k. c k .cut)) (λ k. c k .kinds)
+
+pub run-same : RunSame
+run-same R p c cs = left R p c cs .is

@@ -12,27 +12,15 @@ use Rattle.rules.specs.declared.Resume.{Resume}
 use Rattle.rules.specs.Tests.{Accepted}
 use Rattle.rules.specs.Questions.{question3}
 use Rattle.rules.specs.Merge.{question42}
-use Rattle.rules.specs.Plan.{startOf, bytesAt}
-use Rattle.rules.specs.Run.{Reading, Cut}
+use Rattle.rules.specs.Plan.{assemblyOf, startOf, bytesAt}
+use Rattle.rules.specs.Run.{Reading}
 use Rattle.index.specs.declared.Made.the-variants as made
-use Rattle.index.specs.Index.{Tables, roomOf, indexIn, kindsIn, out}
+use Rattle.index.specs.Index.{Tables, out}
 use Rattle.plan.specs.Calls.{planIn}
 use Rattle.index.specs.Lent.{Typed, TableBytes}
 use Rattle.merge.specs.Merge.{mergeIn}
 use Rattle.theorems.specs.Demand3.{Outcome}
-use Rattle.theorems.specs.TableRun.{TablePlace, TableCall, TableState, beginTables, tableRun, placeIn, stateIn, merging, isAccepted}
-
--- at first each place holds, in its tables, a list cut from the reading R; its parts have kinds, as 4 asks of tables
-pub record CutIn (R : Reading) (p : TablePlace) : Type 0 where
-  pub cut : Cut R (indexIn (p .numbers) (p .tables))
-  pub kinds : kindsIn (p .numbers) (p .tables) ≡ true
-
-abbrev pub AllCutIn : Reading → (ℕ → TablePlace) → Type 0
-AllCutIn R p = (i : ℕ) → CutIn R (p i)
-
--- what the calls of a run leave in the places
-abbrev pub afterTableCalls : Reading → (ℕ → TablePlace) → List TableCall → TableState
-afterTableCalls R p calls = tableRun (R .area) calls (beginTables p)
+use Rattle.theorems.specs.TableRun.{TablePlace, TableCall, AllCutIn, afterTableCalls, placeIn, stateIn, merging, isAccepted}
 
 -- demand 3: every place, after any calls, read through indexIn
 abbrev pub Demand3InTables : Type 0
@@ -40,11 +28,13 @@ Demand3InTables =
     (R : Reading) (p : ℕ → TablePlace) → AllCutIn R p → (calls : List TableCall) (i : ℕ)
     → Outcome R (λ k. placeIn (p k)) (stateIn (afterTableCalls R p calls)) i
 
--- plan answers, in a place, checkpoint number j with the held part h
-abbrev pub PlansPart : TablePlace → ℕ → ℕ → HeldPart → Type 0
-PlansPart p t j h = (r : Resume) × (planIn (p .numbers) (p .tables) t ≡ Accepted (At r)) × (r .number ≡ j) × (r .assembly ≡ Stored h)
+-- ---- held parts
+-- a place, in tables that are long enough, holds the part h for checkpoint number j
+pub record HoldsPart (p : TablePlace) (j : ℕ) (h : HeldPart) : Type 0 where
+  pub three : question3 (placeIn p .room) (placeIn p .list) ≡ true
+  pub part : assemblyOf (placeIn p .list .scan .frames) (placeIn p .list .scan .parts) j ≡ Stored h
 
--- the bytes that the second call returns for it
+-- its bytes, as the second call returns them
 abbrev pub partIn : TablePlace → HeldPart → List ℕ
 partIn p h = bytesAt (p .tables .store) (h .offset) (h .len)
 
@@ -55,19 +45,33 @@ pub record SamePart (p q : TablePlace) (h k : HeldPart) : Type 0 where
   pub kind : h .kind ≡ k .kind
   pub remaining : h .remaining ≡ k .remaining
 
--- parts that plan answers for one checkpoint in the results of two runs over one reading agree byte for byte
+-- parts that are held for one checkpoint in the results of two runs over one reading agree byte for byte
 abbrev pub PartsAgreeInTables : Type 0
 PartsAgreeInTables =
-    (R : Reading) (p q : ℕ → TablePlace) → AllCutIn R p → AllCutIn R q → (cs ds : List TableCall) (i j at t u : ℕ) (h k : HeldPart)
-    → PlansPart (afterTableCalls R p cs .now i) t at h → PlansPart (afterTableCalls R q ds .now j) u at k
+    (R : Reading) (p q : ℕ → TablePlace) → AllCutIn R p → AllCutIn R q → (cs ds : List TableCall) (i j at : ℕ) (h k : HeldPart)
+    → HoldsPart (afterTableCalls R p cs .now i) at h → HoldsPart (afterTableCalls R q ds .now j) at k
     → SamePart (afterTableCalls R p cs .now i) (afterTableCalls R q ds .now j) h k
 
--- where the tables were long enough at first, and no two image ids or fingerprints differed, no merge is ever refused
+-- a part that plan answers with a checkpoint, in any place, is the one held for it
+abbrev pub PlansHeldPart : Type 0
+PlansHeldPart =
+    (p : TablePlace) (t : ℕ) (r : Resume) (h : HeldPart) → planIn (p .numbers) (p .tables) t ≡ Accepted (At r) → r .assembly ≡ Stored h
+    → HoldsPart p (r .number) h
+
+-- ---- merges that are accepted
+-- after any calls: where, as they are now, the tables of both places are long enough and no image ids or fingerprints differ, the merge is accepted
+abbrev pub MergeAcceptedInTables : Type 0
+MergeAcceptedInTables =
+    (R : Reading) (p : ℕ → TablePlace) → AllCutIn R p → (calls : List TableCall) (i j : ℕ)
+    → let own = afterTableCalls R p calls .now i in let other = afterTableCalls R p calls .now j in
+    question3 (placeIn own .room) (placeIn own .list) ≡ true → question3 (placeIn other .room) (placeIn other .list) ≡ true
+    → question42 (placeIn own .list) (placeIn other .list) ≡ true → isAccepted (merging own other .answer) ≡ true
+
+-- where the tables of all places were long enough at first, and no two image ids or fingerprints differed, no merge is ever refused
 abbrev pub NoneRefusedInTables : Type 0
 NoneRefusedInTables =
-    (R : Reading) (p : ℕ → TablePlace) → AllCutIn R p
-    → ((i : ℕ) → question3 (roomOf (p i .tables)) (indexIn (p i .numbers) (p i .tables)) ≡ true)
-    → ((i j : ℕ) → question42 (indexIn (p i .numbers) (p i .tables)) (indexIn (p j .numbers) (p j .tables)) ≡ true) → (calls : List TableCall) (i j : ℕ)
+    (R : Reading) (p : ℕ → TablePlace) → AllCutIn R p → ((i : ℕ) → question3 (placeIn (p i) .room) (placeIn (p i) .list) ≡ true)
+    → ((i j : ℕ) → question42 (placeIn (p i) .list) (placeIn (p j) .list) ≡ true) → (calls : List TableCall) (i j : ℕ)
     → isAccepted (merging (afterTableCalls R p calls .now i) (afterTableCalls R p calls .now j) .answer) ≡ true
 
 -- ---- any two lists, in any tables: numbers of their types, and bytes

@@ -1,15 +1,16 @@
 -- Document 01, "Run", over the tables that players hold: each step is what the contracts of merge, to_bytes and from_bytes say.
 use Prim.Native.Nat.{ℕ}
+use mathlib.Core.Path.{_≡_}
 use mathlib.Core.Bool.{Bool, true, false, cond}
 use mathlib.Core.List.{List, [], _∷_, _++_}
 use mathlib.Core.Option.{Option, none, some}
 use lib.ListN.{length, take}
 use Rattle.rules.specs.declared.Area.{Area}
 use Rattle.rules.specs.declared.AreaIndex.{AreaIndex}
-use Rattle.rules.specs.Run.{Place, Call, mergeCall, saveCall, loadCall, Saved, State, replace}
+use Rattle.rules.specs.Run.{Reading, Cut, Place, Call, mergeCall, saveCall, loadCall, Saved, State, begin, run, replace}
 use Rattle.index.specs.declared.Made.{Made}
 use Rattle.index.specs.declared.Made.the-variants as made
-use Rattle.index.specs.Index.{Tables, roomOf, indexIn, Out}
+use Rattle.index.specs.Index.{Tables, roomOf, indexIn, kindsIn, Out}
 use Rattle.save.specs.declared.Saved as declared
 use Rattle.save.specs.declared.Saved.the-variants as answer
 use Rattle.save.specs.Save.{SaveOut, saveIn}
@@ -98,3 +99,22 @@ callsOf (c ∷ cs) = callOf c ∷ callsOf cs
 
 abbrev pub stateIn : TableState → State
 stateIn s = record { now = λ k. placeIn (s .now k); went = s .went; just = s .just }
+
+-- ---- from lists cut from one reading
+-- at first each place holds, in its tables, a list cut from the reading R; its parts have kinds, as 4 asks of tables
+pub record CutIn (R : Reading) (p : TablePlace) : Type 0 where
+  pub cut : Cut R (indexIn (p .numbers) (p .tables))
+  pub kinds : kindsIn (p .numbers) (p .tables) ≡ true
+
+abbrev pub AllCutIn : Reading → (ℕ → TablePlace) → Type 0
+AllCutIn R p = (i : ℕ) → CutIn R (p i)
+
+-- what the calls of a run leave in the places
+abbrev pub afterTableCalls : Reading → (ℕ → TablePlace) → List TableCall → TableState
+afterTableCalls R p calls = tableRun (R .area) calls (beginTables p)
+
+-- what any calls leave, read through indexIn, is what the run of the rules leaves, from the lists that the tables held at first
+abbrev pub RunSame : Type 0
+RunSame =
+    (R : Reading) (p : ℕ → TablePlace) → AllCutIn R p → (calls : List TableCall)
+    → stateIn (afterTableCalls R p calls) ≡ run (R .area) (callsOf calls) (begin (λ i. placeIn (p i)))
