@@ -24,6 +24,13 @@ AtLsn hs n = One (λ x. x .lsn ≡ n) hs
 abbrev pub Among : List Hint → Hint → Type 0
 Among hs h = One (λ x. x ≡ h) hs
 
+-- h is the first of a list at its LSN
+pub record FirstAt (list : List Hint) (h : Hint) : Type 0 where
+  pub place : ℕ
+  pub inside : place < length list
+  pub is : getD list place noHint ≡ h
+  pub first : (i : ℕ) → i < place → getD list i noHint .lsn ≡ h .lsn → ⊥
+
 -- what an accepted add_hints thins, all, for the index x and a list
 pub record Joined (x : Index) (list all : List Hint) : Type 0 where
   -- it rises, inside the area
@@ -32,6 +39,8 @@ pub record Joined (x : Index) (list all : List Hint) : Type 0 where
   pub lsns : (n : ℕ) → AtLsn all n ↔ (AtLsn (x .hinting .hints) n ⊎ ((inArea (x .scan .area) n ≡ true) × AtLsn list n))
   -- every held hint stays
   pub held : (h : Hint) → Among (x .hinting .hints) h → Among all h
+  -- every other hint is the first of the list at its LSN
+  pub origin : (h : Hint) → Among all h → Among (x .hinting .hints) h ⊎ FirstAt list h
 
 abbrev pub HintsJoined : Type 0
 HintsJoined =
