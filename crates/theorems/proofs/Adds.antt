@@ -1,22 +1,31 @@
 -- Nothing is named exactly where a merge leaves the own list as it is. Assumes nothing.
-use mathlib.Core.Path.{_≡_, refl, sym, ap, _∙_}
+use mathlib.Core.Path.{_≡_, refl, sym, ap, ap₂, _∙_}
 use mathlib.Core.Bool.{Bool, true, false, _&&_, not, cond}
+use mathlib.Core.List.{List}
 use Prim.Native.Nat.{ℕ}
 use borrow.Author.Tests.{eqb-true, not-true}
 use lib.Dec.{eqb}
-use Rattle.rules.specs.Tests.{all, Accepted, after, firstNo}
+use Rattle.rules.specs.Tests.{all, Answer, Accepted, after, firstNo}
 use Rattle.rules.specs.Values.{Scan, Hinting, Index, Lengths, sameCheckpoint, sameEnd}
 use Rattle.rules.specs.Questions.{question1, question2, question3, question4}
-use Rattle.rules.specs.Plan.{plan}
+use Rattle.rules.specs.Plan.{plan, bytesAt}
 use Rattle.rules.specs.Hints.{hint}
 use Rattle.rules.specs.Merge.{further, takenScan, mergedScan, merged, mergeNumber, merge}
-use Rattle.rules.proofs.Tests.{test, and-left, and-right, all→, →all, accepted→, →after}
+use Rattle.rules.specs.File.{over, hasHinting, versionOf, headerOf, hintSection, confirmedSection, bodyOf, saved}
+use Rattle.rules.proofs.Tests.{test, both, and-left, and-right, all→, →all, accepted→, accepted-eq, →after}
 use Rattle.rules.proofs.Same.{eqb-self, sameCheckpoint-self, sameCheckpoint-eq, sameEnd-self, sameEnd-eq}
 use Rattle.compare.specs.Same.{sameList, sameHint, sameConfirmation}
 use Rattle.compare.proofs.Same.{sameList-self, sameList-eq, sameHint-self, sameHint-eq, sameConfirmation-self, sameConfirmation-eq}
+use Rattle.index.specs.Index.{Tables, roomOf, roomIn, indexIn, kindsIn, kinded, storeOf}
+use Rattle.index.specs.Needs.{Passes, heldQuestion4}
+use Rattle.index.proofs.Lent.{put-back}
+use Rattle.plan.specs.Calls.{planIn}
+use Rattle.hint.specs.Calls.{hintIn}
 use Rattle.adds.specs.declared.Brings.{Brings}
 use Rattle.adds.specs.Brings.{sameKnown, sameFrame, sameHeld, sameFingerprint, bringsOf, brings}
-use Rattle.theorems.specs.Adds.{noneButImage, noneNamed, NothingNamed, SameAnswers, OnlyImageNamed}
+use Rattle.theorems.specs.Adds.{noneButImage, noneNamed, NothingNamed, OnlyImageNamed, NothingNamedInTables, OnlyImageNamedInTables}
+use Rattle.theorems.proofs.MergeInTables.{kinded→, Left, merge-left}
+use Rattle.theorems.proofs.TableRun.{kinds-pass}
 use Rattle.adds.proofs.Same.{sameKnown-self, sameKnown-eq, sameFrame-self, sameFrame-eq, sameHeld-self, sameHeld-eq, sameFingerprint-self, sameFingerprint-eq}
 
 same-of : {a : Bool} → not (not a) ≡ true → a ≡ true
@@ -112,18 +121,70 @@ nothing-named l m own other b e =
       λ h. rw (← r .1) (same-none own other (accepted→ (mergeNumber l own m other) (merged own other) own h .1)),
     )
 
-pub only-image-named : OnlyImageNamed
-unfolding brings merge plan hint question1 question2 question3 question4
-only-image-named l m own other x b e h g =
+-- all but the image id
+record ButImage (own x : Index) : Type 0 where
+  scan : x .scan ≡ own .scan
+  hinting : x .hinting ≡ own .hinting
+  fingerprint : x .fingerprint ≡ own .fingerprint
+
+but-image : (l m : Lengths) (own other x : Index) (b : Brings) → brings l own m other ≡ Accepted b → noneButImage b ≡ true → merge l own m other ≡ Accepted x
+    → ButImage own x
+unfolding brings merge
+but-image l m own other x b e h g =
     let r = accepted→ (mergeNumber l own m other) (bringsOf own (merged own other)) b e in
     let z = accepted→ (mergeNumber l own m other) (merged own other) x g .1 in
     let k : noneButImage (bringsOf own (merged own other)) ≡ true = rw (r .1) h in
-    let s : x .scan ≡ own .scan = rw (← z) (scan-same own other k) in
-    let t : x .hinting ≡ own .hinting = rw (← z) (hinting-same own other k) in
-    let f : x .fingerprint ≡ own .fingerprint = rw (← z) (fingerprint-same own other k) in
+    record { scan = rw (← z) (scan-same own other k); hinting = rw (← z) (hinting-same own other k); fingerprint = rw (← z) (fingerprint-same own other k) }
+
+-- no byte of a file depends on it
+same-file : (own x : Index) → ButImage own x → saved x ≡ saved own
+unfolding saved bodyOf headerOf hintSection confirmedSection versionOf hasHinting
+same-file own x b = rw (b .scan, b .hinting, b .fingerprint)
+
+pub only-image-named : OnlyImageNamed
+unfolding plan hint question1 question2 question3 question4
+only-image-named l m own other x b e h g =
+    let s = but-image l m own other x b e h g in
     record {
-      plans = λ first. rw (s, t, f);
-      starts = λ first. rw s;
-      parts = λ p. rw s;
-      hints = λ first end playtime. rw (s, t, f);
+      plans = λ first. rw (s .scan, s .hinting, s .fingerprint);
+      starts = λ first. rw (s .scan);
+      parts = λ p. rw (s .scan);
+      hints = λ first end playtime. rw (s .scan, s .hinting, s .fingerprint);
+      file = same-file own x s;
     }
+
+-- ---- in tables
+pub nothing-named-in-tables : NothingNamedInTables
+nothing-named-in-tables x t y u b z t' a c e m =
+    let own = indexIn x t in
+    let l = merge-left x t y u z t' a c m in
+    let k = kinded→ (kindsIn x t && kindsIn y u) (brings (roomOf t) own (roomOf u) (indexIn y u)) b e .1 in
+    let n = nothing-named (roomOf t) (roomOf u) own (indexIn y u) b k in (
+      λ h. l .stands ∙ accepted-eq (l .list) own (sym (l .accepted) ∙ n .0 h),
+      λ h. n .1 (l .accepted ∙ ap Accepted (sym (l .stands) ∙ h)),
+    )
+
+pub only-image-named-in-tables : OnlyImageNamedInTables
+unfolding planIn hintIn question1 question2 roomIn heldQuestion4
+only-image-named-in-tables x t y u b z t' a c e m h =
+    let own = indexIn x t in
+    let l = merge-left x t y u z t' a c m in
+    let k = kinded→ (kindsIn x t && kindsIn y u) (brings (roomOf t) own (roomOf u) (indexIn y u)) b e .1 in
+    let i = but-image (roomOf t) (roomOf u) own (indexIn y u) (l .list) b k h (l .accepted) in
+    let s = only-image-named (roomOf t) (roomOf u) own (indexIn y u) (l .list) b k h (l .accepted) in
+    let o = and-left (kindsIn x t) (kindsIn y u) (l .both) in
+    let pass : Passes x t = record { roomy = record { area = l .own .one; numbers = l .own .two; room = l .own .three }; held = both (l .own .four) o } in
+    let store : t' .store ≡ t .store =
+    ap (λ (v : Tables). v .store) (sym (l .tables)) ∙ ap (λ (v : Scan). over (storeOf (v .frames)) (t .store)) (i .scan)
+    ∙ ap (λ (v : Tables). v .store) (put-back pass (a .bytes)) in
+    record {
+      plans = λ first. through l o (λ n v. plan n v first) (s .plans first);
+      parts = λ offset len. ap (λ (v : List ℕ). bytesAt v offset len) store;
+      hints = λ first end playtime. through l o (λ n v. hint n v first end playtime) (s .hints first end playtime);
+      file = ap saved (l .stands) ∙ s .file;
+    }
+  where
+    through : {A : Type 0} → (l : Left x t y u z t') → kindsIn x t ≡ true → (call : Lengths → Index → Answer A) → call (roomOf t) (l .list) ≡ call (roomOf t) (indexIn x t)
+        → kinded (kindsIn z t') (call (roomOf t') (indexIn z t')) ≡ kinded (kindsIn x t) (call (roomOf t) (indexIn x t))
+    through l o call q =
+        kinds-pass (kindsIn z t') _ (l .kinds) ∙ ap₂ call (l .room) (l .stands) ∙ q ∙ sym (kinds-pass (kindsIn x t) _ o)
