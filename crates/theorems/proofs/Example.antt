@@ -1,27 +1,38 @@
--- Lists cut from a reading exist: one of 1000..1250 by 100, a list with one checkpoint and a complete one.
-use mathlib.Core.Path.{_≡_, refl}
+-- Lists cut from a reading exist, on values and in tables: one of 1000..1250 by 100, a list with one checkpoint and a complete one.
+use mathlib.Core.Path.{_≡_, refl, sym, ap, subst, _∙_}
 use mathlib.Core.Bool.{true, cond}
 use mathlib.Core.Logic.{inl, inr}
 use mathlib.Core.List.{List, [], _∷_}
 use mathlib.Core.Option.{Option, none, some}
-use Prim.Native.Nat.{ℕ, zero, suc}
+use Prim.Native.Nat.{ℕ, zero, suc, _/_}
 use native.Mathlib.Omega.{arith}
 use lib.Dec.{eqb}
 use lib.IntN.{pos, negsuc}
+use lib.ListN.{length, replicate, length-replicate}
 use Rattle.rules.specs.declared.Area.{Area}
+use Rattle.rules.specs.declared.Assembly.the-variants.{Stored}
 use Rattle.rules.specs.declared.Fingerprint.the-variants.{Unknown}
 use Rattle.rules.specs.declared.FrameKind.the-variants.{Dst, Dsd}
 use Rattle.rules.specs.Tests.{all, each, walk, lastOr, isSome, agree}
-use Rattle.rules.specs.Values.{Scan, Index, boundaries, frontierOf, counted, stated, sameKind}
+use Rattle.rules.specs.Values.{Scan, Index, Lengths, boundaries, used, frontierOf, counted, stated, sameKind}
 use Rattle.rules.specs.Sections.{countsOk, checkpointOk, checkpointsOk, frameOk, framesOk, follows, belongs, partOk, reached, partsOk, endOk, endingOk, risingOk, rising, malformedOk, hintsOk, confirmationsOk}
 use Rattle.rules.specs.Questions.{areaOk, numbersOk, heldOk, scanOk, hintingOk, question1, question2, question3, question4, scanRoom, hintingRoom}
+use Rattle.rules.specs.Plan.{assemblyOf}
 use Rattle.rules.specs.Merge.{question42}
 use Rattle.rules.specs.Record.{below}
 use Rattle.rules.specs.Sizes.{keySized, frameSized, scanSized, knownSized, hintingSized, sized}
 use Rattle.rules.specs.Run.{Reading, Cut, Place, countedFrom, Call, mergeRefusal}
-use Rattle.theorems.specs.Terms.{AllCut, afterCalls}
-use Rattle.theorems.proofs.Demand3.{none-refused}
 use Rattle.rules.proofs.Tests.{test}
+use Rattle.filelaws.specs.Statements.{Savable}
+use Rattle.filelaws.proofs.Facts.{facts}
+use Rattle.index.specs.Index.{Tables, tables, roomOf, numbersFrom, tablesFrom}
+use Rattle.index.proofs.Standing.{stands, kinds-from, within, room-from}
+use Rattle.theorems.specs.Terms.{AllCut, afterCalls}
+use Rattle.theorems.specs.TableRun.{TablePlace, TableCall, isAccepted, merging, placeIn, AllCutIn, afterTableCalls}
+use Rattle.theorems.specs.Demand3InTables.{HoldsPart}
+use Rattle.theorems.proofs.Demand3.{none-refused}
+use Rattle.theorems.proofs.TableRun.{cut-savable}
+use Rattle.theorems.proofs.Demand3InTables.{none-refused-in-tables}
 
 abbrev area : Area
 area = record { key = record { slot = 0; start = 1; end = 2; channels = 2; sectors = 9 }; start = 1000; end = 1250 }
@@ -133,3 +144,65 @@ ids i j =
 
 pub merges : (calls : List Call) (i j : ℕ) → mergeRefusal (afterCalls reading places calls .now i) (afterCalls reading places calls .now j) ≡ 0
 merges = none-refused reading places all-cut rooms ids
+
+-- ---- in tables: those of zeros, with the lists put into them
+unfoldable pub zerosOf : ℕ → ℕ → ℕ → ℕ → ℕ → ℕ → ℕ → Tables
+zerosOf a b c d e f g = tables (replicate a 0) (replicate b 0) (replicate c 0) (replicate d 0) (replicate e 0) (replicate f 0) (replicate g 0)
+
+zeros-length : (n : ℕ) → length (replicate {A = ℕ} n 0) ≡ n
+zeros-length n = length-replicate {A = ℕ} n 0
+
+zeros-room : (a b c d e f g : ℕ)
+    → roomOf (zerosOf a b c d e f g) ≡ record { checkpoints = a / 24; frames = b / 8; store = c; parts = d / 24; malformed = e / 4; hints = f / 8; confirmed = g / 16 }
+unfolding zerosOf
+zeros-room a b c d e f g =
+    rw (zeros-length a, zeros-length b, zeros-length c, zeros-length d, zeros-length e, zeros-length f, zeros-length g)
+
+-- as long as question 3 asks
+abbrev zeros : Tables
+zeros = zerosOf 72 24 5 72 16384 540672 32784
+
+room-zeros : (i : ℕ) → roomOf zeros ≡ places i .room
+room-zeros i = zeros-room 72 24 5 72 16384 540672 32784
+
+abbrev tablePlaces : ℕ → TablePlace
+tablePlaces i = record { numbers = numbersFrom (places i .list); tables = tablesFrom (places i .list) zeros }
+
+savable : (i : ℕ) → Savable (places i .list)
+savable i = cut-savable (places i .list) (all-cut i)
+
+-- the lists stand in them, and the tables keep their lengths
+table-place : (i : ℕ) → placeIn (tablePlaces i) ≡ places i
+table-place i =
+    let x = places i .list in
+    let q : question3 (roomOf zeros) x ≡ true = ap (λ (l : Lengths). question3 l x) (room-zeros i) ∙ rooms i in
+    let b = within x zeros (facts x (savable i)) q in
+    let r : roomOf (tablesFrom x zeros) ≡ places i .room = room-from x zeros b ∙ room-zeros i in
+    λ k. record { list = stands x zeros (savable i) k; room = r k }
+
+pub all-cut-in : AllCutIn reading tablePlaces
+all-cut-in i =
+    record {
+      cut = subst (λ (q : Place). Cut reading (q .list)) (sym (table-place i)) (all-cut i);
+      kinds = kinds-from (places i .list) zeros (savable i);
+    }
+
+-- no merge among them is ever refused
+pub merges-in-tables : (calls : List TableCall) (i j : ℕ)
+    → isAccepted (merging (afterTableCalls reading tablePlaces calls .now i) (afterTableCalls reading tablePlaces calls .now j) .answer) ≡ true
+merges-in-tables =
+    none-refused-in-tables reading tablePlaces all-cut-in
+    (λ i. subst (λ (q : Place). question3 (q .room) (q .list) ≡ true) (sym (table-place i)) (rooms i))
+    (λ i j. subst (λ (q : Place). question42 (q .list) (placeIn (tablePlaces j) .list) ≡ true) (sym (table-place i))
+    (subst (λ (q : Place). question42 (places i .list) (q .list) ≡ true) (sym (table-place j)) (ids i j)))
+
+-- place 1 holds a part for checkpoint 1
+pub holds-part : HoldsPart (tablePlaces 1) 1 (record { kind = Dst; number = 7; remaining = pos 5; offset = 0; len = 3 })
+unfolding assemblyOf used
+holds-part =
+    record {
+      three = subst (λ (q : Place). question3 (q .room) (q .list) ≡ true) (sym (table-place 1)) (rooms 1);
+      part =
+          subst (λ (q : Place). assemblyOf (q .list .scan .frames) (q .list .scan .parts) 1 ≡ Stored (record { kind = Dst; number = 7; remaining = pos 5; offset = 0; len = 3 }))
+          (sym (table-place 1)) refl;
+    }

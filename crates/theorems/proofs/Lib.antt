@@ -3,7 +3,6 @@ pub mod CutLaws
 pub mod PartRule
 pub mod Hints
 pub mod Demand3
-pub mod Example
 pub mod Jump
 pub mod Closure
 pub mod Accepts
@@ -12,6 +11,7 @@ pub mod RoundTrip
 pub mod TableRun
 pub mod MergeInTables
 pub mod Demand3InTables
+pub mod Example
 pub mod RoundTripInTables
 pub mod Adds
 pub mod Player
