@@ -1,11 +1,12 @@
 -- What holds of disc files. Assumes nothing.
 use mathlib.Core.Path.{_≡_, refl, sym, ap, _∙_}
+use mathlib.Core.Logic.{_≢_}
 use mathlib.Core.Bool.{Bool, true, false, _&&_, cond}
 use mathlib.Core.List.{List, [], _∷_, _++_, append-assoc}
 use mathlib.Core.Option.{Option, none, some}
 use Prim.Native.Nat.{ℕ, _+_, _≤_, _<_}
 use native.Mathlib.Omega.{arith}
-use borrow.Author.Tests.{eq-eqb, eqb-true, leb-true, ltb-true, ltb-false, lt-ltb, le-ltb, lt-leb}
+use borrow.Author.Tests.{eq-eqb, ne-eqb, eqb-true, leb-true, ltb-true, ltb-false, lt-ltb, le-ltb, lt-leb}
 use lib.Dec.{eqb, leb, ltb}
 use lib.ListN.{length}
 use Rattle.field.specs.Number.{encode}
@@ -25,11 +26,13 @@ use Rattle.filelaws.proofs.Facts.{facts}
 use Rattle.filelaws.proofs.Header.{header-fits}
 use Rattle.filelaws.proofs.Layouts.{header-back}
 use Rattle.filelaws.proofs.Length.{savedLength-is}
-use Rattle.filelaws.proofs.Limit.{limited-load}
+use Rattle.filelaws.proofs.Limit.{limited-load, large-limit}
+use Rattle.theorems.specs.Terms.{Valid, asSaved, Ample}
+use Rattle.theorems.proofs.Accepts.{refuses-nothing}
 use Rattle.rules.specs.declared.Entry.{Entry}
 use Rattle.rules.specs.Disc.{Disc, entry, encodeEntry, slotOf, slotArea, entriesIn, entryOf, entriesFrom, contentsOf, contentsOk, listed, bodiesLength, discLength, discBytes, loadBody, loadBodies, loadDisc, saveLists, saveOne, bySlot, saveBoth}
 use Rattle.rules.specs.Disc as rules
-use Rattle.disc_theorems.specs.DiscFile.{OneDiscFile, disc, BothLoad, OneLoads, Loads, BodiesLoad}
+use Rattle.disc_theorems.specs.DiscFile.{OneDiscFile, disc, BothLoad, OneLoads, DiscLoads, bodyIn, ListFile, SavedBodies, Loads, BodiesLoad}
 use Rattle.disc_theorems.proofs.Tables.{Fit, First, first→, savedOf, table-ok, body-is}
 
 -- ---- an accepted save
@@ -37,6 +40,7 @@ use Rattle.disc_theorems.proofs.Tables.{Fit, First, first→, savedOf, 
 pub record Saves (p : Four) (xs : List Index) (out : ℕ) (b : List ℕ) : Type 0 where
   pub one : p .one ≡ true
   pub two : p .two ≡ true
+  pub three : p .three ≡ true
   pub four : p .four ≡ true
   pub rising : listed 0 (contentsOf xs) ≡ true
   pub is : discBytes xs ≡ b
@@ -46,7 +50,10 @@ unfolding saveLists
 saves p xs out b e =
     let r = asked→ (askFour p (ask (listed 0 (contentsOf xs)) 54 ∷ ask (leb (discLength xs) out) 40 ∷ [])) (Accepted (discBytes xs)) b refl e in
     let q = r .0 in
-    record { one = q .0; two = q .1 .0; four = q .1 .1 .1 .0; rising = q .1 .1 .1 .1 .0; is = accepted-eq (discBytes xs) b (r .1) }
+    record { one = q .0; two = q .1 .0; three = q .1 .1 .0; four = q .1 .1 .1 .0; rising = q .1 .1 .1 .1 .0; is = accepted-eq (discBytes xs) b (r .1) }
+
+savable : (l : Lengths) (x : Index) → Valid l x → sized x ≡ true → Savable x
+savable l x v z = record { one = v .one; two = v .two; four = v .four; sizes = z }
 
 -- both lists of an accepted save
 module _ (l : Lengths) (x : Index) (m : Lengths) (y : Index) (out : ℕ) (b : List ℕ) (e : saveBoth l x m y out ≡ Accepted b) where
@@ -54,24 +61,24 @@ module _ (l : Lengths) (x : Index) (m : Lengths) (y : Index) (out : ℕ) (b : Li
   unfolding saveBoth
   both-saves = saves (both (fourOf l x) (fourOf m y)) (bySlot x y) out b e
 
-  first-savable : sized x ≡ true → Savable x
-  first-savable z =
+  first-valid : Valid l x
+  first-valid =
       let s = both-saves in
       record {
         one = and-left (question1 x) (question1 y) (s .one);
         two = and-left (question2 x) (question2 y) (s .two);
+        three = and-left (question3 l x) (question3 m y) (s .three);
         four = and-left (question4 x) (question4 y) (s .four);
-        sizes = z;
       }
 
-  second-savable : sized y ≡ true → Savable y
-  second-savable z =
+  second-valid : Valid m y
+  second-valid =
       let s = both-saves in
       record {
         one = and-right (question1 x) (question1 y) (s .one);
         two = and-right (question2 x) (question2 y) (s .two);
+        three = and-right (question3 l x) (question3 m y) (s .three);
         four = and-right (question4 x) (question4 y) (s .four);
-        sizes = z;
       }
 
 -- ---- the slot is in the bytes
@@ -84,27 +91,49 @@ slot-saved x s =
 length-saved : (x x' : Index) → saved x ≡ saved x' → savedLength x ≡ savedLength x'
 length-saved x x' e = savedLength-is x .0 ∙ ap length e ∙ sym (savedLength-is x' .0)
 
--- lists of equal content in order have one file
--- the file of two lists, by what it is made of
-abbrev fileOf : ℕ → ℕ → ℕ → ℕ → List ℕ → List ℕ → List ℕ
-fileOf s t m n u v =
-    encode 4 2 ++ (bytesOf encodeEntry (entry s 28 m ∷ entry t (28 + m) n ∷ []) ++ (u ++ (v ++ [])))
+-- ---- lists of equal content
+-- the answer for two lists, by what it is made of
+abbrev answerOf : Four → ℕ → ℕ → ℕ → ℕ → ℕ → List ℕ → List ℕ → Answer (List ℕ)
+answerOf p out s t m n u v =
+    after (firstNo (askFour p (ask (listed 0 (entry s 28 m ∷ entry t (28 + m) n ∷ [])) 54 ∷ ask (leb (28 + (m + (n + 0))) out) 40 ∷ [])))
+    (Accepted (encode 4 2 ++ (bytesOf encodeEntry (entry s 28 m ∷ entry t (28 + m) n ∷ []) ++ (u ++ (v ++ [])))))
 
-file-is : (x y : Index) → discBytes (x ∷ y ∷ []) ≡ fileOf (slotOf x) (slotOf y) (savedLength x) (savedLength y) (saved x) (saved y)
-unfolding discBytes entriesFrom bytesOf
-file-is x y = refl
+answer-is : (p : Four) (out : ℕ) (x y : Index) → saveLists p (x ∷ y ∷ []) out ≡ answerOf p out (slotOf x) (slotOf y) (savedLength x) (savedLength y) (saved x) (saved y)
+unfolding saveLists discBytes discLength bodiesLength entriesFrom bytesOf
+answer-is p out x y = refl
 
-same-entries : (x y x' y' : Index) → slotOf x ≡ slotOf x' → slotOf y ≡ slotOf y' → saved x ≡ saved x' → saved y ≡ saved y'
-    → discBytes (x ∷ y ∷ []) ≡ discBytes (x' ∷ y' ∷ [])
-same-entries x y x' y' p q e f =
-    file-is x y ∙ (λ i. fileOf (p i) (q i) (length-saved x x' e i) (length-saved y y' f i) (e i) (f i)) ∙ sym (file-is x' y')
+module _ (p : Four) (out : ℕ) where
+  same-lists : (x y x' y' : Index) → slotOf x ≡ slotOf x' → slotOf y ≡ slotOf y' → saved x ≡ saved x' → saved y ≡ saved y'
+      → saveLists p (x ∷ y ∷ []) out ≡ saveLists p (x' ∷ y' ∷ []) out
+  same-lists x y x' y' s t e f =
+      answer-is p out x y ∙ (λ i. answerOf p out (s i) (t i) (length-saved x x' e i) (length-saved y y' f i) (e i) (f i)) ∙ sym (answer-is p out x' y')
 
-same-order : (x y x' y' : Index) → slotOf x ≡ slotOf x' → slotOf y ≡ slotOf y' → saved x ≡ saved x' → saved y ≡ saved y'
-    → discBytes (bySlot x y) ≡ discBytes (bySlot x' y')
-unfolding bySlot
-same-order x y x' y' p q e f =
-    let t : ltb (slotOf x) (slotOf y) ≡ ltb (slotOf x') (slotOf y') = rw (p, q) in
-    test (ltb (slotOf x) (slotOf y)) (λ h. rw (h, sym t ∙ h) (same-entries x y x' y' p q e f)) (λ h. rw (h, sym t ∙ h) (same-entries y x y' x' q p f e))
+  same-order : (x y x' y' : Index) → slotOf x ≡ slotOf x' → slotOf y ≡ slotOf y' → saved x ≡ saved x' → saved y ≡ saved y'
+      → saveLists p (bySlot x y) out ≡ saveLists p (bySlot x' y') out
+  unfolding bySlot
+  same-order x y x' y' s t e f =
+      let o : ltb (slotOf x) (slotOf y) ≡ ltb (slotOf x') (slotOf y') = rw (s, t) in
+      test (ltb (slotOf x) (slotOf y)) (λ h. rw (h, sym o ∙ h) (same-lists x y x' y' s t e f)) (λ h. rw (h, sym o ∙ h) (same-lists y x y' x' t s f e))
+
+-- lists that pass 1 to 4
+abbrev passed : Four
+passed = record { one = true; two = true; three = true; four = true }
+
+both-passed : (l m : Lengths) (x y : Index) → Valid l x → Valid m y → both (fourOf l x) (fourOf m y) ≡ passed
+both-passed l m x y v w =
+    λ i. record { one = each-of (v .one) (w .one) i; two = each-of (v .two) (w .two) i; three = each-of (v .three) (w .three) i; four = each-of (v .four) (w .four) i }
+
+same-slot : (x x' : Index) → Savable x → Savable x' → saved x ≡ saved x' → slotOf x ≡ slotOf x'
+same-slot x x' s s' e = slot-saved x s ∙ ap (λ (c : List ℕ). readHeader c .slot) e ∙ sym (slot-saved x' s')
+
+module _ (l m l' m' : Lengths) (x y x' y' : Index) (out : ℕ) (v : Valid l x) (w : Valid m y) (v' : Valid l' x') (w' : Valid m' y') where
+  same-answer : sized x ≡ true → sized y ≡ true → sized x' ≡ true → sized y' ≡ true → saved x ≡ saved x' → saved y ≡ saved y'
+      → saveBoth l x m y out ≡ saveBoth l' x' m' y' out
+  unfolding saveBoth
+  same-answer z c z' c' e f =
+      let s = same-slot x x' (savable l x v z) (savable l' x' v' z') e in
+      let t = same-slot y y' (savable m y w c) (savable m' y' w' c') f in
+      rw (both-passed l m x y v w, both-passed l' m' x' y' v' w') (same-order passed out x y x' y' s t e f)
 
 -- ---- whichever is given first
 -- behind a 54 nothing matters
@@ -163,10 +192,10 @@ swap l m x y out =
 pub one-disc-file : OneDiscFile
 one-disc-file =
     record {
-      same = λ l m l' m' x y x' y' out out' b b' z w z' w' e f s t.
-          let p = slot-saved x (first-savable l x m y out b s z) ∙ ap (λ (c : List ℕ). readHeader c .slot) e ∙ sym (slot-saved x' (first-savable l' x' m' y' out' b' t z')) in
-          let q = slot-saved y (second-savable l x m y out b s w) ∙ ap (λ (c : List ℕ). readHeader c .slot) f ∙ sym (slot-saved y' (second-savable l' x' m' y' out' b' t w')) in
-          sym (both-saves l x m y out b s .is) ∙ same-order x y x' y' p q e f ∙ both-saves l' x' m' y' out' b' t .is;
+      same = same-answer;
+      bytes = λ l m l' m' x y x' y' out out' b b' z c z' c' e f s t.
+          let q = same-answer l m l' m' x y x' y' out (first-valid l x m y out b s) (second-valid l x m y out b s) (first-valid l' x' m' y' out' b' t) (second-valid l' x' m' y' out' b' t) z c z' c' e f in
+          sym (both-saves l' x' m' y' out b (sym q ∙ s) .is) ∙ both-saves l' x' m' y' out' b' t .is;
       swapped = swap;
     }
 
@@ -196,8 +225,8 @@ pub both-load : BothLoad
 unfolding bySlot savedOf
 both-load l m l' m' x y out limit b z w p q e g h =
     let s = both-saves l x m y out b e in
-    let v = first-savable l x m y out b e z in
-    let u = second-savable l x m y out b e w in
+    let v = savable l x (first-valid l x m y out b e) z in
+    let u = savable m y (second-valid l x m y out b e) w in
     let lt : slotOf x < slotOf y = omega arith in
     let xs = x ∷ y ∷ [] in
     let order : bySlot x y ≡ xs = rw (lt-ltb (slotOf x) (slotOf y) lt) in
@@ -209,13 +238,13 @@ both-load l m l' m' x y out limit b z w p q e g h =
     (ap (loadBody l' (x .scan .area) limit) t0 ∙ body-loads l' limit x v g) (ap (loadBody m' (y .scan .area) limit) t1 ∙ body-loads m' limit y u h)
 
 -- one list alone
-module _ (l : Lengths) (x : Index) (out : ℕ) (b : List ℕ) (z : sized x ≡ true) (e : saveOne l x out ≡ Accepted b) where
+module _ (l : Lengths) (x : Index) (out : ℕ) (b : List ℕ) (e : saveOne l x out ≡ Accepted b) where
   one-saves : Saves (fourOf l x) (x ∷ []) out b
   unfolding saveOne
   one-saves = saves (fourOf l x) (x ∷ []) out b e
 
-  one-savable : Savable x
-  one-savable = let s = one-saves in record { one = s .one; two = s .two; four = s .four; sizes = z }
+  one-valid : Valid l x
+  one-valid = let s = one-saves in record { one = s .one; two = s .two; three = s .three; four = s .four }
 
   one-fit : slotOf x ≤ 1 → Fit (x ∷ [])
   one-fit h = record { few = omega arith; some' = omega arith; slots = one {x = x} h nothing; rising = one-saves .rising }
@@ -225,21 +254,108 @@ unfolding savedOf
 one-loads =
     record {
       first = λ l l' m' x a out limit b z p k e g.
-          let v = one-savable l x out b z e in
-          let f = one-fit l x out b z e (omega arith) in
+          let v = savable l x (one-valid l x out b e) z in
+          let f = one-fit l x out b e (omega arith) in
           let t0 : savedOf 0 (x ∷ []) ≡ some (saved x) = rw (eq-eqb (slotOf x) 0 p) in
           let t1 : savedOf 1 (x ∷ []) ≡ none = rw p refl in
-          ap (λ (c : List ℕ). loadDisc l' m' (x .scan .area) a c limit) (sym (one-saves l x out b z e .is))
+          ap (λ (c : List ℕ). loadDisc l' m' (x .scan .area) a c limit) (sym (one-saves l x out b e .is))
           ∙ loads-file l' m' (x .scan .area) a limit (x ∷ []) (some (limited limit x)) none f (own-area 0 x (v .one) p) k
           (ap (loadBody l' (x .scan .area) limit) t0 ∙ body-loads l' limit x v g) (ap (loadBody m' a limit) t1 ∙ no-body m' a limit);
       second = λ l l' m' y a out limit b z p k e g.
-          let v = one-savable l y out b z e in
-          let f = one-fit l y out b z e (omega arith) in
+          let v = savable l y (one-valid l y out b e) z in
+          let f = one-fit l y out b e (omega arith) in
           let t0 : savedOf 0 (y ∷ []) ≡ none = rw p refl in
           let t1 : savedOf 1 (y ∷ []) ≡ some (saved y) = rw (eq-eqb (slotOf y) 1 p) in
-          ap (λ (c : List ℕ). loadDisc l' m' a (y .scan .area) c limit) (sym (one-saves l y out b z e .is))
+          ap (λ (c : List ℕ). loadDisc l' m' a (y .scan .area) c limit) (sym (one-saves l y out b e .is))
           ∙ loads-file l' m' a (y .scan .area) limit (y ∷ []) none (some (limited limit y)) f k (own-area 1 y (v .one) p)
           (ap (loadBody l' a limit) t0 ∙ no-body l' a limit) (ap (loadBody m' (y .scan .area) limit) t1 ∙ body-loads m' limit y v g);
+    }
+
+-- under a limit that drops nothing
+whole : (limit : ℕ) (l : Lengths) (x : Index) → Valid l x → Ample limit x → limited limit x ≡ asSaved x
+whole limit l x v a = large-limit limit x (v .four) (a .budget) (a .hints)
+
+whole-room : (limit : ℕ) (l l' : Lengths) (x : Index) → Valid l x → Ample limit x → question3 l' x ≡ true → question3 l' (limited limit x) ≡ true
+unfolding question3
+whole-room limit l l' x v a r = ap (question3 l') (whole limit l x v a) ∙ r
+
+pub disc-loads : DiscLoads
+disc-loads =
+    record {
+      both = λ l m l' m' x y out limit b z w p q e g h a c.
+          let v = first-valid l x m y out b e in
+          let u = second-valid l x m y out b e in
+          both-load l m l' m' x y out limit b z w p q e (whole-room limit l l' x v a g) (whole-room limit m m' y u c h)
+          ∙ (λ i. Accepted (disc (some (whole limit l x v a i)) (some (whole limit m y u c i))));
+      first = λ l l' m' x o out limit b z p k e g a.
+          let v = one-valid l x out b e in
+          one-loads .first l l' m' x o out limit b z p k e (whole-room limit l l' x v a g) ∙ (λ i. Accepted (disc (some (whole limit l x v a i)) none));
+      second = λ l l' m' y o out limit b z p k e g a.
+          let v = one-valid l y out b e in
+          one-loads .second l l' m' y o out limit b z p k e (whole-room limit l m' y v a g) ∙ (λ i. Accepted (disc none (some (whole limit l y v a i))));
+    }
+
+-- ---- the bodies of a saved disc file
+slot-of : (x : Index) → question1 x ≡ true → slotOf x ≤ 1
+unfolding question1 areaOk
+slot-of x h = leb-true (slotOf x) 1 (all→ _ h .0)
+
+own-slot : (x : Index) (xs : List Index) → savedOf (slotOf x) (x ∷ xs) ≡ some (saved x)
+unfolding savedOf
+own-slot x xs = rw (eq-eqb (slotOf x) (slotOf x) refl)
+
+other-slot : (k : ℕ) (x : Index) (xs : List Index) → k ≢ slotOf x → savedOf k (x ∷ xs) ≡ savedOf k xs
+unfolding savedOf
+other-slot k x xs h = rw (ne-eqb (slotOf x) k (λ z. h (sym z)))
+
+-- of two lists whose slots rise
+module _ (x y : Index) (h : listed 0 (contentsOf (x ∷ y ∷ [])) ≡ true) where
+  apart : slotOf x < slotOf y
+  apart =
+      let f = first→ 0 28 x (y ∷ []) h in let g = first→ (slotOf x + 1) (28 + savedLength x) y [] (f .rest) in omega (arith, g .slot)
+
+  second-slot : savedOf (slotOf y) (x ∷ y ∷ []) ≡ some (saved y)
+  second-slot = let l = apart in other-slot (slotOf y) x (y ∷ []) (λ z. omega arith) ∙ own-slot y []
+
+by-slots : (x y : Index) → listed 0 (contentsOf (bySlot x y)) ≡ true
+    → (savedOf (slotOf x) (bySlot x y) ≡ some (saved x)) × (savedOf (slotOf y) (bySlot x y) ≡ some (saved y))
+unfolding bySlot
+by-slots x y r =
+    test (ltb (slotOf x) (slotOf y)) (λ h. rw h (own-slot x (y ∷ []), second-slot x y (rw h at r)))
+    (λ h. rw h (second-slot y x (rw h at r), own-slot y (x ∷ [])))
+
+by-slots-fit : (x y : Index) → slotOf x ≤ 1 → slotOf y ≤ 1 → listed 0 (contentsOf (bySlot x y)) ≡ true → Fit (bySlot x y)
+unfolding bySlot
+by-slots-fit x y p q r =
+    test (ltb (slotOf x) (slotOf y))
+    (λ h. rw h (record { few = omega arith; some' = omega arith; slots = one {x = x} p (one {x = y} q nothing); rising = rw h at r }))
+    (λ h. rw h (record { few = omega arith; some' = omega arith; slots = one {x = y} q (one {x = x} p nothing); rising = rw h at r }))
+
+list-file : (l : Lengths) (x : Index) (xs : List Index) (b : List ℕ) → Valid l x → Fit xs → discBytes xs ≡ b → savedOf (slotOf x) xs ≡ some (saved x)
+    → ListFile l x (bodyIn b (slotOf x))
+list-file l x xs b v f e h =
+    record {
+      file = rw (← e) (body-is xs f (slotOf x) ∙ h);
+      saves = λ out n. refuses-nothing .saves l x out v (omega (arith, savedLength-is x .0));
+    }
+
+pub saved-bodies : SavedBodies
+unfolding savedOf
+saved-bodies =
+    record {
+      both = λ l m x y out b e.
+          let s = both-saves l x m y out b e in
+          let v = first-valid l x m y out b e in
+          let w = second-valid l x m y out b e in
+          let f = by-slots-fit x y (slot-of x (v .one)) (slot-of y (w .one)) (s .rising) in
+          let k = by-slots x y (s .rising) in
+          (list-file l x (bySlot x y) b v f (s .is) (k .0), list-file m y (bySlot x y) b w f (s .is) (k .1));
+      one = λ l x out b e.
+          let v = one-valid l x out b e in
+          list-file l x (x ∷ []) b v (one-fit l x out b e (slot-of x (v .one))) (one-saves l x out b e .is) (own-slot x []);
+      other = λ l x out b k e h.
+          let f = one-fit l x out b e (slot-of x (one-valid l x out b e .one)) in
+          rw (← one-saves l x out b e .is) (body-is (x ∷ []) f k ∙ other-slot k x [] h);
     }
 
 -- ---- the bodies load by themselves
@@ -273,9 +389,14 @@ body-of l a limit c o t e h =
     let u = bind→ (load l a c limit) (λ x. Accepted (some x)) o k in
     record { list = u .value; loads = u .first; is = sym (accepted-eq (some (u .value)) o (u .second)) }
 
+no-list : (l : Lengths) (a : Area) (limit : ℕ) (o : Option Index) (t : Option (List ℕ)) → t ≡ none → loadBody l a limit t ≡ Accepted o → o ≡ none
+no-list l a limit o t e h = sym (accepted-eq none o (sym (ap (loadBody l a limit) e ∙ no-body l a limit) ∙ h))
+
 pub bodies-load : BodiesLoad
 bodies-load =
     record {
       first = λ l m a0 a1 b limit d c e h. body-of l a0 limit c (d .slot0) _ h (opened l m a0 a1 b limit d e .body0);
       second = λ l m a0 a1 b limit d c e h. body-of m a1 limit c (d .slot1) _ h (opened l m a0 a1 b limit d e .body1);
+      noFirst = λ l m a0 a1 b limit d e h. no-list l a0 limit (d .slot0) _ h (opened l m a0 a1 b limit d e .body0);
+      noSecond = λ l m a0 a1 b limit d e h. no-list m a1 limit (d .slot1) _ h (opened l m a0 a1 b limit d e .body1);
     }

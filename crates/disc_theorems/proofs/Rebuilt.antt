@@ -5,7 +5,7 @@ use mathlib.Core.List.{List, [], _∷_, _++_, append-assoc}
 use mathlib.Core.Option.{Option, none, some}
 use Prim.Native.Nat.{ℕ, zero, suc, _+_, _-_, _*_, _≤_, _<_, min}
 use native.Mathlib.Omega.{arith}
-use borrow.Author.Tests.{eqb-true, eq-eqb, ne-eqb, leb-true, le-leb}
+use borrow.Author.Tests.{eqb-true, eqb-false, eq-eqb, ne-eqb, leb-true, le-leb}
 use lib.Dec.{eqb, leb}
 use lib.ListN.{length, take, drop, length-take, length-drop, take-append-drop, drop-of-length-le}
 use lib.Seq.{drop-drop}
@@ -169,6 +169,15 @@ module _ (size at : ℕ) where
       let y : _≡_ {A = Option Entry} (some e) none = rw (first-zero e (s .0)) at p in
       none-some (sym y)
   single1 (e ∷ f ∷ i ∷ es) d l h p q = let z : ⊥ = omega arith in absurd z
+
+  -- an entry is of slot 0 or 1
+  pub no-slot : (es : List Entry) → 1 ≤ length es → laid size 0 at es ≡ true → entryOf 0 es ≡ none → entryOf 1 es ≡ none → ⊥
+  unfolding entryOf
+  no-slot [] l h p q = omega arith
+  no-slot (e ∷ es) l h p q =
+      let f = front size 0 at e es h in
+      test (eqb (e .slot) 0) (λ t. let y : _≡_ {A = Option Entry} (some e) none = rw t at p in none-some (sym y))
+      (λ t. let n = eqb-false (e .slot) 0 t in let k : e .slot ≡ 1 = omega (arith, f .slot) in let y : _≡_ {A = Option Entry} (some e) none = rw (first-one e k) at q in none-some (sym y))
 
 -- entries of a right table fit four bytes
 pub listed-of : (size s at : ℕ) {es : List Entry} → Each EntryFits es → laid size s at es ≡ true → listed s es ≡ true

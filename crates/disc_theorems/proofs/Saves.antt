@@ -22,7 +22,7 @@ use Rattle.rules.specs.declared.Entry.{Entry}
 use Rattle.rules.specs.Disc.{Disc, decodeEntry, tableSize, countIn, entriesIn, laid, contentsOk, entryOf, bodyOf, slotArea, slotOf, contentsOf, discBytes, discLength, listed, saveLists, saveOne, bySlot, saveBoth, loadDisc}
 use Rattle.disc_theorems.specs.DiscFile.{disc, Whole, WholeDisc, DiscSaves}
 use Rattle.disc_theorems.proofs.Tables.{Fit, EntryFits, entry-layout, disc-length}
-use Rattle.disc_theorems.proofs.Rebuilt.{Bodies, no-more, body, rebuilt, own-file, Pair, pair, Single, single0, single1, listed-of, Kept, kept, Named, named, unnamed}
+use Rattle.disc_theorems.proofs.Rebuilt.{Bodies, no-more, body, rebuilt, own-file, Pair, pair, Single, single0, single1, no-slot, listed-of, Kept, kept, Named, named, unnamed}
 use Rattle.disc_theorems.proofs.DiscFile.{Opened, opened}
 
 -- the slot that an area has
@@ -31,7 +31,7 @@ unfolding slotArea
 area-slot k a h = eqb-true (a .key .slot) k (and-right (areaOk a) (eqb (a .key .slot) k) h)
 
 -- what a right table says
-module _ (b : List ℕ) (g : Bytes b) (ok : contentsOk b ≡ true) where
+module _ (b : List ℕ) (ok : contentsOk b ≡ true) where
   many : (1 ≤ countIn b) × (countIn b ≤ 2)
   unfolding contentsOk
   many = let a = all→ _ ok in (leb-true 1 (countIn b) (a .0), leb-true (countIn b) 2 (a .1 .0))
@@ -44,7 +44,7 @@ module _ (b : List ℕ) (g : Bytes b) (ok : contentsOk b ≡ true) where
   right = all→ _ ok .1 .1 .1 .0
 
   -- the file of lists whose bodies it has, and 54 of them
-  module _ (xs : List Index) (slots : Each (λ x. slotOf x ≤ 1) xs) (c : length (entriesIn b) ≡ length xs) (k : Bodies b (entriesIn b) xs) where
+  module _ (g : Bytes b) (xs : List Index) (slots : Each (λ x. slotOf x ≤ 1) xs) (c : length (entriesIn b) ≡ length xs) (k : Bodies b (entriesIn b) xs) where
     count : countIn b ≡ length xs
     count = sym (records-length 12 decodeEntry (countIn b) (drop 4 b)) ∙ c
 
@@ -89,30 +89,34 @@ disc-saves =
           let q = named m a1 b limit (entryOf 1 (entriesIn b)) y (o .body1) in
           let u = list-kept l a0 b limit x g (entryOf 0 (entriesIn b)) (w .0) p in
           let v = list-kept m a1 b limit y g (entryOf 1 (entriesIn b)) (w .1) q in
-          let z = pair (length b) (tableSize (countIn b)) (entriesIn b) (p .entry) (q .entry) (few b g (o .contents)) (right b g (o .contents)) (p .is) (q .is) in
+          let z = pair (length b) (tableSize (countIn b)) (entriesIn b) (p .entry) (q .entry) (few b (o .contents)) (right b (o .contents)) (p .is) (q .is) in
           let sx : slotOf x ≡ 0 = u .slot ∙ area-slot 0 a0 (o .area0) in
           let sy : slotOf y ≡ 1 = v .slot ∙ area-slot 1 a1 (o .area1) in
           let lt : slotOf x < slotOf y = omega arith in
           let k : Bodies b (entriesIn b) (x ∷ y ∷ []) =
           rw (z .is) (body {e = p .entry} {x = x} (z .slot0 ∙ sym sx) (sym (u .file)) (body {e = q .entry} {x = y} (z .slot1 ∙ sym sy) (sym (v .file)) no-more)) in
           rw (lt-ltb (slotOf x) (slotOf y) lt)
-          (saves-own b g (o .contents) (x ∷ y ∷ []) (one {x = x} (omega arith) (one {x = y} (omega arith) nothing)) (ap length (z .is)) k (both (fourOf l x) (fourOf m y)) out (each-of (u .one) (v .one)) (each-of (u .two) (v .two)) (each-of (u .three) (v .three)) (each-of (u .four) (v .four)) h);
+          (saves-own b (o .contents) g (x ∷ y ∷ []) (one {x = x} (omega arith) (one {x = y} (omega arith) nothing)) (ap length (z .is)) k (both (fourOf l x) (fourOf m y)) out (each-of (u .one) (v .one)) (each-of (u .two) (v .two)) (each-of (u .three) (v .three)) (each-of (u .four) (v .four)) h);
       first = λ l m a0 a1 b limit out x g w e h.
           let o = opened l m a0 a1 b limit (disc (some x) none) e in
           let p = named l a0 b limit (entryOf 0 (entriesIn b)) x (o .body0) in
           let q = unnamed m a1 b limit (entryOf 1 (entriesIn b)) (o .body1) in
           let u = list-kept l a0 b limit x g (entryOf 0 (entriesIn b)) (w .0) p in
-          let z = single0 (length b) (tableSize (countIn b)) (entriesIn b) (p .entry) (few b g (o .contents)) (right b g (o .contents)) (p .is) q in
+          let z = single0 (length b) (tableSize (countIn b)) (entriesIn b) (p .entry) (few b (o .contents)) (right b (o .contents)) (p .is) q in
           let sx : slotOf x ≡ 0 = u .slot ∙ area-slot 0 a0 (o .area0) in
           let k : Bodies b (entriesIn b) (x ∷ []) = rw (z .is) (body {e = p .entry} {x = x} (z .slot ∙ sym sx) (sym (u .file)) no-more) in
-          saves-own b g (o .contents) (x ∷ []) (one {x = x} (omega arith) nothing) (ap length (z .is)) k (fourOf l x) out (u .one) (u .two) (u .three) (u .four) h;
+          saves-own b (o .contents) g (x ∷ []) (one {x = x} (omega arith) nothing) (ap length (z .is)) k (fourOf l x) out (u .one) (u .two) (u .three) (u .four) h;
       second = λ l m a0 a1 b limit out y g w e h.
           let o = opened l m a0 a1 b limit (disc none (some y)) e in
           let p = unnamed l a0 b limit (entryOf 0 (entriesIn b)) (o .body0) in
           let q = named m a1 b limit (entryOf 1 (entriesIn b)) y (o .body1) in
           let v = list-kept m a1 b limit y g (entryOf 1 (entriesIn b)) (w .1) q in
-          let z = single1 (length b) (tableSize (countIn b)) (entriesIn b) (q .entry) (few b g (o .contents)) (right b g (o .contents)) p (q .is) in
+          let z = single1 (length b) (tableSize (countIn b)) (entriesIn b) (q .entry) (few b (o .contents)) (right b (o .contents)) p (q .is) in
           let sy : slotOf y ≡ 1 = v .slot ∙ area-slot 1 a1 (o .area1) in
           let k : Bodies b (entriesIn b) (y ∷ []) = rw (z .is) (body {e = q .entry} {x = y} (z .slot ∙ sym sy) (sym (v .file)) no-more) in
-          saves-own b g (o .contents) (y ∷ []) (one {x = y} (omega arith) nothing) (ap length (z .is)) k (fourOf m y) out (v .one) (v .two) (v .three) (v .four) h;
+          saves-own b (o .contents) g (y ∷ []) (one {x = y} (omega arith) nothing) (ap length (z .is)) k (fourOf m y) out (v .one) (v .two) (v .three) (v .four) h;
+      some' = λ l m a0 a1 b limit e.
+          let o = opened l m a0 a1 b limit (disc none none) e in
+          no-slot (length b) (tableSize (countIn b)) (entriesIn b) (rw (records-length 12 decodeEntry (countIn b) (drop 4 b)) (many b (o .contents) .0)) (right b (o .contents))
+          (unnamed l a0 b limit (entryOf 0 (entriesIn b)) (o .body0)) (unnamed m a1 b limit (entryOf 1 (entriesIn b)) (o .body1));
     }
