@@ -52,7 +52,7 @@ saves p xs out b e =
     let q = r .0 in
     record { one = q .0; two = q .1 .0; three = q .1 .1 .0; four = q .1 .1 .1 .0; rising = q .1 .1 .1 .1 .0; is = accepted-eq (discBytes xs) b (r .1) }
 
-savable : (l : Lengths) (x : Index) → Valid l x → sized x ≡ true → Savable x
+pub savable : (l : Lengths) (x : Index) → Valid l x → sized x ≡ true → Savable x
 savable l x v z = record { one = v .one; two = v .two; four = v .four; sizes = z }
 
 -- both lists of an accepted save
@@ -61,7 +61,7 @@ module _ (l : Lengths) (x : Index) (m : Lengths) (y : Index) (out : ℕ) (b : Li
   unfolding saveBoth
   both-saves = saves (both (fourOf l x) (fourOf m y)) (bySlot x y) out b e
 
-  first-valid : Valid l x
+  pub first-valid : Valid l x
   first-valid =
       let s = both-saves in
       record {
@@ -71,7 +71,7 @@ module _ (l : Lengths) (x : Index) (m : Lengths) (y : Index) (out : ℕ) (b : Li
         four = and-left (question4 x) (question4 y) (s .four);
       }
 
-  second-valid : Valid m y
+  pub second-valid : Valid m y
   second-valid =
       let s = both-saves in
       record {
@@ -154,7 +154,7 @@ equal-slots x y e =
     (λ h. let f = first→ 0 28 x (y ∷ []) h in let g = first→ (slotOf x + 1) (28 + savedLength x) y [] (f .rest) in let z : ⊥ = omega (arith, g .slot, e) in absurd z)
     (λ h. h)
 
-and-comm : (a b : Bool) → (a && b) ≡ (b && a)
+pub and-comm : (a b : Bool) → (a && b) ≡ (b && a)
 and-comm true true = refl
 and-comm true false = refl
 and-comm false true = refl
@@ -243,7 +243,7 @@ module _ (l : Lengths) (x : Index) (out : ℕ) (b : List ℕ) (e : saveOne l x o
   unfolding saveOne
   one-saves = saves (fourOf l x) (x ∷ []) out b e
 
-  one-valid : Valid l x
+  pub one-valid : Valid l x
   one-valid = let s = one-saves in record { one = s .one; two = s .two; three = s .three; four = s .four }
 
   one-fit : slotOf x ≤ 1 → Fit (x ∷ [])

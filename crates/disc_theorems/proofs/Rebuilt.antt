@@ -18,13 +18,19 @@ use Rattle.field.proofs.Records.{records-length}
 use Rattle.rules.specs.declared.Area.{Area}
 use Rattle.rules.specs.Tests.{Answer, Refused, Accepted, ask, firstNo, after, bind}
 use Rattle.rules.specs.Values.{Index, Lengths, max32}
-use Rattle.rules.specs.Questions.{question1, question2, question3, question4, four, fourOf, askFour}
+use Rattle.rules.specs.Questions.{areaOk, question1, question2, question3, question4, four, fourOf, askFour}
 use Rattle.rules.specs.File.{readHeader, saved, savedLength, save}
 use Rattle.rules.specs.Load.{bodyIn, fromBytes, fileNumber, headerNumber, readSections, limited, load}
 use Rattle.rules.proofs.Tests.{test, all→, →all, asked→, →asked, accepted-eq, after→, bind→}
+use Rattle.filelaws.specs.Statements.{Savable}
+use Rattle.filelaws.proofs.Facts.{sized→}
 use Rattle.filelaws.proofs.Length.{savedLength-is}
+use Rattle.filelaws.proofs.Limit.{large-limit}
+use Rattle.filelaws.proofs.Loaded.{loaded-valid}
+use Rattle.filelaws.proofs.Question4.{saved-bytes}
+use Rattle.filelaws.proofs.Saved.{load-of-save}
 use Rattle.filelaws.proofs.Parsed.{sections-forth}
-use Rattle.theorems.specs.Terms.{Ample}
+use Rattle.theorems.specs.Terms.{asSaved, Ample}
 use Rattle.theorems.proofs.Closure.{load→}
 use Rattle.theorems.proofs.RoundTrip.{loaded-saves}
 use Rattle.rules.specs.declared.Entry.{Entry}
@@ -189,12 +195,15 @@ listed-of size s at (one {x = e} {xs = es} f fs) h =
 
 -- ---- a list that was loaded whole
 pub record Kept (l : Lengths) (a : Area) (c : List ℕ) (x : Index) : Type 0 where
-  pub one : question1 x ≡ true
-  pub two : question2 x ≡ true
+  pub savable : Savable x
   pub three : question3 l x ≡ true
-  pub four : question4 x ≡ true
   pub file : saved x ≡ c
   pub slot : slotOf x ≡ a .key .slot
+
+-- a list as a file holds it may be saved
+pub as-saved : (x : Index) → Savable x → Savable (asSaved x)
+unfolding question1
+as-saved x v = loaded-valid (x .scan .area) (saved x) (asSaved x) (saved-bytes x (sized→ x (v .sizes))) (v .one) (load-of-save x v)
 
 loaded-area : (a : Area) (b : List ℕ) (x : Index) → Bytes b → fromBytes a b ≡ Accepted x → x .scan .area ≡ a
 unfolding fromBytes
@@ -206,6 +215,13 @@ loaded-area a b x g e =
     let s = sections-forth a h r x (bytes-drop (bodyIn b) 80 (bytes-take b (length b - 8) g)) (q .1) in
     sym (ap (λ (i : Index). i .scan .area) (s .is))
 
+-- the list of a file under a limit that drops nothing
+list-savable : (a : Area) (c : List ℕ) (limit : ℕ) (w x : Index) → Bytes c → areaOk a ≡ true → fromBytes a c ≡ Accepted w → Ample limit w → limited limit w ≡ x → Savable x
+list-savable a c limit w x g o e m i =
+    let v = loaded-valid a c w g o e in
+    let j : asSaved w ≡ x = sym (large-limit limit w (v .four) (m .budget) (m .hints)) ∙ i in
+    rw (← j) (as-saved w v)
+
 pub kept : (l : Lengths) (a : Area) (c : List ℕ) (limit : ℕ) (x : Index) → Bytes c → ((w : Index) → fromBytes a c ≡ Accepted w → Ample limit w)
     → load l a c limit ≡ Accepted x → Kept l a c x
 unfolding save limited
@@ -213,9 +229,13 @@ kept l a c limit x g m e =
     let w = load→ l a c limit x e in
     let s = loaded-saves l a c limit (length c) (w .whole) x g (w .read) (m (w .whole) (w .read)) e (omega arith) in
     let r = asked→ (four l x (ask (leb (savedLength x) (length c)) 40 ∷ [])) (Accepted (saved x)) c refl s in
-    let q = r .0 in
     let t : x .scan .area ≡ a = sym (ap (λ (i : Index). i .scan .area) (w .is)) ∙ loaded-area a c (w .whole) g (w .read) in
-    record { one = q .0; two = q .1 .0; three = q .1 .1 .0; four = q .1 .1 .1 .0; file = accepted-eq (saved x) c (r .1); slot = ap (λ (i : Area). i .key .slot) t }
+    record {
+      savable = list-savable a c limit (w .whole) x g (w .area) (w .read) (m (w .whole) (w .read)) (w .is);
+      three = r .0 .1 .1 .0;
+      file = accepted-eq (saved x) c (r .1);
+      slot = ap (λ (i : Area). i .key .slot) t;
+    }
 
 -- ---- the entry and the list of a body
 pub record Named (l : Lengths) (a : Area) (b : List ℕ) (limit : ℕ) (o : Option Entry) (x : Index) : Type 0 where

@@ -75,7 +75,7 @@ module _ (l : Lengths) (a : Area) (b : List ℕ) (limit : ℕ) (x : Index) (g : 
   abbrev part : List ℕ
   part = take (n .entry .len) (drop (n .entry .offset) b)
 
-  list-kept : Kept l a part x
+  pub list-kept : Kept l a part x
   unfolding bodyOf
   list-kept = kept l a part limit x (bytes-part b (n .entry .offset) (n .entry .len) g) (λ w e. m part w (ap (bodyOf b) (n .is)) e) (n .loads)
 
@@ -96,7 +96,7 @@ disc-saves =
           let k : Bodies b (entriesIn b) (x ∷ y ∷ []) =
           rw (z .is) (body {e = p .entry} {x = x} (z .slot0 ∙ sym sx) (sym (u .file)) (body {e = q .entry} {x = y} (z .slot1 ∙ sym sy) (sym (v .file)) no-more)) in
           rw (lt-ltb (slotOf x) (slotOf y) lt)
-          (saves-own b (o .contents) g (x ∷ y ∷ []) (one {x = x} (omega arith) (one {x = y} (omega arith) nothing)) (ap length (z .is)) k (both (fourOf l x) (fourOf m y)) out (each-of (u .one) (v .one)) (each-of (u .two) (v .two)) (each-of (u .three) (v .three)) (each-of (u .four) (v .four)) h);
+          (saves-own b (o .contents) g (x ∷ y ∷ []) (one {x = x} (omega arith) (one {x = y} (omega arith) nothing)) (ap length (z .is)) k (both (fourOf l x) (fourOf m y)) out (each-of (u .savable .one) (v .savable .one)) (each-of (u .savable .two) (v .savable .two)) (each-of (u .three) (v .three)) (each-of (u .savable .four) (v .savable .four)) h);
       first = λ l m a0 a1 b limit out x g w e h.
           let o = opened l m a0 a1 b limit (disc (some x) none) e in
           let p = named l a0 b limit (entryOf 0 (entriesIn b)) x (o .body0) in
@@ -105,7 +105,7 @@ disc-saves =
           let z = single0 (length b) (tableSize (countIn b)) (entriesIn b) (p .entry) (few b (o .contents)) (right b (o .contents)) (p .is) q in
           let sx : slotOf x ≡ 0 = u .slot ∙ area-slot 0 a0 (o .area0) in
           let k : Bodies b (entriesIn b) (x ∷ []) = rw (z .is) (body {e = p .entry} {x = x} (z .slot ∙ sym sx) (sym (u .file)) no-more) in
-          saves-own b (o .contents) g (x ∷ []) (one {x = x} (omega arith) nothing) (ap length (z .is)) k (fourOf l x) out (u .one) (u .two) (u .three) (u .four) h;
+          saves-own b (o .contents) g (x ∷ []) (one {x = x} (omega arith) nothing) (ap length (z .is)) k (fourOf l x) out (u .savable .one) (u .savable .two) (u .three) (u .savable .four) h;
       second = λ l m a0 a1 b limit out y g w e h.
           let o = opened l m a0 a1 b limit (disc none (some y)) e in
           let p = unnamed l a0 b limit (entryOf 0 (entriesIn b)) (o .body0) in
@@ -114,7 +114,7 @@ disc-saves =
           let z = single1 (length b) (tableSize (countIn b)) (entriesIn b) (q .entry) (few b (o .contents)) (right b (o .contents)) p (q .is) in
           let sy : slotOf y ≡ 1 = v .slot ∙ area-slot 1 a1 (o .area1) in
           let k : Bodies b (entriesIn b) (y ∷ []) = rw (z .is) (body {e = q .entry} {x = y} (z .slot ∙ sym sy) (sym (v .file)) no-more) in
-          saves-own b (o .contents) g (y ∷ []) (one {x = y} (omega arith) nothing) (ap length (z .is)) k (fourOf m y) out (v .one) (v .two) (v .three) (v .four) h;
+          saves-own b (o .contents) g (y ∷ []) (one {x = y} (omega arith) nothing) (ap length (z .is)) k (fourOf m y) out (v .savable .one) (v .savable .two) (v .three) (v .savable .four) h;
       some' = λ l m a0 a1 b limit e.
           let o = opened l m a0 a1 b limit (disc none none) e in
           no-slot (length b) (tableSize (countIn b)) (entriesIn b) (rw (records-length 12 decodeEntry (countIn b) (drop 4 b)) (many b (o .contents) .0)) (right b (o .contents))

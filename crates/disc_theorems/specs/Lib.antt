@@ -1,1 +1,2 @@
 pub mod DiscFile
+pub mod DiscInTables

@@ -46,7 +46,7 @@ pub record Wrote (r : Answer (List ℕ)) (old : List ℕ) (k : ℕ) (new : List 
   pub accepted : r ≡ Accepted file
   pub bytes : take k new ≡ file
 
-wrote : (r : Answer (List ℕ)) (old : List ℕ) (k : ℕ) (new : List ℕ) → saveOut r old ≡ made (Length k) new → Wrote r old k new
+pub wrote : (r : Answer (List ℕ)) (old : List ℕ) (k : ℕ) (new : List ℕ) → saveOut r old ≡ made (Length k) new → Wrote r old k new
 unfolding saveOut
 wrote (Refused n) old k new e =
     let a = ap (λ (s : SaveOut). s .answer) e in
