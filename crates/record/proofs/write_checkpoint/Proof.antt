@@ -4,7 +4,14 @@ use Rattle.record.proofs.write_checkpoint.Statement.{statement}
 use Rattle.record.proofs.write_checkpoint.Tie as tie
 
 returns : tie.Need-returns
-returns c = checkpoint-put _ _ (c .before .before .before .before .before .before .before .before .before .before .before .before .before .before .before .before .before .args .c) (c .before .before .before .before .before .before .before .before .before .before .before .before .before .before .write-u32 .ensures) (c .before .before .before .before .before .before .before .before .before .before .write-u322 .ensures) (c .before .before .before .before .before .before .write-u64 .ensures) (c .before .before .write-u642 .ensures)
+returns c =
+    let digest : tie.After-write-u642 = search in
+    let malformed : tie.After-write-u64 = search in
+    let back : tie.After-write-u322 = search in
+    let threshold : tie.After-write-u32 = search in
+    let start : tie.Start = search in
+    checkpoint-put _ _ (start .args .c) (threshold .write-u32 .ensures) (back .write-u322 .ensures) (malformed .write-u64 .ensures)
+    (digest .write-u642 .ensures)
 
 pub write-checkpoint-spec : {M : Type 1} → statement M
 write-checkpoint-spec =
