@@ -1,5 +1,6 @@
 // The upper end of a read from a hint on, by the larger of the local density and the area's average.
 use field::and;
+use hintplace::less;
 use rules::Area;
 use rules::Hint;
 use table::read_hint;
@@ -19,13 +20,6 @@ struct Density {
 }
 
 // ---- arithmetic
-// What is left of a after b; 0 where b is more.
-fn less(a: u32, b: u32) -> u32
-    ensures { λ r. ⌜ r ≡ a - b ⌝ }
-{
-    if b <= a { a - b } else { 0 }
-}
-
 fn product(a: u32, b: u32) -> u64
     ensures { λ r. ⌜ r ≡ a * b ⌝ }
 {

@@ -3,10 +3,10 @@ use mathlib.Core.Path.{_≡_, refl, sym, ap, _∙_}
 use mathlib.Core.Bool.{Bool, true, false, _&&_, _||_, not, cond, and-true}
 use mathlib.Core.List.{List, [], _∷_}
 use mathlib.Core.Option.{Option, none, some}
-use Prim.Native.Nat.{ℕ, zero, suc, _+_, _-_, _*_, _<_, _≤_}
+use Prim.Native.Nat.{ℕ, zero, suc, _+_, _-_, _*_, _%_, _<_, _≤_}
 use native.Mathlib.Numerals.{add-one}
 use native.Mathlib.Omega.{arith}
-use borrow.Author.Tests.{ltb-true, le-ltb, lt-ltb, not-true, not-false}
+use borrow.Author.Tests.{ltb-true, ltb-false, le-ltb, lt-ltb, le-leb, lt-leb, not-true, not-false}
 use lib.Dec.{eqb, leb, ltb}
 use lib.ListN.{length, getD}
 use Rattle.field.specs.Records.{records, recordAt}
@@ -26,13 +26,20 @@ some-is : {a b : ℕ} → _≡_ {A = Option ℕ} (some a) (some b) → a ≡ b
 some-is e = cc
 
 -- ---- near
-pub near-no : (first : ℕ) (h : Hint) → first ≤ h .number → false ≡ near first h
-unfolding near
-near-no first h l = sym (rw (le-ltb (h .number) first l))
+-- by how far the number is above the lower bound, modulo 2^32
+module _ {low d : ℕ} (first : ℕ) (h : Hint) (l : low ≡ first - hintReach) (e : (d + low) % 4294967296 ≡ h .number)
+    (small : d < 4294967296) (below : first < 4294967296) where
+  under : h .number < first → ltb d (first - low) ≡ leb (first - h .number) hintReach
+  under u =
+      test (ltb (h .number) low)
+      (λ t. let v = ltb-true (h .number) low t in le-ltb d (first - low) (omega arith) ∙ sym (lt-leb (first - h .number) hintReach (omega arith)))
+      (λ t. let v = ltb-false (h .number) low t in lt-ltb d (first - low) (omega arith) ∙ sym (le-leb (first - h .number) hintReach (omega arith)))
 
-pub near-is : {r : Bool} (first : ℕ) (h : Hint) → h .number < first → r ≡ leb (first - h .number) hintReach → r ≡ near first h
-unfolding near
-near-is first h l e = e ∙ sym (rw (lt-ltb (h .number) first l))
+  pub near-is : {q : Bool} → q ≡ ltb d (first - low) → q ≡ near first h
+  unfolding near
+  near-is g =
+      test (ltb (h .number) first) (λ t. rw t (g ∙ under (ltb-true (h .number) first t)))
+      (λ t. let v = ltb-false (h .number) first t in rw t (g ∙ le-ltb d (first - low) (omega arith)))
 
 -- ---- a candidate
 module _ {q : Bool} (checked any : Bool) (cs : List Confirmation) (first : ℕ) (h : Hint) (e : q ≡ near first h) where

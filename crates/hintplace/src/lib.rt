@@ -8,21 +8,26 @@ use table::read_hint;
 ghost use mathlib.Core.Path.{_≡_};
 ghost use mathlib.Core.Bool.{cond};
 ghost use mathlib.Core.Option.{some};
-ghost use Prim.Native.Nat.{_+_, _*_, _≤_, _<_};
+ghost use Prim.Native.Nat.{_+_, _-_, _*_, _≤_, _<_};
 ghost use lib.ListN.{length};
 ghost use Rattle.rules.specs.Hints.{near, confirmedAt, largerOf, hintPlace};
 ghost use Rattle.table.specs.Tables.{hintsIn, confirmationsIn};
 ghost use Rattle.plan.specs.Needs.{lastIn};
 ghost use Rattle.hintplace.specs.Place.{Ordered, candidate, largestIn};
 
-// At most 64 frames below first.
+// What is left of a after b; 0 where b is more.
+pub fn less(a: u32, b: u32) -> u32
+    ensures { λ r. ⌜ r ≡ a - b ⌝ }
+{
+    if b <= a { a - b } else { 0 }
+}
+
+// At most 64 frames below first: one test for both bounds.
 fn near(first: u32, h: Hint) -> bool
     ensures { λ r. ⌜ r ≡ near first h ⌝ }
 {
-    if first <= h.number {
-        return false;
-    }
-    first - h.number <= HINT_REACH
+    let low = less(first, HINT_REACH);
+    std::num::wrapping_sub_u32(h.number, low) < first - low
 }
 
 // Is there a confirmation at an LSN for first?

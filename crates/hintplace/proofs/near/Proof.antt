@@ -1,18 +1,17 @@
-use Rattle.hintplace.proofs.Place.{near-no, near-is}
 use mathlib.Core.Path.{refl}
 use native.Mathlib.Omega.{arith}
+use Rattle.hintplace.proofs.Place.{near-is}
 use borrow.Author.Needs.{needs}
 use Rattle.hintplace.proofs.near.Statement.{statement}
 use Rattle.hintplace.proofs.near.Tie as tie
 
 returns : tie.Need-returns
-returns c = near-no _ _ (omega arith)
-
-sub-result : tie.Need-sub-result
-sub-result c = search needs
-
-returns-2 : tie.Need-returns-2
-returns-2 c = near-is _ _ (omega arith) refl
+returns c =
+    let wrapped : tie.After-wrapping-sub-u32 = search in
+    let left : tie.After-less = search in
+    let start : tie.Start = search in
+    let a = start .args in
+    near-is (a .first) (a .h) (left .less .ensures) (wrapped .wrapping-sub-u32 .ensures) (omega arith) (omega arith) refl
 
 pub near-spec : {M : Type 1} → statement M
-near-spec = tie.close (tie.spec returns sub-result returns-2)
+near-spec = tie.close (tie.spec (λ c κs. search needs) (λ c κs. search needs) (λ c. search needs) returns)
