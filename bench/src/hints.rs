@@ -15,8 +15,10 @@ pub fn rows(r: &Report) {
     if r.wants("add_hints") {
         adding(r);
     }
-    if r.wants("hint of") {
-        finding(r);
+    if r.wants("hint") {
+        for (most, held) in [(4_096, 64), (65_536, 65_536)] {
+            finding(r, most, held);
+        }
     }
     if r.wants("keep_confirmation") {
         for (most, held) in [(4_096, 64), (4_096, 2_048), (65_536, 65_536)] {
@@ -76,14 +78,14 @@ fn add(r: &Report, case: &str, held: &List, given: Vec<(u32, u32)>, goal: f64) {
     });
 }
 
-fn finding(r: &Report) {
-    let held = holding(65_536, 65_536);
+fn finding(r: &Report, most: u32, n: u32) {
+    let held = holding(most, n);
     let (mut ours, mut asked, theirs) = (Tables::loaded(&held), Tables::loaded(&held), held.theirs());
     let least = Work { read: ours.read(), ..Work::default() };
-    let (first, mut answer) = (held.hints[32_768].1 + 3, [0; BLOCK]);
+    let (first, mut answer) = (held.hints[n as usize / 2].1 + 3, [0; BLOCK]);
     r.row(Row {
         call: "hint",
-        case: "hint of 65,536".to_string(),
+        case: format!("one of {}", crate::report::grouped(u64::from(n))),
         ours: repeat(move || ours.hint(first, first + 75, 1_000_000, &mut answer)),
         theirs: Some(repeat(|| calls::hint(&theirs, first, first + 75, 1_000_000))),
         four: Some(repeat(move || asked.four())),

@@ -13,7 +13,7 @@ use std::hint::black_box;
 /// The image that is read.
 const IMAGE: u64 = 9;
 
-/// A reading of an area of 7,400 checkpoints: the sector and the frame that are met at each.
+/// A reading of an area: the sector and the frame that are met at each checkpoint.
 struct Reading {
     list: List,
     sector: [u8; 2048],
@@ -21,10 +21,7 @@ struct Reading {
 }
 
 pub fn rows(r: &Report) {
-    let mut sector = [0; 2048];
-    sector.copy_from_slice(&plain::bytes(2048));
-    let list = List { checkpoints: 0, budget: 1 << 20, ..list(7_400, 64) };
-    let reading = Reading { list, sector, frame: plain::bytes(8_192) };
+    let reading = Reading::of(7_400);
     if r.wants("record") {
         for held in [1, 64, 7_399] {
             reading.recorded(r, held);
@@ -41,11 +38,20 @@ pub fn rows(r: &Report) {
         }
     }
     if r.wants("finish") {
-        reading.finished(r);
+        for n in [64, 1_024, 7_400] {
+            Reading::of(n).finished(r);
+        }
     }
 }
 
 impl Reading {
+    /// Of an area of `n` checkpoints.
+    fn of(n: u32) -> Reading {
+        let mut sector = [0; 2048];
+        sector.copy_from_slice(&plain::bytes(2048));
+        Reading { list: List { checkpoints: 0, budget: 1 << 20, ..list(n, 64) }, sector, frame: plain::bytes(8_192) }
+    }
+
     fn lsn(&self, j: u32) -> u64 {
         u64::from(START + j * self.list.interval)
     }
@@ -211,7 +217,7 @@ impl Reading {
         let (block, mut asked) = (recorder.block, recorder.copy());
         r.row(Row {
             call: "finish",
-            case: "7,400 checkpoints".to_string(),
+            case: format!("{} checkpoints", grouped(u64::from(n))),
             ours: partly(|clock| {
                 recorder.block = block;
                 clock.time(|| recorder.finish(n, 0));
