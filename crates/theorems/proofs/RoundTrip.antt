@@ -15,26 +15,26 @@ use Rattle.rules.specs.Load.{limited, load}
 use Rattle.rules.proofs.Tests.{accepted-eq}
 use Rattle.hintlaws.proofs.Closure.{unmarked-stated}
 use Rattle.hintlaws.proofs.Calls.{Answered, four→}
-use Rattle.filelaws.specs.Statements.{Savable}
+use Rattle.filelaws.specs.Statements.{stripped, Savable}
 use Rattle.filelaws.proofs.Limit.{limited-load, large-limit}
 use Rattle.filelaws.proofs.Loaded.{own-bytes, loaded-valid}
 use Rattle.filelaws.proofs.Length.{savedLength-is}
 use Rattle.filelaws.proofs.Facts.{sized→}
 use Rattle.filelaws.proofs.Question4.{saved-bytes, four-stripped}
-use Rattle.theorems.specs.Terms.{asSaved, Ample}
+use Rattle.theorems.specs.Terms.{Ample}
 use Rattle.theorems.specs.Questions.{Question4IsLoading}
 use Rattle.theorems.specs.RoundTrip.{SavedLoads, LimitedLoads, LoadedSaves}
 use Rattle.theorems.proofs.Closure.{load→, closure}
 use Rattle.theorems.proofs.Accepts.{refuses-nothing}
 
 -- what is not saved does not matter to room or to bytes
-room-as-saved : (l : Lengths) (x : Index) → question3 l (asSaved x) ≡ question3 l x
+room-stripped : (l : Lengths) (x : Index) → question3 l (stripped x) ≡ question3 l x
 unfolding question3
-room-as-saved l x = refl
+room-stripped l x = refl
 
-bytes-as-saved : (x : Index) → saved (asSaved x) ≡ saved x
+bytes-stripped : (x : Index) → saved (stripped x) ≡ saved x
 unfolding saved bodyOf headerOf hintSection confirmedSection versionOf hasHinting
-bytes-as-saved x = rw (unmarked-stated (x .fingerprint))
+bytes-stripped x = rw (unmarked-stated (x .fingerprint))
 
 -- an accepted save
 save→ : (l : Lengths) (x : Index) (out : ℕ) (b : List ℕ) → save l x out ≡ Accepted b → Answered l x (leb (savedLength x) out) (saved x) b
@@ -49,10 +49,10 @@ limited-loads l m x out limit b z e q =
     ap (λ (b : List ℕ). load m (x .scan .area) b limit) (sym (save→ l x out b e .is)) ∙ limited-load m limit x (savable l x out b z e) q
 
 -- under a limit that drops nothing
-whole-load : (m : Lengths) (limit : ℕ) (x : Index) → Savable x → question3 m x ≡ true → Ample limit x → load m (x .scan .area) (saved x) limit ≡ Accepted (asSaved x)
+whole-load : (m : Lengths) (limit : ℕ) (x : Index) → Savable x → question3 m x ≡ true → Ample limit x → load m (x .scan .area) (saved x) limit ≡ Accepted (stripped x)
 whole-load m limit x s r a =
     let e = large-limit limit x (s .four) (a .budget) (a .hints) in
-    let q : question3 m (limited limit x) ≡ true = ap (question3 m) e ∙ room-as-saved m x ∙ r in
+    let q : question3 m (limited limit x) ≡ true = ap (question3 m) e ∙ room-stripped m x ∙ r in
     limited-load m limit x s q ∙ ap (λ (y : Index). Accepted y) e
 
 pub saved-loads : SavedLoads
@@ -65,11 +65,11 @@ loaded-saves l a b limit out x y h e m d w =
     let same : t .whole ≡ x = accepted-eq (t .whole) x (sym (t .read) ∙ e) in
     let v = loaded-valid a b x h (t .area) e in
     let own : saved y ≡ b =
-    ap saved (sym (t .is) ∙ ap (limited limit) same ∙ large-limit limit x (v .four) (m .budget) (m .hints)) ∙ bytes-as-saved x ∙ own-bytes a b x h e in
+    ap saved (sym (t .is) ∙ ap (limited limit) same ∙ large-limit limit x (v .four) (m .budget) (m .hints)) ∙ bytes-stripped x ∙ own-bytes a b x h e in
     refuses-nothing .saves l y out (closure .loaded l a b limit y h d) (omega (arith, savedLength-is y .0, ap length own)) ∙ ap (λ (z : List ℕ). Accepted z) own
 
 pub question4-is-loading : Question4IsLoading
 question4-is-loading l limit x q1 q2 q3 z a = (
   (λ q4. whole-load l limit x (record { one = q1; two = q2; four = q4; sizes = z }) q3 a),
-  (λ e. sym (four-stripped x) ∙ closure .loaded l (x .scan .area) (saved x) limit (asSaved x) (saved-bytes x (sized→ x z)) e .four),
+  (λ e. sym (four-stripped x) ∙ closure .loaded l (x .scan .area) (saved x) limit (stripped x) (saved-bytes x (sized→ x z)) e .four),
 )

@@ -12,13 +12,14 @@ use Rattle.rules.specs.Questions.{question3}
 use Rattle.rules.specs.Sizes.{sized}
 use Rattle.rules.specs.File.{save}
 use Rattle.rules.specs.Load.{limited, fromBytes, load}
-use Rattle.theorems.specs.Terms.{asSaved, Ample}
+use Rattle.filelaws.specs.Statements.{stripped}
+use Rattle.theorems.specs.Terms.{Ample}
 
 -- a saved list loads as itself, image id and checked mark apart, in tables that are long enough and under a limit that drops nothing
 abbrev pub SavedLoads : Type 0
 SavedLoads =
     (l m : Lengths) (x : Index) (out limit : ℕ) (b : List ℕ) → sized x ≡ true → save l x out ≡ Accepted b → question3 m x ≡ true → Ample limit x
-    → load m (x .scan .area) b limit ≡ Accepted (asSaved x)
+    → load m (x .scan .area) b limit ≡ Accepted (stripped x)
 
 -- under any limit it loads as the limited list
 abbrev pub LimitedLoads : Type 0

@@ -11,6 +11,7 @@ use Rattle.rules.specs.Tests.{Accepted}
 use Rattle.rules.specs.Values.{Index}
 use Rattle.rules.specs.Questions.{question3}
 use Rattle.rules.specs.Load.{fromBytes}
+use Rattle.filelaws.specs.Statements.{stripped}
 use Rattle.index.specs.declared.Made.the-variants as made
 use Rattle.rules.specs.File.{over}
 use Rattle.index.specs.Index.{Tables, roomOf, indexIn, Out, out}
@@ -19,7 +20,6 @@ use Rattle.save.specs.declared.Saved.the-variants.{Length}
 use Rattle.save.specs.Save.{saveIn}
 use Rattle.save.specs.Save as saving
 use Rattle.load.specs.Load.{loadIn}
-use Rattle.theorems.specs.Terms.{asSaved}
 
 -- a call answered the numbers of a list, and its tables then hold that list
 pub record Holds (o : Out) (x : Index) : Type 0 where
@@ -32,7 +32,7 @@ abbrev pub SavedLoadsIn : Type 0
 SavedLoadsIn =
     (x : AreaIndex) (t : Tables) (old : List ℕ) (k : ℕ) (new : List ℕ) (limit : ℕ) (t' : Tables) → Typed x → TableBytes t
     → saveIn x t old ≡ saving.made (Length k) new → x .budget ≤ limit → 16 * x .most ≤ limit → question3 (roomOf t') (indexIn x t) ≡ true
-    → Holds (loadIn (x .area) (take k new) limit t') (asSaved (indexIn x t))
+    → Holds (loadIn (x .area) (take k new) limit t') (stripped (indexIn x t))
 
 -- an accepted file b saves as its own bytes: the limit is large enough for the file's list x, and the output is as long as the file
 abbrev pub LoadedSavesIn : Type 0

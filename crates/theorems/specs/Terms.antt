@@ -3,12 +3,10 @@ use Prim.Native.Nat.{ℕ, _*_, _<_, _≤_}
 use mathlib.Core.Path.{_≡_}
 use mathlib.Core.Bool.{true}
 use mathlib.Core.List.{List}
-use mathlib.Core.Option.{none}
 use lib.ListN.{length, getD}
 use Rattle.rules.specs.Values.{Scan, Index, Recorder, HintRecorder, Lengths, maxList, noHeld}
 use Rattle.rules.specs.Questions.{question1, question2, question3, question4, recorderQuestion1, recorderQuestion2, recorderQuestion3, recorderQuestion4}
 use Rattle.rules.specs.PartRule.{Stored}
-use Rattle.rules.specs.Load.{unmarked}
 use Rattle.rules.specs.Run.{Reading, Content, contentOf, Cut, Place, Call, State, begin, run}
 
 -- ---- "each call on an index or recorder": 1 to 4
@@ -49,10 +47,6 @@ pub record Holds (h : Stored) (at : ℕ) (c : Content) : Type 0 where
   pub content : contentOf (h .frames) (getD (h .parts) place noHeld) ≡ c
 
 -- ---- "Index" and "File"
--- a list as a file holds it: image id and checked mark are not saved
-abbrev pub asSaved : Index → Index
-asSaved x = record { scan = x .scan; hinting = x .hinting; fingerprint = unmarked (x .fingerprint); image = none }
-
 -- a limit that lowers neither the budget nor M, and keeps M confirmations
 pub record Ample (limit : ℕ) (x : Index) : Type 0 where
   pub budget : x .scan .budget ≤ limit
