@@ -1,3 +1,2 @@
 pub mod Sizes
 pub mod Needs
-pub mod Theorems

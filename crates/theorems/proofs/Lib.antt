@@ -14,4 +14,5 @@ pub mod Demand3InTables
 pub mod Example
 pub mod RoundTripInTables
 pub mod Adds
+pub mod Sizes
 pub mod Player

@@ -1,10 +1,11 @@
 -- The numbers and tables that a player in C rests on. Assumes nothing.
 use Prim.Native.Nat.{ℕ, zero, suc, _/_, _≤_, _*_}
 use mathlib.Core.Path.{_≡_, refl, sym, _∙_}
-use mathlib.Core.Bool.{Bool, true, false}
+use mathlib.Core.Bool.{Bool, true, false, cond}
 use mathlib.Core.List.{List, [], _∷_}
 use mathlib.Core.Option.{Option, none, some}
 use native.Mathlib.Omega.{arith}
+use borrow.Author.Tests.{le-leb}
 use lib.Dec.{eqb, leb}
 use lib.ListN.{length}
 use Rattle.rules.specs.declared.HintRecorder.{HintRecorder}
@@ -13,17 +14,17 @@ use Rattle.rules.specs.Values.{Index, Hinting, boundaries}
 use Rattle.rules.specs.Values as values
 use Rattle.rules.specs.Questions.{recorderQuestion3, scanRoom}
 use Rattle.rules.specs.Create.{emptyHintRecorder, hintRecorder}
-use Rattle.rules.specs.File.{saved, save}
+use Rattle.rules.specs.File.{saved, savedLength, save}
 use Rattle.rules.proofs.Tests.{test, never}
 use Rattle.filelaws.proofs.Length.{savedLength-is}
-use Rattle.index.specs.Index.{indexIn, orFour, kinded}
+use Rattle.index.specs.Index.{indexIn, orFour, kindedNumber, kinded, refusal}
 use Rattle.hinting.specs.declared.Created.the-variants as created
 use Rattle.hinting.specs.Recorder.{createdOf, hintRecorderIn}
 use Rattle.save.specs.declared.Saved.the-variants as told
 use Rattle.save.specs.Save.{saveOut, saveIn}
-use Rattle.sizes.specs.Sizes.{sizesOf}
-use Rattle.sizes.proofs.Room.{fits24, fits8}
-use Rattle.theorems.specs.Player.{Told, SaveNumber, hasFour, RecorderRoomIsSizes, HintListIsSize, MadeHasSpacing}
+use Rattle.sizes.specs.Sizes.{sizesOf, fileLength}
+use Rattle.theorems.specs.Player.{Told, SaveNumber, oneNumber, LengthIsSaved, hasFour, RecorderRoomIsSizes, HintListIsSize, MadeHasSpacing}
+use Rattle.theorems.proofs.Sizes.{fits24, fits8}
 
 -- ---- saving
 refused-told : (m n : ℕ) → 1 ≤ m → m ≤ 40 → Told (told.Refused m) n
@@ -55,6 +56,27 @@ told-by false true true true true true x out n = refused-told 4 n (omega arith) 
 pub save-number : SaveNumber
 unfolding saveIn save
 save-number x t out n = told-by _ _ _ _ _ _ _ out n
+
+-- the same questions before both
+length-by : (k a b c d : Bool) (x : Index) (out : List ℕ)
+    → let n = kindedNumber k (firstNo (ask a 1 ∷ ask b 2 ∷ ask c 3 ∷ ask d 4 ∷ [])) in let m = cond (eqb n 0) (savedLength x) n in
+    m ≤ length out
+    → oneNumber (saveOut (kinded k (after (firstNo (ask a 1 ∷ ask b 2 ∷ ask c 3 ∷ ask d 4 ∷ ask (leb (savedLength x) (length out)) 40 ∷ [])) (Accepted (saved x)))) out .answer) ≡ m
+unfolding saveOut kinded kindedNumber after firstNo orFour numberOf oneNumber
+length-by true false b c d x out l = refl
+length-by true true false c d x out l = refl
+length-by true true true false d x out l = refl
+length-by true true true true false x out l = refl
+length-by true true true true true x out l = rw (le-leb (savedLength x) (length out) l) (sym (savedLength-is x .0))
+length-by false false b c d x out l = refl
+length-by false true false c d x out l = refl
+length-by false true true false d x out l = refl
+length-by false true true true false x out l = refl
+length-by false true true true true x out l = test (leb (savedLength x) (length out)) (λ e. rw e refl) (λ e. rw e refl)
+
+pub length-is-saved : LengthIsSaved
+unfolding saveIn save fileLength refusal
+length-is-saved x t out l = length-by _ _ _ _ _ (indexIn x t) out l
 
 -- ---- recorders
 swap : (a b c d : Bool) → all (a ∷ b ∷ d ∷ c ∷ []) ≡ all (a ∷ b ∷ c ∷ d ∷ [])

@@ -1,17 +1,19 @@
--- What a player in C rests on: the one number that saving answers, and the tables of recorders.
+-- What a player in C rests on: the one number that saving answers, and the tables of lists and recorders.
 use Prim.Native.Nat.{ℕ, _/_, _≤_}
 use mathlib.Core.Path.{_≡_}
-use mathlib.Core.Bool.{Bool}
+use mathlib.Core.Bool.{Bool, true}
 use mathlib.Core.List.{List, [], _∷_}
 use lib.Dec.{leb}
 use lib.ListN.{length}
+use Rattle.rules.specs.declared.Area.{Area}
 use Rattle.rules.specs.declared.AreaIndex.{AreaIndex}
 use Rattle.rules.specs.declared.HintRecorder.{HintRecorder}
-use Rattle.rules.specs.Tests.{all}
-use Rattle.rules.specs.Values.{maxList}
+use Rattle.rules.specs.Tests.{all, ask, firstNo, Answer, Refused, Accepted, after, bind}
+use Rattle.rules.specs.Values.{Index, maxList}
 use Rattle.rules.specs.Values as values
-use Rattle.rules.specs.Questions.{recorderQuestion3}
-use Rattle.index.specs.Index.{Tables}
+use Rattle.rules.specs.Questions.{areaOk, question3, recorderQuestion3}
+use Rattle.rules.specs.Load.{fromBytes, limited, load}
+use Rattle.index.specs.Index.{Tables, roomOf}
 use Rattle.recorder.specs.Recorder.{RecorderTables, recorderRoom}
 use Rattle.hinting.specs.declared.Created.the-variants as created
 use Rattle.hinting.specs.Recorder.{hintRecorderIn}
@@ -19,7 +21,7 @@ use Rattle.save.specs.declared.Saved.{Saved}
 use Rattle.save.specs.declared.Saved.the-variants as saved
 use Rattle.save.specs.Save.{saveIn}
 use Rattle.sizes.specs.declared.TableSizes.{TableSizes}
-use Rattle.sizes.specs.Sizes.{sizesOf}
+use Rattle.sizes.specs.Sizes.{sizesOf, sizesFor, hasSizes, fileSizes, fileLength}
 
 -- ---- saving
 -- a refusal number is 1 to 40, a length at least 88: one number tells both
@@ -28,6 +30,34 @@ Told s n = (s ≡ saved.Refused n → (1 ≤ n) × (n ≤ 40)) × (s ≡ saved.L
 
 abbrev pub SaveNumber : Type 0
 SaveNumber = (x : AreaIndex) (t : Tables) (out : List ℕ) (n : ℕ) → Told (saveIn x t out .answer) n
+
+unfoldable pub oneNumber : Saved → ℕ
+oneNumber (saved.Refused n) = n
+oneNumber (saved.Length n) = n
+
+-- the length that is told before saving is the number that saving answers, where the output is that long
+abbrev pub LengthIsSaved : Type 0
+LengthIsSaved = (x : AreaIndex) (t : Tables) (out : List ℕ) → fileLength x t ≤ length out → oneNumber (saveIn x t out .answer) ≡ fileLength x t
+
+-- ---- the tables of a list
+-- question 3 passes exactly where every table has at least the sizes
+abbrev pub RoomIsSizes : Type 0
+RoomIsSizes = (x : Index) (t : Tables) → question3 (roomOf t) x ≡ hasSizes (sizesFor x) t
+
+-- loading without question 3
+unfoldable pub loadWithout3 : Area → List ℕ → ℕ → Answer Index
+loadWithout3 a b limit = after (firstNo (ask (areaOk a) 1 ∷ [])) (bind (fromBytes a b) (λ x. Accepted (limited limit x)))
+
+-- in tables of the sizes of a file, loading it never answers 3
+abbrev pub LoadFits : Type 0
+LoadFits =
+    (a : Area) (b : List ℕ) (limit : ℕ) (t : Tables) (s : TableSizes) → fileSizes a b limit ≡ Accepted s → hasSizes s t ≡ true
+    → load (roomOf t) a b limit ≡ loadWithout3 a b limit
+
+-- where no sizes are told, loading refuses with the same number, whatever the tables
+abbrev pub LoadRefused : Type 0
+LoadRefused =
+    (a : Area) (b : List ℕ) (limit n : ℕ) (t : Tables) → fileSizes a b limit ≡ Refused n → load (roomOf t) a b limit ≡ Refused n
 
 -- ---- recorders
 -- has each of the four tables at least the bytes that a list's has?

@@ -1,6 +1,6 @@
 use native.Mathlib.Omega.{arith}
 use Rattle.sizes.specs.Sizes.{sizesOf}
-use Rattle.sizes.proofs.Room.{boundaries-small}
+use Rattle.sizes.proofs.Boundaries.{boundaries-small}
 use borrow.Author.Needs.{needs}
 use Rattle.sizes.proofs.table_sizes.Statement.{statement}
 use Rattle.sizes.proofs.table_sizes.Tie as tie

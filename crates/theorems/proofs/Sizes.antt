@@ -1,22 +1,21 @@
 -- Question 3 by bytes, and what a file's sizes say of loading it. Assumes nothing.
-use Prim.Native.Nat.{ℕ, zero, suc, _+_, _-_, _*_, _/_, _^_, _<_, _≤_, min}
+use Prim.Native.Nat.{ℕ, _+_, _*_, _/_, _≤_}
 use mathlib.Core.Path.{_≡_, refl, sym, _∙_}
-use mathlib.Core.Bool.{Bool, true, false, _&&_, and-true, and-assoc, and-comm}
+use mathlib.Core.Bool.{Bool, true, false, and-true}
 use mathlib.Core.List.{List, [], _∷_}
 use native.Mathlib.Omega.{arith}
-use borrow.Author.Tests.{le-leb, lt-leb, leb-true}
-use lib.Dec.{leb, eqb}
+use borrow.Author.Tests.{le-leb, leb-true}
+use lib.Dec.{leb}
 use lib.ListN.{length}
-use Rattle.sections.proofs.Questions.{few, ordered, none-by-zero}
 use Rattle.rules.specs.declared.Area.{Area}
-use Rattle.rules.specs.Tests.{all, firstNo, after, bind, Answer, Refused, Accepted}
+use Rattle.rules.specs.Tests.{all, ask, firstNo, Answer, Refused, Accepted, after, bind}
 use Rattle.rules.specs.Values.{Index, boundaries}
 use Rattle.rules.specs.Questions.{areaOk, question3, scanRoom, hintingRoom}
 use Rattle.rules.specs.Load.{fromBytes, limited, load}
 use Rattle.index.specs.Index.{Tables, roomOf}
 use Rattle.sizes.specs.declared.TableSizes.{TableSizes}
 use Rattle.sizes.specs.Sizes.{sizesOf, sizesFor, hasSizes, fileSizes}
-use Rattle.sizes.specs.Theorems.{RoomIsSizes, loadWithout3, LoadFits, LoadRefused}
+use Rattle.theorems.specs.Player.{RoomIsSizes, loadWithout3, LoadFits, LoadRefused}
 
 -- two tests that hold in the same cases are the same
 same-test : (a b c d : ℕ) → (a ≤ b → c ≤ d) → (c ≤ d → a ≤ b) → leb a b ≡ leb c d
@@ -67,9 +66,38 @@ room-is-sizes x t =
     )
     (reorder _ _ _ _ _ _ _)
 
--- ---- numbers that fit
-pub boundaries-small : (a : Area) (k : ℕ) → areaOk a ≡ true → boundaries a k ≤ 4294967295
-unfolding boundaries
-boundaries-small a zero h = rw (none-by-zero a) (omega arith)
-boundaries-small a (suc k) h =
-    let o = ordered a h in let f = few (a .end - a .start) (suc k) (omega arith) in omega arith
+-- ---- loading in tables of these sizes
+module _ (a : Area) (b : List ℕ) (limit : ℕ) (t : Tables) where
+  fits-file : (s : TableSizes) (r : Answer Index) → bind r (λ x. Accepted (sizesFor (limited limit x))) ≡ Accepted s → hasSizes s t ≡ true
+      → bind r (λ x. after (firstNo (ask (question3 (roomOf t) (limited limit x)) 3 ∷ [])) (Accepted (limited limit x)))
+      ≡ bind r (λ x. Accepted (limited limit x))
+  unfolding bind firstNo after
+  fits-file s (Refused n) e h = refl
+  fits-file s (Accepted x) e h =
+      let z : sizesFor (limited limit x) ≡ s = cc in rw (room-is-sizes (limited limit x) t, z, h)
+
+  refused-file : (n : ℕ) (r : Answer Index) → bind r (λ x. Accepted (sizesFor (limited limit x))) ≡ Refused n
+      → bind r (λ x. after (firstNo (ask (question3 (roomOf t) (limited limit x)) 3 ∷ [])) (Accepted (limited limit x))) ≡ Refused n
+  unfolding bind
+  refused-file n (Refused m) e = cc
+  refused-file n (Accepted x) e = let z : _≡_ {A = ℕ} 0 1 = cc in let f : ⊥ = omega arith in absurd f
+
+  refused-same : {m : ℕ} → _≡_ {A = Answer TableSizes} (Refused 1) (Refused m) → m ≡ 1
+  refused-same e = cc
+
+  fits-area : (s : TableSizes) (p : Bool) → areaOk a ≡ p → fileSizes a b limit ≡ Accepted s → hasSizes s t ≡ true
+      → load (roomOf t) a b limit ≡ loadWithout3 a b limit
+  unfolding fileSizes load loadWithout3 firstNo after
+  fits-area s true o e h = rw o (fits-file s (fromBytes a b) (rw o at e) h)
+  fits-area s false o e h = rw o
+
+  refused-area : (n : ℕ) (p : Bool) → areaOk a ≡ p → fileSizes a b limit ≡ Refused n → load (roomOf t) a b limit ≡ Refused n
+  unfolding fileSizes load firstNo after
+  refused-area n true o e = rw o (refused-file n (fromBytes a b) (rw o at e))
+  refused-area n false o e = let z : n ≡ 1 = refused-same (rw o at e) in rw (o, z)
+
+pub load-fits : LoadFits
+load-fits a b limit t s e h = fits-area a b limit t s (areaOk a) refl e h
+
+pub load-refused : LoadRefused
+load-refused a b limit n t e = refused-area a b limit t n (areaOk a) refl e
