@@ -2,34 +2,41 @@
 use mathlib.Core.Path.{_≡_, refl, sym, ap, subst, _∙_}
 use mathlib.Core.Bool.{true, cond}
 use mathlib.Core.Logic.{inl, inr}
-use mathlib.Core.List.{List, [], _∷_}
+use mathlib.Core.List.{List, [], _∷_, _++_}
 use mathlib.Core.Option.{Option, none, some}
 use Prim.Native.Nat.{ℕ, zero, suc, _/_}
 use native.Mathlib.Omega.{arith}
 use lib.Dec.{eqb}
 use lib.IntN.{pos, negsuc}
-use lib.ListN.{length, replicate, length-replicate}
+use lib.ListN.{length, getD, drop, replicate, length-replicate}
+use Rattle.field.specs.Number.{encode}
+use Rattle.field.specs.Records.{bytesOf, Bytes}
+use Rattle.field.proofs.Bytes.{bytes-append, bytes-drop}
+use Rattle.field.proofs.Format.{bytesOf-bytes}
 use Rattle.rules.specs.declared.Area.{Area}
 use Rattle.rules.specs.declared.Assembly.the-variants.{Stored}
 use Rattle.rules.specs.declared.Fingerprint.the-variants.{Unknown}
 use Rattle.rules.specs.declared.FrameKind.the-variants.{Dst, Dsd}
 use Rattle.rules.specs.Tests.{all, each, walk, lastOr, isSome, agree}
-use Rattle.rules.specs.Values.{Scan, Index, Lengths, boundaries, used, frontierOf, counted, stated, sameKind}
+use Rattle.rules.specs.Values.{Scan, Index, Lengths, boundaries, used, frontierOf, counted, stated, sameKind, noHeld}
 use Rattle.rules.specs.Sections.{countsOk, checkpointOk, checkpointsOk, frameOk, framesOk, follows, belongs, partOk, reached, partsOk, endOk, endingOk, risingOk, rising, malformedOk, hintsOk, confirmationsOk}
 use Rattle.rules.specs.Questions.{areaOk, numbersOk, heldOk, scanOk, hintingOk, question1, question2, question3, question4, scanRoom, hintingRoom}
 use Rattle.rules.specs.Plan.{assemblyOf}
 use Rattle.rules.specs.Merge.{question42}
 use Rattle.rules.specs.Record.{below}
 use Rattle.rules.specs.Sizes.{keySized, frameSized, scanSized, knownSized, hintingSized, sized}
+use Rattle.rules.specs.File.{encodeCheckpoint, encodeFrameHeader, encodeHeld, encodeLsn, encodeHint, encodeConfirmation, over}
 use Rattle.rules.specs.Run.{Reading, Cut, Place, countedFrom, Call, mergeRefusal}
 use Rattle.rules.proofs.Tests.{test}
 use Rattle.filelaws.specs.Statements.{Savable}
-use Rattle.filelaws.proofs.Facts.{facts}
-use Rattle.index.specs.Index.{Tables, tables, roomOf, numbersFrom, tablesFrom}
+use Rattle.filelaws.proofs.Facts.{SizeFacts, sized→, facts}
+use Rattle.filelaws.proofs.Layouts.{checkpoint-layout, lsn-layout, hint-layout, confirmation-layout, held-bytes}
+use Rattle.filelaws.proofs.Readers.{each-bytes}
+use Rattle.index.specs.Index.{Tables, tables, roomOf, numbersFrom, tablesFrom, storeOf}
 use Rattle.index.proofs.Standing.{stands, kinds-from, within, room-from}
 use Rattle.theorems.specs.Terms.{AllCut, afterCalls}
 use Rattle.theorems.specs.TableRun.{TablePlace, TableCall, isAccepted, merging, placeIn, AllCutIn, afterTableCalls}
-use Rattle.theorems.specs.Demand3InTables.{HoldsPart}
+use Rattle.theorems.specs.Demand3InTables.{HoldsPart, LentIn}
 use Rattle.theorems.proofs.Demand3.{none-refused}
 use Rattle.theorems.proofs.TableRun.{cut-savable}
 use Rattle.theorems.proofs.Demand3InTables.{none-refused-in-tables}
@@ -195,6 +202,66 @@ merges-in-tables =
     (λ i. subst (λ (q : Place). question3 (q .room) (q .list) ≡ true) (sym (table-place i)) (rooms i))
     (λ i j. subst (λ (q : Place). question42 (q .list) (placeIn (tablePlaces j) .list) ≡ true) (sym (table-place i))
     (subst (λ (q : Place). question42 (places i .list) (q .list) ≡ true) (sym (table-place j)) (ids i j)))
+
+-- they are numbers of their types, and bytes
+bytes-zeros : (n : ℕ) → Bytes (replicate n 0)
+bytes-zeros zero i = omega arith
+bytes-zeros (suc n) zero = omega arith
+bytes-zeros (suc n) (suc i) = bytes-zeros n i
+
+bytes-over : (new : List ℕ) (n : ℕ) → Bytes new → Bytes (over new (replicate n 0))
+bytes-over new n h = bytes-append new (drop (length new) (replicate n 0)) h (bytes-drop (replicate n 0) (length new) (bytes-zeros n))
+
+-- frames, their bytes and parts
+record HeldBytes (x : Scan) : Type 0 where
+  frames : Bytes (bytesOf encodeFrameHeader (x .frames))
+  store : Bytes (storeOf (x .frames))
+  parts : Bytes (bytesOf encodeHeld (x .parts))
+
+lent-zeros : (x : Index) → SizeFacts x → HeldBytes (x .scan) → (a b c d e f g : ℕ) → LentIn (numbersFrom x) (tablesFrom x (zerosOf a b c d e f g))
+unfolding zerosOf
+lent-zeros x s h a b c d e f g =
+    record {
+      typed =
+          record {
+            start = s .key .start;
+            end = s .key .end;
+            channels = s .key .channels;
+            sectors = s .key .sectors;
+            spacing = s .spacing;
+            fingerprint = s .known;
+          };
+      bytes =
+          record {
+            checkpoints = bytes-over (bytesOf encodeCheckpoint (x .scan .checkpoints)) a (bytesOf-bytes checkpoint-layout (x .scan .checkpoints));
+            frames = bytes-over (bytesOf encodeFrameHeader (x .scan .frames)) b (h .frames);
+            store = bytes-over (storeOf (x .scan .frames)) c (h .store);
+            parts = bytes-over (bytesOf encodeHeld (x .scan .parts)) d (h .parts);
+            malformed = bytes-over (bytesOf encodeLsn (x .scan .malformed)) e (bytesOf-bytes lsn-layout (x .scan .malformed));
+            hints = bytes-over (bytesOf encodeHint (x .hinting .hints)) f (bytesOf-bytes hint-layout (x .hinting .hints));
+            confirmed = bytes-over (bytesOf encodeConfirmation (x .hinting .confirmed)) g (bytesOf-bytes confirmation-layout (x .hinting .confirmed));
+          };
+    }
+
+short-bytes : HeldBytes (short .scan)
+unfolding bytesOf storeOf
+short-bytes = record { frames = λ i. omega arith; store = λ i. omega arith; parts = λ i. omega arith }
+
+whole-bytes : HeldBytes (whole .scan)
+unfolding bytesOf storeOf each encode encodeFrameHeader
+whole-bytes =
+    record {
+      frames = each-bytes (bytesOf encodeFrameHeader (whole .scan .frames)) refl;
+      store = each-bytes (storeOf (whole .scan .frames)) refl;
+      parts =
+          bytes-append (encodeHeld (getD (whole .scan .parts) 0 noHeld)) (encodeHeld (getD (whole .scan .parts) 1 noHeld) ++ []) (held-bytes (getD (whole .scan .parts) 0 noHeld))
+          (bytes-append (encodeHeld (getD (whole .scan .parts) 1 noHeld)) [] (held-bytes (getD (whole .scan .parts) 1 noHeld)) (λ i. omega arith));
+    }
+
+pub lent : (i : ℕ) → LentIn (tablePlaces i .numbers) (tablePlaces i .tables)
+lent i =
+    lent-zeros (places i .list) (sized→ (places i .list) (all-cut i .fits))
+    (test (eqb i 0) (λ e. rw e short-bytes) (λ e. rw e whole-bytes)) 72 24 5 72 16384 540672 32784
 
 -- place 1 holds a part for checkpoint 1
 pub holds-part : HoldsPart (tablePlaces 1) 1 (record { kind = Dst; number = 7; remaining = pos 5; offset = 0; len = 3 })
