@@ -74,7 +74,8 @@ pub fn new(
     Made::Index(x)
 }
 
-fn agrees(f: Fingerprint, v: u64) -> bool
+// Is the fingerprint f v, where it is known?
+pub fn agrees(f: Fingerprint, v: u64) -> bool
     ensures { λ r. ⌜ r ≡ agree eqb (stated f) (some v) ⌝ }
 {
     match f {

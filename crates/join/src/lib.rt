@@ -1,10 +1,12 @@
 // What a merge asks of two lists in their tables: 1 to 4 of both, and 41 to 43; and whether the other goes further.
+use create::agrees;
 use field::and;
 use field::min_u64;
 use field::or;
 use field::same;
 use header_questions::same_key;
 use index::is_complete;
+use index::lowest;
 use index::refuses;
 use rules::Area;
 use rules::AreaIndex;
@@ -15,7 +17,6 @@ use rules::ImageId;
 ghost use mathlib.Core.Path.{_≡_};
 ghost use mathlib.Core.Bool.{cond};
 ghost use mathlib.Core.List.{List};
-ghost use mathlib.Core.Option.{some};
 ghost use Prim.Native.Nat.{ℕ, _*_, _≤_};
 ghost use lib.Dec.{eqb};
 ghost use lib.ListN.{length};
@@ -24,7 +25,6 @@ ghost use Rattle.rules.specs.Values.{stated, sameArea, sameCheckpoint, sameEnd}
 ghost use Rattle.table.specs.Tables.{checkpointsIn};
 ghost use Rattle.index.specs.Index.{tables};
 ghost use Rattle.sections.specs.Numbers.{endIn, idIn};
-ghost use Rattle.index.specs.Needs.{lowest};
 ghost use Rattle.join.specs.Join.{mergeRefusal};
 ghost use Rattle.join.specs.Needs.{areaAgrees, imageAgrees, readingAgrees, joinNumber, furtherIn};
 
@@ -60,24 +60,13 @@ pub fn same_image(a: ImageId, b: ImageId) -> bool
     }
 }
 
-// Is the fingerprint f v, where it is known?
-fn states(f: Fingerprint, v: u64) -> bool
-    ensures { λ r. ⌜ r ≡ agree eqb (some v) (stated f) ⌝ }
-{
-    match f {
-        Fingerprint::Unknown => true,
-        Fingerprint::Held(w) => v == w,
-        Fingerprint::Checked(w) => v == w,
-    }
-}
-
 fn same_fingerprint(a: Fingerprint, b: Fingerprint) -> bool
     ensures { λ r. ⌜ r ≡ agree eqb (stated a) (stated b) ⌝ }
 {
-    match a {
+    match b {
         Fingerprint::Unknown => true,
-        Fingerprint::Held(v) => states(b, v),
-        Fingerprint::Checked(v) => states(b, v),
+        Fingerprint::Held(v) => agrees(a, v),
+        Fingerprint::Checked(v) => agrees(a, v),
     }
 }
 
@@ -152,19 +141,6 @@ pub fn join_number(x: AreaIndex, y: AreaIndex, checkpoints: &[u8], other: &[u8])
 }
 
 // ---- all questions of a merge
-// The lower of two numbers, where 0 is none.
-fn lower(m: u32, n: u32) -> u32
-    ensures { λ r. ⌜ r ≡ lowest m n ⌝ }
-{
-    if m == 0 {
-        return n;
-    }
-    if n == 0 {
-        return m;
-    }
-    min_u64(m as u64, n as u64) as u32
-}
-
 // The number of the first question that refuses a merge of y into x, 0 for none.
 pub fn merge_refuses(
     x: AreaIndex,
@@ -206,7 +182,7 @@ pub fn merge_refuses(
         other_hints,
         other_confirmed,
     );
-    let number = lower(own, other);
+    let number = lowest(own, other);
     if number != 0 {
         return number;
     }

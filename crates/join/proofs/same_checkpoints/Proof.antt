@@ -8,7 +8,13 @@ use Rattle.join.proofs.same_checkpoints.Statement.{statement}
 use Rattle.join.proofs.same_checkpoints.Tie as tie
 
 returns : tie.Need-returns
-returns c = common-by checkpoint-layout sameCheckpoint sameCheckpoint-eq sameCheckpoint-self _ _ _ _ _ (c .same .ensures) refl (λ i. (c .before .before .before .before .before .shared-slice-known .given) i .fits) (λ i. (c .before .before .before .before .shared-slice-known2 .given) i .fits) (c .before .before .before .before .before .before .pre .0) (c .before .before .before .before .before .before .pre .1) (c .before .before .before .min-u64 .ensures)
+returns c =
+    let common : tie.After-min-u64 = search in
+    let other : tie.After-shared-slice-known2 = search in
+    let own : tie.After-shared-slice-known = search in
+    let start : tie.Start = search in
+    common-by checkpoint-layout sameCheckpoint sameCheckpoint-eq sameCheckpoint-self _ _ _ _ _ (c .same .ensures) refl
+    (λ i. own .shared-slice-known .given i .fits) (λ i. other .shared-slice-known2 .given i .fits) (start .pre .0) (start .pre .1) (common .min-u64 .ensures)
 
 pub same-checkpoints-spec : {M : Type 1} → statement M
 same-checkpoints-spec =
