@@ -36,7 +36,8 @@ use Rattle.index.proofs.Four.{Later, kinded-index}
 use Rattle.hinting.specs.declared.Seen.the-variants as seen
 use Rattle.hinting.specs.declared.Taken.the-variants as taken
 use Rattle.hinting.specs.declared.Created.the-variants as created
-use Rattle.hinting.specs.Recorder.{lastIn, tailIn, lastFrom, tailFrom, recorderIn, numbersFrom, Roomy, Steps, refusalOf, flushedRecord, tailless, emptied, hintSeen, out, outOf, seeIn, flushIn, takenOf, takeIn, createdOf, hintRecorderIn}
+use Rattle.hinting.specs.Recorder.{lastIn, tailIn, lastFrom, tailFrom, recorderIn, numbersFrom, out, outOf, seeIn, flushIn, takenOf, takeIn, createdOf, hintRecorderIn}
+use Rattle.hinting.specs.Needs.{Roomy, Steps, refusalOf, flushedRecord, tailless, emptied, hintSeen}
 
 last-back : (l : LastListed) → lastFrom (lastIn l) ≡ l
 unfolding lastFrom lastIn

@@ -17,7 +17,8 @@ ghost use lib.Dec.{ltb};
 ghost use Rattle.rules.specs.Values.{maxList};
 ghost use Rattle.rules.specs.Hints.{spaced, seenRecord};
 ghost use Rattle.index.specs.Index.{tables};
-ghost use Rattle.hinting.specs.Recorder.{lastIn, recorderIn, refusalOf, Roomy, Steps, flushedRecord, tailless, emptied, hintSeen, out, seeIn, flushIn, takeIn, hintRecorderIn};
+ghost use Rattle.hinting.specs.Recorder.{lastIn, recorderIn, out, seeIn, flushIn, takeIn, hintRecorderIn};
+ghost use Rattle.hinting.specs.Needs.{refusalOf, Roomy, Steps, flushedRecord, tailless, emptied, hintSeen};
 
 // A hint recorder after a call, or the number that refuses.
 pub enum Seen {
