@@ -31,7 +31,8 @@ use Rattle.index.proofs.Questions.{passes}
 use Rattle.index.proofs.Lent.{put-back}
 use Rattle.index.proofs.Back.{numbers-back}
 use Rattle.hintmerge.specs.Merged.{hintsOf, joinedIn, touched, clearedTo}
-use Rattle.adding.specs.Added.{withCount, addHintsIn}
+use Rattle.adding.specs.Added.{addHintsIn}
+use Rattle.adding.specs.Needs.{withCount}
 
 -- ---- 13
 module _ {i n : ℕ} {h : Hint} (list : List ℕ) (l : i < n) (e : h ≡ recordAt 8 decodeHint list i) where

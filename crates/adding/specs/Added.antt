@@ -10,23 +10,3 @@ use Rattle.hintmerge.specs.Merged.{hintsOf, touched}
 unfoldable pub addHintsIn : AreaIndex → Tables → List ℕ → Out
 addHintsIn x t list =
     outOf (λ y. tablesCleared (touched (x .most) (x .hints) list) y t) t (kinded (kindsIn x t) (addHints (roomOf t) (indexIn x t) (hintsOf list)))
-
--- x with another number of hints
-abbrev pub withCount : AreaIndex → ℕ → AreaIndex
-withCount x n =
-    record {
-      area = x .area;
-      interval = x .interval;
-      budget = x .budget;
-      spacing = x .spacing;
-      most = x .most;
-      checkpoints = x .checkpoints;
-      frames = x .frames;
-      parts = x .parts;
-      malformed = x .malformed;
-      hints = n;
-      confirmed = x .confirmed;
-      ending = x .ending;
-      fingerprint = x .fingerprint;
-      image = x .image;
-    }

@@ -15,7 +15,8 @@ ghost use Rattle.rules.specs.Hints.{question13};
 ghost use Rattle.table.specs.Tables.{hintsIn};
 ghost use Rattle.index.specs.Index.{tables, out};
 ghost use Rattle.hintmerge.specs.Merged.{hintsOf};
-ghost use Rattle.adding.specs.Added.{withCount, addHintsIn};
+ghost use Rattle.adding.specs.Added.{addHintsIn};
+ghost use Rattle.adding.specs.Needs.{withCount};
 
 // Is the number of each of the first n hints below LIM?
 fn numbers_ok(list: &[u8], n: usize) -> bool
