@@ -27,8 +27,9 @@ use Rattle.parts.proofs.Frames.{count}
 use Rattle.recorder.specs.Recorder.{RecorderTables, recorderRoom, recorderIn, recorderKinds, recorderFrom}
 use Rattle.recorder.specs.Needs.{modeOf}
 use Rattle.recorder.proofs.Calls.{passes-long}
-use Rattle.absorb_questions.specs.Needs.{givenIn}
-use Rattle.absorb_refuses.specs.Absorb.{absorbRefusal, Absorbs}
+use Rattle.absorb_questions.specs.Given.{givenIn}
+use Rattle.absorb_refuses.specs.Absorb.{absorbRefusal}
+use Rattle.absorb_refuses.specs.Needs.{Absorbs}
 use Rattle.absorb_refuses.proofs.Refusal.{passed}
 use Rattle.absorb_commit.specs.Commit.{Written, written, Kept, absorbedIn}
 use Rattle.absorb_commit.proofs.Facts.{kept}

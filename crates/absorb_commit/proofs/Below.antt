@@ -21,7 +21,7 @@ use Rattle.rules.proofs.Tests.{test}
 use Rattle.rules.proofs.Walk.{walk-tail}
 use Rattle.table.specs.Tables.{lsnsIn}
 use Rattle.take.specs.Needs.{Takes, Taken}
-use Rattle.absorb_questions.specs.Needs.{givenIn}
+use Rattle.absorb_questions.specs.Given.{givenIn}
 use Rattle.absorb_questions.proofs.Lists.{below-past, below-few}
 use Rattle.absorb_commit.specs.Needs.{frontOf, frontAt, TakesBelow, TakenBelow}
 

@@ -26,8 +26,10 @@ use Rattle.index.specs.Needs.{Passes}
 use Rattle.index.proofs.Lent.{over-same}
 use Rattle.index.proofs.Questions.{passes, passes-hints}
 use Rattle.recorder.specs.Recorder.{RecorderTables, recorderRoom, recorderIn, recorderKinds}
-use Rattle.absorb_questions.specs.Needs.{givenIn, nineIn}
-use Rattle.absorb_refuses.specs.Absorb.{absorbRefusal, Absorbs}
+use Rattle.absorb_questions.specs.Given.{givenIn}
+use Rattle.absorb_questions.specs.Needs.{nineIn}
+use Rattle.absorb_refuses.specs.Absorb.{absorbRefusal}
+use Rattle.absorb_refuses.specs.Needs.{Absorbs}
 use Rattle.absorb_refuses.proofs.Refusal.{passed}
 use Rattle.absorb_commit.specs.Commit.{Kept}
 use Rattle.absorb_commit.specs.Needs.{Ready}

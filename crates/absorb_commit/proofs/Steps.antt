@@ -28,7 +28,7 @@ use Rattle.parts.specs.declared.Counts.{Counts}
 use Rattle.parts.specs.Parts.{partTables, storedIn, Held, held, heldFrom}
 use Rattle.recorder.specs.Recorder.{RecorderTables, recorderIn}
 use Rattle.take.specs.Needs.{Appended, partsTaken}
-use Rattle.absorb_questions.specs.Needs.{givenIn}
+use Rattle.absorb_questions.specs.Given.{givenIn}
 use Rattle.absorb_commit.specs.Commit.{written, absorbed, absorbedIn, Kept}
 use Rattle.absorb_commit.specs.Needs.{Ready, frontOf, frontAt, TakesBelow, TakenBelow, numbersBy}
 use Rattle.absorb_commit.proofs.Ready.{own-malformed}

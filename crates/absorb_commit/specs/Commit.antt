@@ -13,7 +13,7 @@ use Rattle.table.specs.Tables.{hintsIn, confirmationsIn}
 use Rattle.index.specs.Index.{Tables, indexIn, numbersFrom, tablesFrom}
 use Rattle.sections.specs.Numbers.{idIn}
 use Rattle.recorder.specs.Recorder.{RecorderTables, recorderIn}
-use Rattle.absorb_questions.specs.Needs.{givenIn}
+use Rattle.absorb_questions.specs.Given.{givenIn}
 
 -- the numbers and the tables of an index
 pub record Written : Type 0 where

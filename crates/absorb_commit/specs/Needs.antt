@@ -24,7 +24,8 @@ use Rattle.sections.specs.Numbers.{endIn, idIn, idFrom}
 use Rattle.parts.specs.declared.Counts.{Counts}
 use Rattle.recorder.specs.Recorder.{RecorderTables, recorderIn, recorderRefusal}
 use Rattle.take.specs.Needs.{Put}
-use Rattle.absorb_questions.specs.Needs.{givenIn, nineIn}
+use Rattle.absorb_questions.specs.Given.{givenIn}
+use Rattle.absorb_questions.specs.Needs.{nineIn}
 
 -- 1 to 4 of both, the index's with some tables of hints and confirmations, 9, and of 10 and 12 what is used
 pub record Ready (x : AreaIndex) (cs fs st ps ls : List ℕ) (r : Recorder) (u : RecorderTables) (ms : List ℕ) : Type 0 where

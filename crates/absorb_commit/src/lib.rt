@@ -24,7 +24,7 @@ ghost use Rattle.rules.specs.Record.{below};
 ghost use Rattle.index.specs.Index.{tables};
 ghost use Rattle.sections.specs.Numbers.{endIn};
 ghost use Rattle.recorder.specs.Recorder.{recorderTables};
-ghost use Rattle.absorb_questions.specs.Needs.{givenIn};
+ghost use Rattle.absorb_questions.specs.Given.{givenIn};
 ghost use Rattle.absorb_commit.specs.Commit.{written, Kept, absorbedIn};
 ghost use Rattle.absorb_commit.specs.Needs.{Ready, TakesBelow, TakenBelow, numbersBy};
 

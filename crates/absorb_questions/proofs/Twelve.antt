@@ -23,7 +23,8 @@ use Rattle.rules.proofs.Tests.{all→}
 use Rattle.table.specs.Tables.{checkpointsIn, lsnsIn}
 use Rattle.sections.specs.Numbers.{endIn}
 use Rattle.absorblaws.specs.Twelve.{continues, listOk, joinedOk}
-use Rattle.absorb_questions.specs.Needs.{givenIn, scanUpTo, stretchUpTo, listIn, movedIn, twelveIn}
+use Rattle.absorb_questions.specs.Given.{givenIn}
+use Rattle.absorb_questions.specs.Needs.{scanUpTo, stretchUpTo, listIn, movedIn, twelveIn}
 
 module _ (x : AreaIndex) (cs held : List ℕ) (r : Recorder) (ds ms : List ℕ) where
   abbrev own : List Checkpoint

@@ -1,6 +1,6 @@
 -- Question 12 in the tables of an index and a recorder, of which only checkpoints and malformed LSNs are read.
 use mathlib.Core.Path.{_≡_}
-use Prim.Native.Nat.{ℕ, _+_, _*_, _/_, _≤_, min}
+use Prim.Native.Nat.{ℕ, _+_, _*_, _≤_, min}
 use mathlib.Core.Bool.{Bool, true, _&&_}
 use mathlib.Core.List.{List, [], _∷_, _++_}
 use mathlib.Core.Option.{Option}
@@ -20,10 +20,7 @@ use Rattle.absorblaws.specs.Twelve.{continues, joinedOk}
 use Rattle.table.specs.Tables.{checkpointsIn, lsnsIn}
 use Rattle.index.specs.Index.{tables, indexIn}
 use Rattle.recorder.specs.Recorder.{recorderTables, recorderIn}
-
--- the malformed LSNs of the reading
-abbrev pub givenIn : List ℕ → List ℕ
-givenIn ms = lsnsIn (length ms / 4) ms
+use Rattle.absorb_questions.specs.Given.{givenIn}
 
 -- an index as far as its checkpoints and malformed LSNs, and a recorder as far as its checkpoints
 abbrev pub scanUpTo : AreaIndex → List ℕ → List ℕ → Scan

@@ -27,7 +27,8 @@ use Rattle.join.proofs.Refusal.{lowest-zero}
 use Rattle.recorder.specs.Recorder.{RecorderTables, recorderRoom, recorderIn, recorderKinds, recorderRefusal}
 use Rattle.recorder.specs.Needs.{recorderHeld}
 use Rattle.recorder.proofs.Calls.{passes-held, passes-long as recorder-long}
-use Rattle.absorb_questions.specs.Needs.{givenIn, nineIn, elevenIn, twelveIn}
+use Rattle.absorb_questions.specs.Given.{givenIn}
+use Rattle.absorb_questions.specs.Needs.{nineIn, elevenIn, twelveIn}
 use Rattle.absorb_refuses.specs.Absorb.{absorbRefusal}
 use Rattle.absorb_refuses.specs.Needs.{tenIn, laterNumber, Readable}
 

@@ -1,7 +1,7 @@
 -- Questions 8 to 12 in the tables that they read, and what they need of them.
 use mathlib.Core.Path.{_≡_}
 use Prim.Native.Nat.{ℕ, _+_, _*_, _≤_}
-use mathlib.Core.Bool.{Bool, true, _&&_}
+use mathlib.Core.Bool.{Bool, true, false, _&&_}
 use mathlib.Core.List.{List, [], _∷_}
 use lib.Dec.{eqb, leb}
 use lib.ListN.{length}
@@ -10,9 +10,13 @@ use Rattle.rules.specs.declared.ImageId.{ImageId}
 use Rattle.rules.specs.declared.Recorder.{Recorder}
 use Rattle.rules.specs.Tests.{agree, ask, firstNo}
 use Rattle.rules.specs.Values.{frontierOf, max32}
+use Rattle.rules.specs.Record.{isStopped}
 use Rattle.rules.specs.Questions.{areaOk}
 use Rattle.sections.specs.Numbers.{endIn, idIn}
+use Rattle.index.specs.Index.{Tables}
+use Rattle.recorder.specs.Recorder.{RecorderTables}
 use Rattle.absorb_questions.specs.Needs.{nineIn, elevenIn, twelveIn}
+use Rattle.absorb_refuses.specs.Absorb.{absorbRefusal}
 
 -- 10 by the numbers
 unfoldable pub tenIn : AreaIndex → Recorder → Bool
@@ -32,3 +36,8 @@ pub record Readable (x : AreaIndex) (cs held : List ℕ) (r : Recorder) (ds : Li
   pub malformed : x .malformed * 4 ≤ length held
   pub theirs : r .checkpoints * 24 ≤ length ds
   pub few : r .first + r .checkpoints ≤ max32
+
+-- nothing refuses, and the recorder is not stopped
+pub record Absorbs (x : AreaIndex) (t : Tables) (image : ImageId) (given : List ℕ) (r : Recorder) (u : RecorderTables) : Type 0 where
+  pub accepted : absorbRefusal x t image given r u ≡ 0
+  pub brings : isStopped (r .mode) ≡ false
