@@ -144,7 +144,7 @@ fn ask_body(
 
 // ---- the file
 // 1 of both areas; another slot gives 1.
-fn areas_ok(area0: Area, area1: Area) -> bool
+pub fn areas_ok(area0: Area, area1: Area) -> bool
     ensures { λ r. ⌜ r ≡ (slotArea 0 area0 && slotArea 1 area1) ⌝ }
 {
     let key0 = area0.key;

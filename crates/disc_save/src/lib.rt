@@ -55,7 +55,7 @@ fn put_list(
     to
 }
 
-fn slot_of(x: AreaIndex) -> u8
+pub fn slot_of(x: AreaIndex) -> u8
     ensures { λ r. ⌜ r ≡ x .area .key .slot ⌝ }
 {
     let area = x.area;
@@ -235,7 +235,7 @@ fn write_lists(
 }
 
 // 1 to 4 of both lists: the number of the first answered no, 0 for none.
-fn ask_both(
+pub fn ask_both(
     x: AreaIndex,
     y: AreaIndex,
     checkpoints: &[u8],
