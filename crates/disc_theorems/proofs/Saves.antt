@@ -65,7 +65,7 @@ module _ (b : List ℕ) (ok : contentsOk b ≡ true) where
     saves-own : (p : Four) (out : ℕ) → p .one ≡ true → p .two ≡ true → p .three ≡ true → p .four ≡ true → length b ≤ out → saveLists p xs out ≡ Accepted b
     unfolding saveLists
     saves-own p out q1 q2 q3 q4 l =
-        let d : discLength xs ≡ length b = sym (disc-length xs fit) ∙ ap length file in
+        let d : discLength xs ≡ length b = sym (disc-length xs) ∙ ap length file in
         →asked (askFour p (ask (listed 0 (contentsOf xs)) 54 ∷ ask (leb (discLength xs) out) 40 ∷ []))
         (q1, (q2, (q3, (q4, (fit .rising, (le-leb (discLength xs) out (omega arith), tt))))))
         (ap (λ (z : List ℕ). Accepted z) file)

@@ -79,25 +79,13 @@ unfolding bytesOf bodiesLength
 bodies-length [] = refl
 bodies-length (x ∷ xs) = length-append (saved x) (bytesOf saved xs) ∙ rw (bodies-length xs, ← savedLength-is x .0)
 
--- ---- the table read back
-module _ (xs : List Index) (f : Fit xs) where
+-- ---- the file's length
+module _ (xs : List Index) where
   abbrev head : List ℕ
   head = encode 4 (length xs)
 
   abbrev table : List ℕ
   table = bytesOf encodeEntry (contentsOf xs)
-
-  count-is : countIn (discBytes xs) ≡ length xs
-  unfolding discBytes numberAt
-  count-is =
-      ap decode (take-at (encode 4 (length xs)) _ 4 (encode-length 4 (length xs))) ∙ decode-encode 4 (length xs) (let l = f .few in omega arith)
-
-  entries-are : entriesIn (discBytes xs) ≡ contentsOf xs
-  unfolding discBytes
-  entries-are =
-      rw (count-is, drop-at (encode 4 (length xs)) (table ++ bytesOf saved xs) 4 (encode-length 4 (length xs)))
-      (ap (λ (n : ℕ). records 12 decodeEntry n (table ++ bytesOf saved xs)) (sym (entries-length (tableSize (length xs)) xs))
-      ∙ records-bytes entry-layout (bytesOf saved xs) (entries-fit 0 (tableSize (length xs)) (f .slots) (f .rising)))
 
   table-length : length (head ++ table) ≡ tableSize (length xs)
   table-length =
@@ -108,10 +96,24 @@ module _ (xs : List Index) (f : Fit xs) where
   disc-length =
       ap length (sym (append-assoc head table (bytesOf saved xs))) ∙ length-append (head ++ table) (bytesOf saved xs) ∙ rw (table-length, bodies-length xs)
 
+-- ---- the table read back
+module _ (xs : List Index) (f : Fit xs) where
+  count-is : countIn (discBytes xs) ≡ length xs
+  unfolding discBytes numberAt
+  count-is =
+      ap decode (take-at (encode 4 (length xs)) _ 4 (encode-length 4 (length xs))) ∙ decode-encode 4 (length xs) (let l = f .few in omega arith)
+
+  entries-are : entriesIn (discBytes xs) ≡ contentsOf xs
+  unfolding discBytes
+  entries-are =
+      rw (count-is, drop-at (encode 4 (length xs)) (table xs ++ bytesOf saved xs) 4 (encode-length 4 (length xs)))
+      (ap (λ (n : ℕ). records 12 decodeEntry n (table xs ++ bytesOf saved xs)) (sym (entries-length (tableSize (length xs)) xs))
+      ∙ records-bytes entry-layout (bytesOf saved xs) (entries-fit 0 (tableSize (length xs)) (f .slots) (f .rising)))
+
   pub table-ok : contentsOk (discBytes xs) ≡ true
   unfolding contentsOk discLength
   table-ok =
-      let d = disc-length in
+      let d = disc-length xs in
       rw (entries-are, count-is)
       (→all _ (le-leb 1 (length xs) (f .some'), (le-leb (length xs) 2 (f .few), (le-leb (tableSize (length xs)) (length (discBytes xs)) (omega arith), (laid-of (length (discBytes xs)) 0 (tableSize (length xs)) (f .slots) (f .rising) (sym d), tt)))))
 
@@ -135,4 +137,4 @@ body-in k p at (x ∷ xs) e =
 pub body-is : (xs : List Index) (f : Fit xs) (k : ℕ) → bodyOf (discBytes xs) (entryOf k (entriesIn (discBytes xs))) ≡ savedOf k xs
 unfolding discBytes
 body-is xs f k =
-    rw (entries-are xs f, ← append-assoc (head xs f) (table xs f) (bytesOf saved xs)) (body-in k (head xs f ++ table xs f) (tableSize (length xs)) xs (table-length xs f))
+    rw (entries-are xs f, ← append-assoc (head xs) (table xs) (bytesOf saved xs)) (body-in k (head xs ++ table xs) (tableSize (length xs)) xs (table-length xs))

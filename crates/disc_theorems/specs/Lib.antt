@@ -1,2 +1,3 @@
 pub mod DiscFile
 pub mod DiscInTables
+pub mod Player
