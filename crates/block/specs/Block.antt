@@ -20,6 +20,7 @@ use Rattle.adds.specs.declared.Brings.{Brings}
 use Rattle.head.specs.Head.{wordsIn, blockOf, indexFrom, recorderFrom, hintRecorderFrom}
 use Rattle.save.specs.declared.Saved.{Saved}
 use Rattle.save.specs.declared.Saved.the-variants as saved
+use Rattle.save.specs.Save.{SaveOut}
 use Rattle.sizes.specs.declared.TableSizes.{TableSizes}
 use Rattle.block.specs.declared.HeldWords.{HeldWords}
 
@@ -109,3 +110,7 @@ bringsWords b =
 unfoldable pub savedNumber : Saved → ℕ
 savedNumber (saved.Refused n) = n
 savedNumber (saved.Length n) = n
+
+-- with the output as block
+abbrev pub savedInto : SaveOut → Called
+savedInto o = called (savedNumber (o .answer)) (o .out)

@@ -25,7 +25,7 @@ use Rattle.sizes.specs.declared.FileArea.{FileArea}
 use Rattle.sizes.specs.declared.Sized.{Sized}
 use Rattle.sizes.specs.Sizes.{sizedOf, newSizes, fileSizes, fileAreaOf, fileArea, fileLength}
 use Rattle.block.specs.Block.{called, into, headIndex, planWords, firstWords, sizeWords, areaWords, bringsWords, savedNumber}
-use Rattle.player.specs.Calls.{calledOver, outInto, savedInto, firstCall, sizesCall, fileAreaCall, fileSizesCall, newCall, loadCall, fingerprintCall, planCall, lengthCall, saveCall, mergeCall, addsCall, addHintsCall}
+use Rattle.player.specs.Calls.{calledOver, outInto, firstCall, sizesCall, fileAreaCall, fileSizesCall, newCall, loadCall, fingerprintCall, planCall, lengthCall, saveCall, mergeCall, addsCall, addHintsCall}
 use Rattle.block.proofs.Blocks.{long-enough}
 
 -- ---- the block is the answer's

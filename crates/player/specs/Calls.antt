@@ -12,9 +12,9 @@ use Rattle.load.specs.Load.{loadIn}
 use Rattle.merge.specs.Merge.{mergeIn}
 use Rattle.adds.specs.Brings.{addsIn}
 use Rattle.adding.specs.Added.{addHintsIn}
-use Rattle.save.specs.Save.{SaveOut, saveIn}
+use Rattle.save.specs.Save.{saveIn}
 use Rattle.sizes.specs.Sizes.{newSizes, fileSizes, fileArea, fileLength}
-use Rattle.block.specs.Block.{Called, called, into, inBlock, headIndex, planWords, firstWords, sizeWords, areaWords, bringsWords, savedNumber}
+use Rattle.block.specs.Block.{Called, called, into, inBlock, headIndex, planWords, firstWords, sizeWords, areaWords, bringsWords, savedInto}
 
 -- ---- sectors and sizes; the block is the answer's
 unfoldable pub firstCall : List ℕ → List ℕ → Called
@@ -63,9 +63,6 @@ unfoldable pub lengthCall : List ℕ → Tables → ℕ
 lengthCall head t = inBlock head 3 (fileLength (headIndex head) t)
 
 -- with the output as block
-abbrev pub savedInto : SaveOut → Called
-savedInto o = called (savedNumber (o .answer)) (o .out)
-
 unfoldable pub saveCall : List ℕ → Tables → List ℕ → Called
 saveCall head t out = inBlock head (called 3 out) (savedInto (saveIn (headIndex head) t out))
 

@@ -1,0 +1,29 @@
+use Rattle.player_disc.specs.Calls.{discSaveCall}
+use Rattle.block.proofs.Blocks.{too-short}
+use Rattle.player_disc.proofs.Answers.{save-done}
+use borrow.Author.Needs.{needs}
+use Rattle.player_disc.proofs.seek_raw_disc_save.Statement.{statement}
+use Rattle.player_disc.proofs.seek_raw_disc_save.Tie as tie
+
+returns : tie.Need-returns
+unfolding discSaveCall
+returns c = too-short _ _ _ (c .if1 .taken)
+
+returns-2 : tie.Need-returns-2
+returns-2 c =
+    let test : tie.Else1 = search in
+    let own : tie.After-index-in = search in
+    let call : tie.After-save-one = search in
+    let told : tie.After-saved-number = search in
+    save-done _ (test .if1 .left) _ (own .index-in .ensures) _ _ _ _ _ (call .save-one .ensures) (told .saved-number .ensures)
+
+pub seek-raw-disc-save-spec : {M : Type 1} → statement M
+seek-raw-disc-save-spec =
+    tie.close
+    (tie.spec
+    returns
+    (λ c κs. search needs)
+    (λ c κs. search needs)
+    (λ c κs. search needs)
+    (λ c. search needs)
+    returns-2)

@@ -1,0 +1,39 @@
+use Rattle.player_disc.specs.Calls.{discSaveBothCall}
+use Rattle.block.proofs.Blocks.{too-short, long-enough}
+use Rattle.player_disc.proofs.Answers.{both-done}
+use borrow.Author.Needs.{needs}
+use Rattle.player_disc.proofs.seek_raw_disc_save_both.Statement.{statement}
+use Rattle.player_disc.proofs.seek_raw_disc_save_both.Tie as tie
+
+returns : tie.Need-returns
+unfolding discSaveBothCall
+returns c = too-short _ _ _ (c .if1 .taken)
+
+returns-2 : tie.Need-returns-2
+unfolding discSaveBothCall
+returns-2 c =
+    let test : tie.Else1 = search in
+    long-enough _ _ _ (test .if1 .left) (too-short _ _ _ (c .if2 .taken))
+
+returns-3 : tie.Need-returns-3
+returns-3 c =
+    let first : tie.Else1 = search in
+    let second : tie.Else2 = search in
+    let own : tie.After-index-in = search in
+    let other : tie.After-index-in2 = search in
+    let call : tie.After-save-both = search in
+    let told : tie.After-saved-number = search in
+    both-done _ (first .if1 .left) _ (own .index-in .ensures) _ _ (second .if2 .left) _ (other .index-in2 .ensures) _ _ _ _ _ (call .save-both .ensures) (told .saved-number .ensures)
+
+pub seek-raw-disc-save-both-spec : {M : Type 1} → statement M
+seek-raw-disc-save-both-spec =
+    tie.close
+    (tie.spec
+    returns
+    returns-2
+    (λ c κs. search needs)
+    (λ c κs. search needs)
+    (λ c κs. search needs)
+    (λ c κs. search needs)
+    (λ c. search needs)
+    returns-3)
