@@ -1,9 +1,9 @@
-use Rattle.player.specs.RecorderCalls.{finishCall}
+use Rattle.player_record.specs.Calls.{finishCall}
 use Rattle.block.proofs.Blocks.{too-short}
-use Rattle.player.proofs.RecorderAnswers.{finish-done}
+use Rattle.player_record.proofs.Answers.{finish-done}
 use borrow.Author.Needs.{needs}
-use Rattle.player.proofs.seek_raw_finish.Statement.{statement}
-use Rattle.player.proofs.seek_raw_finish.Tie as tie
+use Rattle.player_record.proofs.seek_raw_finish.Statement.{statement}
+use Rattle.player_record.proofs.seek_raw_finish.Tie as tie
 
 returns : tie.Need-returns
 unfolding finishCall

@@ -1,9 +1,9 @@
-use Rattle.player.specs.RecorderCalls.{absorbCall}
+use Rattle.player_record.specs.Calls.{absorbCall}
 use Rattle.block.proofs.Blocks.{too-short, long-enough}
-use Rattle.player.proofs.RecorderAnswers.{absorb-done}
+use Rattle.player_record.proofs.Answers.{absorb-done}
 use borrow.Author.Needs.{needs}
-use Rattle.player.proofs.seek_raw_absorb.Statement.{statement}
-use Rattle.player.proofs.seek_raw_absorb.Tie as tie
+use Rattle.player_record.proofs.seek_raw_absorb.Statement.{statement}
+use Rattle.player_record.proofs.seek_raw_absorb.Tie as tie
 
 -- the places before absorb, from the nearest
 abbrev call-before : tie.After-put-absorbed → tie.After-absorb

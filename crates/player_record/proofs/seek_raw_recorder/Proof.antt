@@ -1,31 +1,31 @@
-use Rattle.player.specs.HintCalls.{hintCall}
+use Rattle.player_record.specs.Calls.{recorderCall}
 use Rattle.block.proofs.Blocks.{too-short, long-enough}
-use Rattle.player.proofs.HintAnswers.{hint-done}
+use Rattle.player_record.proofs.Answers.{recorder-done}
 use borrow.Author.Needs.{needs}
-use Rattle.player.proofs.seek_raw_hint.Statement.{statement}
-use Rattle.player.proofs.seek_raw_hint.Tie as tie
+use Rattle.player_record.proofs.seek_raw_recorder.Statement.{statement}
+use Rattle.player_record.proofs.seek_raw_recorder.Tie as tie
 
 returns : tie.Need-returns
-unfolding hintCall
+unfolding recorderCall
 returns c = too-short _ _ _ (c .if1 .taken)
 
 returns-2 : tie.Need-returns-2
-unfolding hintCall
+unfolding recorderCall
 returns-2 c =
     let test : tie.Else1 = search in
     long-enough _ _ _ (test .if1 .left) (too-short _ _ _ (c .if2 .taken))
 
 returns-3 : tie.Need-returns-3
 returns-3 c =
-    let put : tie.After-put-hint = search in
-    let call : tie.After-hint = search in
+    let put : tie.After-put-recorded = search in
+    let call : tie.After-recorder = search in
     let own : tie.After-index-in = search in
     let test2 : tie.Else2 = search in
     let test : tie.Else1 = search in
-    hint-done _ _ _ (test2 .if2 .left) _ (test .if1 .left) _ _ _ _ _ _ (put .put-hint .ensures) (call .hint .ensures) (own .index-in .ensures)
+    recorder-done _ _ _ (test2 .if2 .left) _ (put .put-recorded .ensures) _ (test .if1 .left) _ _ _ (call .recorder .ensures) (own .index-in .ensures)
 
-pub seek-raw-hint-spec : {M : Type 1} → statement M
-seek-raw-hint-spec =
+pub seek-raw-recorder-spec : {M : Type 1} → statement M
+seek-raw-recorder-spec =
     tie.close
     (tie.spec
     returns

@@ -1,9 +1,9 @@
-use Rattle.player.specs.HintCalls.{keepCall}
+use Rattle.player_hints.specs.Calls.{keepCall}
 use Rattle.block.proofs.Blocks.{too-short, long-enough}
-use Rattle.player.proofs.HintAnswers.{keep-done}
+use Rattle.player_hints.proofs.Answers.{keep-done}
 use borrow.Author.Needs.{needs}
-use Rattle.player.proofs.seek_raw_keep_confirmation.Statement.{statement}
-use Rattle.player.proofs.seek_raw_keep_confirmation.Tie as tie
+use Rattle.player_hints.proofs.seek_raw_keep_confirmation.Statement.{statement}
+use Rattle.player_hints.proofs.seek_raw_keep_confirmation.Tie as tie
 
 returns : tie.Need-returns
 unfolding keepCall

@@ -1,11 +1,11 @@
 use mir.Syntax.{w32}
 use mir.ValLaws.{toZ-ofZ}
-use Rattle.player.specs.RecorderCalls.{recordCall}
+use Rattle.player_record.specs.Calls.{recordCall}
 use Rattle.block.proofs.Blocks.{too-short}
-use Rattle.player.proofs.RecorderAnswers.{record-done}
+use Rattle.player_record.proofs.Answers.{record-done}
 use borrow.Author.Needs.{needs}
-use Rattle.player.proofs.seek_raw_record.Statement.{statement}
-use Rattle.player.proofs.seek_raw_record.Tie as tie
+use Rattle.player_record.proofs.seek_raw_record.Statement.{statement}
+use Rattle.player_record.proofs.seek_raw_record.Tie as tie
 
 abbrev began : tie.Else1 → tie.Start
 began test = search

@@ -1,9 +1,9 @@
-use Rattle.player.specs.HintCalls.{hintRecorderCall}
+use Rattle.player_hints.specs.Calls.{hintRecorderCall}
 use Rattle.block.proofs.Blocks.{too-short, long-enough}
-use Rattle.player.proofs.HintAnswers.{created-done}
+use Rattle.player_hints.proofs.Answers.{created-done}
 use borrow.Author.Needs.{needs}
-use Rattle.player.proofs.seek_raw_hint_recorder.Statement.{statement}
-use Rattle.player.proofs.seek_raw_hint_recorder.Tie as tie
+use Rattle.player_hints.proofs.seek_raw_hint_recorder.Statement.{statement}
+use Rattle.player_hints.proofs.seek_raw_hint_recorder.Tie as tie
 
 returns : tie.Need-returns
 unfolding hintRecorderCall

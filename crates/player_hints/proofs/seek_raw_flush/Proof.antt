@@ -1,9 +1,9 @@
-use Rattle.player.specs.HintCalls.{flushCall}
+use Rattle.player_hints.specs.Calls.{flushCall}
 use Rattle.block.proofs.Blocks.{too-short}
-use Rattle.player.proofs.HintAnswers.{flush-done}
+use Rattle.player_hints.proofs.Answers.{flush-done}
 use borrow.Author.Needs.{needs}
-use Rattle.player.proofs.seek_raw_flush.Statement.{statement}
-use Rattle.player.proofs.seek_raw_flush.Tie as tie
+use Rattle.player_hints.proofs.seek_raw_flush.Statement.{statement}
+use Rattle.player_hints.proofs.seek_raw_flush.Tie as tie
 
 returns : tie.Need-returns
 unfolding flushCall

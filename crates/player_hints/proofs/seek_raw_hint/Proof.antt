@@ -1,31 +1,31 @@
-use Rattle.player.specs.RecorderCalls.{recorderCall}
+use Rattle.player_hints.specs.Calls.{hintCall}
 use Rattle.block.proofs.Blocks.{too-short, long-enough}
-use Rattle.player.proofs.RecorderAnswers.{recorder-done}
+use Rattle.player_hints.proofs.Answers.{hint-done}
 use borrow.Author.Needs.{needs}
-use Rattle.player.proofs.seek_raw_recorder.Statement.{statement}
-use Rattle.player.proofs.seek_raw_recorder.Tie as tie
+use Rattle.player_hints.proofs.seek_raw_hint.Statement.{statement}
+use Rattle.player_hints.proofs.seek_raw_hint.Tie as tie
 
 returns : tie.Need-returns
-unfolding recorderCall
+unfolding hintCall
 returns c = too-short _ _ _ (c .if1 .taken)
 
 returns-2 : tie.Need-returns-2
-unfolding recorderCall
+unfolding hintCall
 returns-2 c =
     let test : tie.Else1 = search in
     long-enough _ _ _ (test .if1 .left) (too-short _ _ _ (c .if2 .taken))
 
 returns-3 : tie.Need-returns-3
 returns-3 c =
-    let put : tie.After-put-recorded = search in
-    let call : tie.After-recorder = search in
+    let put : tie.After-put-hint = search in
+    let call : tie.After-hint = search in
     let own : tie.After-index-in = search in
     let test2 : tie.Else2 = search in
     let test : tie.Else1 = search in
-    recorder-done _ _ _ (test2 .if2 .left) _ (put .put-recorded .ensures) _ (test .if1 .left) _ _ _ (call .recorder .ensures) (own .index-in .ensures)
+    hint-done _ _ _ (test2 .if2 .left) _ (test .if1 .left) _ _ _ _ _ _ (put .put-hint .ensures) (call .hint .ensures) (own .index-in .ensures)
 
-pub seek-raw-recorder-spec : {M : Type 1} → statement M
-seek-raw-recorder-spec =
+pub seek-raw-hint-spec : {M : Type 1} → statement M
+seek-raw-hint-spec =
     tie.close
     (tie.spec
     returns

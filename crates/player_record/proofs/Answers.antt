@@ -17,7 +17,7 @@ use Rattle.absorb.specs.Absorb.{out, absorbIn}
 use Rattle.recorder_block.specs.Block.{calledBoth, absorbedInto}
 use Rattle.block.specs.Block.{called, headIndex, headRecorder}
 use Rattle.block.proofs.Blocks.{long-enough}
-use Rattle.player.specs.RecorderCalls.{calledFour, recordedInto, recorderCall, recordCall, finishCall, calledAbsorbed, absorbCall}
+use Rattle.player_record.specs.Calls.{calledFour, recordedInto, recorderCall, recordCall, finishCall, calledAbsorbed, absorbCall}
 
 module _ (b b' : List ℕ) (n : ℕ) (l : 192 ≤ length b) (q : Recorded) (p : called n b' ≡ recordedInto b q) where
   pub recorder-done : (h : List ℕ) → 192 ≤ length h → (x : AreaIndex) (t : Tables) (from : ℕ) → q ≡ startedIn x t from → x ≡ headIndex h

@@ -1,9 +1,9 @@
-use Rattle.player.specs.HintCalls.{seeCall}
+use Rattle.player_hints.specs.Calls.{seeCall}
 use Rattle.block.proofs.Blocks.{too-short}
-use Rattle.player.proofs.HintAnswers.{see-done}
+use Rattle.player_hints.proofs.Answers.{see-done}
 use borrow.Author.Needs.{needs}
-use Rattle.player.proofs.seek_raw_see.Statement.{statement}
-use Rattle.player.proofs.seek_raw_see.Tie as tie
+use Rattle.player_hints.proofs.seek_raw_see.Statement.{statement}
+use Rattle.player_hints.proofs.seek_raw_see.Tie as tie
 
 returns : tie.Need-returns
 unfolding seeCall

@@ -1,9 +1,9 @@
-use Rattle.player.specs.HintCalls.{takeCall}
+use Rattle.player_hints.specs.Calls.{takeCall}
 use Rattle.block.proofs.Blocks.{too-short, long-enough}
-use Rattle.player.proofs.HintAnswers.{take-done}
+use Rattle.player_hints.proofs.Answers.{take-done}
 use borrow.Author.Needs.{needs}
-use Rattle.player.proofs.seek_raw_take.Statement.{statement}
-use Rattle.player.proofs.seek_raw_take.Tie as tie
+use Rattle.player_hints.proofs.seek_raw_take.Statement.{statement}
+use Rattle.player_hints.proofs.seek_raw_take.Tie as tie
 
 returns : tie.Need-returns
 unfolding takeCall

@@ -21,7 +21,7 @@ use Rattle.keeping.specs.Keeping as keeping
 use Rattle.block.specs.Block.{called, into, headIndex, headHintRecorder}
 use Rattle.block.proofs.Blocks.{long-enough}
 use Rattle.recorder_block.specs.Block.{calledBoth, seenOf, createdOf, createdWords, hintWords, takenInto, keptInto}
-use Rattle.player.specs.HintCalls.{calledList, calledKept, hintRecorderCall, seeCall, flushCall, takeCall, keepCall, hintCall}
+use Rattle.player_hints.specs.Calls.{calledList, calledKept, hintRecorderCall, seeCall, flushCall, takeCall, keepCall, hintCall}
 
 module _ (b b' : List ℕ) (n : ℕ) (l : 192 ≤ length b) where
   pub created-done : (h : List ℕ) → 192 ≤ length h → (x : AreaIndex) (t : Tables) (q : Created) → called n b' ≡ into createdWords b (createdOf q)
