@@ -3,12 +3,12 @@
 PREFIX ?= /usr/local
 DESTDIR ?=
 VERSION = 1.0
-ARCHIVE = target/staticlib/libplayer.a
+ARCHIVE = target/libseek.a
 
 all: $(ARCHIVE)
 
-$(ARCHIVE): crates.txt $(shell find crates -name '*.rt' -o -name '*.antt')
-	rt staticlib player
+$(ARCHIVE): tools/archive crates.txt $(shell find crates -name '*.rt' -o -name '*.antt')
+	tools/archive
 
 seek: target/seek
 
