@@ -79,7 +79,8 @@ enum {
     SEEK_OUTPUT = 40,
     SEEK_MERGE_AREA = 41,
     SEEK_MERGE_IDS = 42,
-    SEEK_MERGE_CHECKPOINTS = 43
+    SEEK_MERGE_CHECKPOINTS = 43,
+    SEEK_DISC = 54
 };
 
 /* A text for each number. */
@@ -126,6 +127,7 @@ static inline const char *seek_text(uint32_t number)
     case SEEK_MERGE_AREA: return "the lists are of different areas or intervals";
     case SEEK_MERGE_IDS: return "the lists have different image ids or fingerprints";
     case SEEK_MERGE_CHECKPOINTS: return "the lists disagree about a checkpoint or the end of the disc";
+    case SEEK_DISC: return "the disc file's contents table breaks its rules, or two lists share a slot, or one is too long";
     default: return "no such number";
     }
 }
@@ -185,8 +187,13 @@ typedef struct {
 #define SEEK_IN(t) const uint8_t *t, size_t t##_length
 #define SEEK_OUT(t) uint8_t *t, size_t t##_length
 #define SEEK_AREA_NUMBERS uint8_t slot, uint8_t channels, uint32_t key_start, uint32_t key_end, uint64_t sectors, uint64_t start, uint64_t end
+#define SEEK_AREA_NUMBERS2 uint8_t slot2, uint8_t channels2, uint32_t key_start2, uint32_t key_end2, uint64_t sectors2, uint64_t start2, uint64_t end2
 #define SEEK_TABLES_IN SEEK_IN(checkpoints), SEEK_IN(frames), SEEK_IN(store), SEEK_IN(parts), SEEK_IN(malformed), SEEK_IN(hints), SEEK_IN(confirmed)
 #define SEEK_TABLES_OUT SEEK_OUT(checkpoints), SEEK_OUT(frames), SEEK_OUT(store), SEEK_OUT(parts), SEEK_OUT(malformed), SEEK_OUT(hints), SEEK_OUT(confirmed)
+#define SEEK_TABLES_IN2 \
+    SEEK_IN(checkpoints2), SEEK_IN(frames2), SEEK_IN(store2), SEEK_IN(parts2), SEEK_IN(malformed2), SEEK_IN(hints2), SEEK_IN(confirmed2)
+#define SEEK_TABLES_OUT2 \
+    SEEK_OUT(checkpoints2), SEEK_OUT(frames2), SEEK_OUT(store2), SEEK_OUT(parts2), SEEK_OUT(malformed2), SEEK_OUT(hints2), SEEK_OUT(confirmed2)
 
 uint64_t seek_raw_sum(SEEK_IN(bytes));
 uint32_t seek_raw_first_record(SEEK_IN(sector), SEEK_OUT(answer));
@@ -199,10 +206,8 @@ uint64_t seek_raw_saved_length(SEEK_IN(head), SEEK_TABLES_IN);
 uint64_t seek_raw_save(SEEK_IN(head), SEEK_TABLES_IN, SEEK_OUT(out));
 uint32_t seek_raw_plan(SEEK_IN(head), uint32_t frame, SEEK_OUT(answer), SEEK_TABLES_IN);
 uint32_t seek_raw_fingerprint(SEEK_OUT(head), uint64_t value, SEEK_TABLES_IN);
-uint32_t seek_raw_merge(SEEK_OUT(head), SEEK_IN(other), SEEK_TABLES_OUT, SEEK_IN(checkpoints2), SEEK_IN(frames2), SEEK_IN(store2), SEEK_IN(parts2),
-                        SEEK_IN(malformed2), SEEK_IN(hints2), SEEK_IN(confirmed2));
-uint32_t seek_raw_adds(SEEK_IN(head), SEEK_IN(other), SEEK_OUT(answer), SEEK_TABLES_IN, SEEK_IN(checkpoints2), SEEK_IN(frames2), SEEK_IN(store2),
-                       SEEK_IN(parts2), SEEK_IN(malformed2), SEEK_IN(hints2), SEEK_IN(confirmed2));
+uint32_t seek_raw_merge(SEEK_OUT(head), SEEK_IN(other), SEEK_TABLES_OUT, SEEK_TABLES_IN2);
+uint32_t seek_raw_adds(SEEK_IN(head), SEEK_IN(other), SEEK_OUT(answer), SEEK_TABLES_IN, SEEK_TABLES_IN2);
 uint32_t seek_raw_add_hints(SEEK_OUT(head), SEEK_IN(list), SEEK_IN(checkpoints), SEEK_IN(frames), SEEK_IN(store), SEEK_IN(parts), SEEK_IN(malformed),
                             SEEK_OUT(hints), SEEK_IN(confirmed));
 uint32_t seek_raw_recorder(SEEK_IN(head), uint64_t from, SEEK_OUT(block), SEEK_TABLES_IN);
@@ -219,6 +224,14 @@ uint32_t seek_raw_take(SEEK_OUT(block), SEEK_OUT(answer), SEEK_IN(list));
 uint32_t seek_raw_keep_confirmation(SEEK_OUT(head), uint64_t lsn, uint32_t threshold, uint64_t digest, SEEK_OUT(answer), SEEK_IN(checkpoints),
                                     SEEK_IN(frames), SEEK_IN(store), SEEK_IN(parts), SEEK_IN(malformed), SEEK_IN(hints), SEEK_OUT(confirmed));
 uint32_t seek_raw_hint(SEEK_IN(head), uint32_t first, uint32_t end, uint32_t playtime, SEEK_OUT(answer), SEEK_TABLES_IN);
+uint32_t seek_raw_disc_contents(SEEK_IN(file), SEEK_OUT(answer));
+uint32_t seek_raw_disc_sizes(SEEK_AREA_NUMBERS, SEEK_AREA_NUMBERS2, SEEK_IN(file), uint64_t limit, SEEK_OUT(answer));
+uint32_t seek_raw_disc_load(SEEK_OUT(head), SEEK_OUT(other), SEEK_AREA_NUMBERS, SEEK_AREA_NUMBERS2, SEEK_IN(file), uint64_t limit, SEEK_OUT(answer),
+                            SEEK_TABLES_OUT, SEEK_TABLES_OUT2);
+uint64_t seek_raw_disc_saved_length(SEEK_IN(head), SEEK_TABLES_IN);
+uint64_t seek_raw_disc_saved_length_both(SEEK_IN(head), SEEK_IN(other), SEEK_TABLES_IN, SEEK_TABLES_IN2);
+uint64_t seek_raw_disc_save(SEEK_IN(head), SEEK_TABLES_IN, SEEK_OUT(out));
+uint64_t seek_raw_disc_save_both(SEEK_IN(head), SEEK_IN(other), SEEK_TABLES_IN, SEEK_TABLES_IN2, SEEK_OUT(out));
 
 #define SEEK_LENT_(t) (t).at, (t).length
 #define SEEK_LENT_SEVEN_(l) \
@@ -571,6 +584,68 @@ static inline uint32_t seek_hint(const seek_list *l, uint32_t first, uint32_t en
 static inline uint32_t seek_add_hints(seek_list *l, const uint8_t *list, size_t length)
 {
     return seek_raw_add_hints(l->head, SEEK_BLOCK, list, length, SEEK_LENT_SEVEN_(l));
+}
+
+/* ---- disc files: one file for the lists of both areas of a disc, by slot */
+/* What a disc file holds: whether there is a list of each slot, and where its list file lies. Answers 0 or SEEK_DISC. */
+typedef struct {
+    int present[2];
+    uint64_t offset[2], length[2];
+} seek_contents;
+
+static inline uint32_t seek_disc_contents(const uint8_t *file, size_t length, seek_contents *c)
+{
+    uint8_t answer[SEEK_BLOCK] = {0};
+    uint32_t n = seek_raw_disc_contents(file, length, answer, SEEK_BLOCK);
+    unsigned i;
+    for (i = 0; i < 2; i++) {
+        c->present[i] = seek_word(answer, 3 * i) != 0;
+        c->offset[i] = seek_word(answer, 3 * i + 1);
+        c->length[i] = seek_word(answer, 3 * i + 2);
+    }
+    return n;
+}
+
+/* The bytes of each table of both lists, for a disc file under the areas of slots 0 and 1 and a load limit: seek_disc_load with such tables never answers 3.
+ * 0 for a list that is not there. Refuses where seek_disc_load would. */
+static inline uint32_t seek_disc_sizes(const seek_area *a0, const seek_area *a1, const uint8_t *file, size_t length, uint64_t limit, seek_table_sizes *s0,
+                                       seek_table_sizes *s1)
+{
+    uint8_t answer[SEEK_BLOCK] = {0};
+    uint32_t n = seek_raw_disc_sizes(SEEK_AREA_(a0), SEEK_AREA_(a1), file, length, limit, answer, SEEK_BLOCK);
+    seek_sizes_from_(answer, s0);
+    seek_sizes_from_(answer + 64, s1);
+    return n;
+}
+
+/* The lists of a disc file, loaded under the areas of slots 0 and 1 with a limit as seek_load's: all of them, or none. present tells which are there; a list
+ * that is not there stays as it was, and may have tables of length 0. */
+static inline uint32_t seek_disc_load(seek_list *l0, seek_list *l1, const seek_area *a0, const seek_area *a1, const uint8_t *file, size_t length,
+                                      uint64_t limit, int present[2])
+{
+    uint8_t answer[SEEK_BLOCK] = {0};
+    uint32_t n = seek_raw_disc_load(l0->head, SEEK_BLOCK, l1->head, SEEK_BLOCK, SEEK_AREA_(a0), SEEK_AREA_(a1), file, length, limit, answer, SEEK_BLOCK,
+                                    SEEK_LENT_SEVEN_(l0), SEEK_LENT_SEVEN_(l1));
+    present[0] = seek_word(answer, 0) != 0;
+    present[1] = seek_word(answer, 1) != 0;
+    return n;
+}
+
+/* The length that seek_disc_save will write: at least 104; below 88 a refusal number. */
+static inline uint64_t seek_disc_saved_length(const seek_list *l, const seek_list *other)
+{
+    if (other == NULL)
+        return seek_raw_disc_saved_length(l->head, SEEK_BLOCK, SEEK_LENT_SEVEN_(l));
+    return seek_raw_disc_saved_length_both(l->head, SEEK_BLOCK, other->head, SEEK_BLOCK, SEEK_LENT_SEVEN_(l), SEEK_LENT_SEVEN_(other));
+}
+
+/* Writes the disc file of l and the other list, or of l alone where other is NULL, into out. Which list is given first makes no difference.
+ * Answers its length, at least 104; below 88 a refusal number. */
+static inline uint64_t seek_disc_save(const seek_list *l, const seek_list *other, uint8_t *out, size_t length)
+{
+    if (other == NULL)
+        return seek_raw_disc_save(l->head, SEEK_BLOCK, SEEK_LENT_SEVEN_(l), out, length);
+    return seek_raw_disc_save_both(l->head, SEEK_BLOCK, other->head, SEEK_BLOCK, SEEK_LENT_SEVEN_(l), SEEK_LENT_SEVEN_(other), out, length);
 }
 
 /* ---- sectors and bytes */
