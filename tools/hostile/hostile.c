@@ -48,7 +48,8 @@ typedef struct {
 
 enum {
     HEAD, OTHER, ANSWER, FILE_, OUT, LIST, CHECKPOINTS, FRAMES, STORE, PARTS, MALFORMED, HINTS, CONFIRMED, CHECKPOINTS2, FRAMES2, STORE2, PARTS2, MALFORMED2,
-    HINTS2, CONFIRMED2, RECORDER, FINISHING, CHECKPOINTS3, FRAMES3, STORE3, PARTS3, BYTES, SECTOR, HINTER, SEEN, GIVEN, BUFFERS
+    HINTS2, CONFIRMED2, RECORDER, FINISHING, CHECKPOINTS3, FRAMES3, STORE3, PARTS3, BYTES, SECTOR, HINTER, SEEN, GIVEN, HEAD4, CHECKPOINTS4, FRAMES4, STORE4,
+    PARTS4, MALFORMED4, HINTS4, CONFIRMED4, DISC, DISC_OUT, BUFFERS
 };
 static buffer all[BUFFERS];
 static uint8_t *real[BUFFERS];
@@ -129,13 +130,15 @@ static int canaries(const buffer *b)
 }
 
 /* ---- calls */
-static seek_area area;
+static seek_area area, area1; /* of slot 0, and of slot 1 */
 static uint64_t v[8];
 
 #define LENT(k) all[k].at, all[k].length
 #define TABLES LENT(CHECKPOINTS), LENT(FRAMES), LENT(STORE), LENT(PARTS), LENT(MALFORMED), LENT(HINTS), LENT(CONFIRMED)
 #define OTHERS LENT(CHECKPOINTS2), LENT(FRAMES2), LENT(STORE2), LENT(PARTS2), LENT(MALFORMED2), LENT(HINTS2), LENT(CONFIRMED2)
 #define FOUR LENT(CHECKPOINTS3), LENT(FRAMES3), LENT(STORE3), LENT(PARTS3)
+#define SLOT1 LENT(CHECKPOINTS4), LENT(FRAMES4), LENT(STORE4), LENT(PARTS4), LENT(MALFORMED4), LENT(HINTS4), LENT(CONFIRMED4)
+#define AREA1 area1.slot, area1.channels, area1.key_start, area1.key_end, area1.sectors, area1.start, area1.end
 #define AREA area.slot, area.channels, area.key_start, area.key_end, area.sectors, area.start, area.end
 
 static uint64_t call_sum(void) { return seek_raw_sum(LENT(FILE_)), 0; }
@@ -167,18 +170,30 @@ static uint64_t call_take(void) { return seek_raw_take(LENT(HINTER), LENT(ANSWER
 static uint64_t call_keep(void) { return seek_raw_keep_confirmation(LENT(HEAD), v[0], (uint32_t)v[1], v[2], LENT(ANSWER), TABLES); }
 static uint64_t call_hint(void) { return seek_raw_hint(LENT(HEAD), (uint32_t)v[0], (uint32_t)v[1], (uint32_t)v[2], LENT(ANSWER), TABLES); }
 
-#define BIT(k) (UINT32_C(1) << (k))
+static uint64_t call_contents(void) { return seek_raw_disc_contents(LENT(DISC), LENT(ANSWER)); }
+static uint64_t call_disc_sizes(void) { return seek_raw_disc_sizes(AREA, AREA1, LENT(DISC), v[0], LENT(ANSWER)); }
+static uint64_t call_disc_load(void)
+{
+    return seek_raw_disc_load(LENT(HEAD), LENT(HEAD4), AREA, AREA1, LENT(DISC), v[0], LENT(ANSWER), TABLES, SLOT1);
+}
+static uint64_t call_disc_length(void) { return seek_raw_disc_saved_length(LENT(HEAD), TABLES); }
+static uint64_t call_disc_length_both(void) { return seek_raw_disc_saved_length_both(LENT(HEAD), LENT(HEAD4), TABLES, SLOT1); }
+static uint64_t call_disc_save(void) { return seek_raw_disc_save(LENT(HEAD), TABLES, LENT(DISC_OUT)); }
+static uint64_t call_disc_save_both(void) { return seek_raw_disc_save_both(LENT(HEAD), LENT(HEAD4), TABLES, SLOT1, LENT(DISC_OUT)); }
+
+#define BIT(k) (UINT64_C(1) << (k))
 #define SEVEN (BIT(CHECKPOINTS) | BIT(FRAMES) | BIT(STORE) | BIT(PARTS) | BIT(MALFORMED) | BIT(HINTS) | BIT(CONFIRMED))
 
 #define SEVEN2 (SEVEN << 7)
 #define FOUR3 (BIT(CHECKPOINTS3) | BIT(FRAMES3) | BIT(STORE3) | BIT(PARTS3))
+#define SEVEN4 (SEVEN << (CHECKPOINTS4 - CHECKPOINTS))
 
 /* The buffers that a call is lent, those it writes, whether its answer is a length (from 88 on) instead of 0, and numbers that it accepts with the real
  * lists. */
 static const struct {
     const char *name;
     uint64_t (*run)(void);
-    uint32_t lent, written;
+    uint64_t lent, written;
     int lengths;
     uint64_t usual[8];
 } calls[] = {
@@ -207,13 +222,20 @@ static const struct {
     {"take", call_take, BIT(HINTER) | BIT(ANSWER) | BIT(SEEN), BIT(HINTER) | BIT(ANSWER), 0, {0}},
     {"keep_confirmation", call_keep, BIT(HEAD) | BIT(ANSWER) | SEVEN, BIT(HEAD) | BIT(ANSWER) | BIT(CONFIRMED), 0, {1100, 150, 9}},
     {"hint", call_hint, BIT(HEAD) | BIT(ANSWER) | SEVEN, BIT(ANSWER), 0, {30, 60, 600}},
+    {"disc_contents", call_contents, BIT(DISC) | BIT(ANSWER), BIT(ANSWER), 0, {0}},
+    {"disc_sizes", call_disc_sizes, BIT(DISC) | BIT(ANSWER), BIT(ANSWER), 0, {4096}},
+    {"disc_load", call_disc_load, BIT(HEAD) | BIT(HEAD4) | BIT(DISC) | BIT(ANSWER) | SEVEN | SEVEN4, BIT(HEAD) | BIT(HEAD4) | BIT(ANSWER) | SEVEN | SEVEN4, 0, {4096}},
+    {"disc_saved_length", call_disc_length, BIT(HEAD) | SEVEN, 0, 1, {0}},
+    {"disc_saved_length_both", call_disc_length_both, BIT(HEAD) | BIT(HEAD4) | SEVEN | SEVEN4, 0, 1, {0}},
+    {"disc_save", call_disc_save, BIT(HEAD) | BIT(DISC_OUT) | SEVEN, BIT(DISC_OUT), 1, {0}},
+    {"disc_save_both", call_disc_save_both, BIT(HEAD) | BIT(HEAD4) | BIT(DISC_OUT) | SEVEN | SEVEN4, BIT(DISC_OUT), 1, {0}},
 };
 enum { CALLS = sizeof calls / sizeof *calls };
 
 static int check(unsigned c, uint64_t answer)
 {
     int refused = calls[c].lengths ? answer < 88 : answer != 0, k;
-    if (refused && (answer == 0 || answer > 43)) {
+    if (refused && (answer == 0 || (answer > 43 && answer != SEEK_DISC))) {
         fprintf(stderr, "%s: %" PRIu64 " is no refusal number\n", calls[c].name, answer);
         return 0;
     }
@@ -234,8 +256,8 @@ static int check(unsigned c, uint64_t answer)
 }
 
 /* ---- the real lists, which the buffers begin with */
-/* A sample of n checkpoints and s hints, loaded into the real tables from first on, with its head. */
-static seek_list begin_list(int head, int first, unsigned n, unsigned s)
+/* A sample of n checkpoints and s hints for a slot, loaded into the real tables from first on, with its head. */
+static seek_list begin_list(int head, int first, unsigned n, unsigned s, uint8_t slot, seek_area *a)
 {
     static uint8_t file[SAMPLE_LONGEST];
     static const char *const names[] = {"checkpoints", "frames", "store", "parts", "malformed", "hints", "confirmed"};
@@ -244,7 +266,9 @@ static seek_list begin_list(int head, int first, unsigned n, unsigned s)
     seek_list l;
     seek_table *tables[] = {&l.checkpoints, &l.frames, &l.store, &l.parts, &l.malformed, &l.hints, &l.confirmed};
     int k;
-    if (seek_file_area(file, length, &area) || seek_file_sizes(&area, file, length, UINT64_MAX, &z))
+    file[12] = slot;
+    sample_put(file + length - 8, seek_sum(file, length - 8), 8);
+    if (seek_file_area(file, length, a) || seek_file_sizes(a, file, length, UINT64_MAX, &z))
         exit(2);
     {
         const uint64_t sizes[] = {z.checkpoints, z.frames, z.store, z.parts, z.malformed, z.hints, z.confirmed};
@@ -255,7 +279,7 @@ static seek_list begin_list(int head, int first, unsigned n, unsigned s)
         }
     }
     memset(l.head, 0, sizeof l.head);
-    if (seek_load(&l, &area, file, length, UINT64_MAX) || seek_fingerprint(&l, 7))
+    if (seek_load(&l, a, file, length, UINT64_MAX) || seek_fingerprint(&l, 7))
         exit(2);
     make(head, "head", SEEK_BLOCK);
     memcpy(real[head], l.head, SEEK_BLOCK);
@@ -315,11 +339,23 @@ static void begin_hint_recorder(const seek_list *l)
     memcpy(real[HINTER], h.block, SEEK_BLOCK);
 }
 
+/* The disc file of the lists of both slots. */
+static void begin_disc(const seek_list *l0, const seek_list *l1)
+{
+    size_t length = (size_t)seek_disc_saved_length(l0, l1);
+    make(DISC, "disc file", length);
+    make(DISC_OUT, "disc file's output", length);
+    if (length < 88 || seek_disc_save(l1, l0, real[DISC], length) != length)
+        exit(2);
+}
+
 static void begin(void)
 {
     unsigned i;
-    seek_list own = begin_list(HEAD, CHECKPOINTS, 3, 20);
-    begin_list(OTHER, CHECKPOINTS2, 5, 40);
+    seek_list own = begin_list(HEAD, CHECKPOINTS, 3, 20, 0, &area), second;
+    begin_list(OTHER, CHECKPOINTS2, 5, 40, 0, &area);
+    second = begin_list(HEAD4, CHECKPOINTS4, 4, 30, 1, &area1);
+    begin_disc(&own, &second);
     begin_sector();
     begin_recorder(&own);
     begin_hint_recorder(&own);
@@ -336,23 +372,25 @@ static void begin(void)
 
 static void choose_numbers(unsigned c, int wild)
 {
-    static seek_area told;
+    static seek_area told, told1;
+    seek_area *a = below(2) ? &area : &area1;
     unsigned k;
     if (told.sectors == 0)
-        told = area;
+        told = area, told1 = area1;
     area = told;
+    area1 = told1;
     for (k = 0; k < 8; k++)
         v[k] = wild && below(4) == 0 ? number() : calls[c].usual[k];
     if (!wild || below(2))
         return;
     switch (below(7)) {
-    case 0: area.slot = (uint8_t)number(); break;
-    case 1: area.channels = (uint8_t)number(); break;
-    case 2: area.key_start = (uint32_t)number(); break;
-    case 3: area.key_end = (uint32_t)number(); break;
-    case 4: area.sectors = number(); break;
-    case 5: area.start = number(); break;
-    default: area.end = number(); break;
+    case 0: a->slot = (uint8_t)number(); break;
+    case 1: a->channels = (uint8_t)number(); break;
+    case 2: a->key_start = (uint32_t)number(); break;
+    case 3: a->key_end = (uint32_t)number(); break;
+    case 4: a->sectors = number(); break;
+    case 5: a->start = number(); break;
+    default: a->end = number(); break;
     }
 }
 
@@ -381,7 +419,7 @@ int main(int argc, char **argv)
             accepted[c]++;
     }
     for (c = 0; c < CALLS; c++)
-        printf("%-17s %10" PRIu64 " accepted %10" PRIu64 " refused\n", calls[c].name, accepted[c], refused[c]);
+        printf("%-22s %10" PRIu64 " accepted %10" PRIu64 " refused\n", calls[c].name, accepted[c], refused[c]);
     printf("%" PRIu64 " calls; %" PRIu64 " times a recorder was stopped by 8\n", count, eights);
     return 0;
 }
