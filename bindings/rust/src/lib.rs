@@ -3,11 +3,13 @@
 //! A [`List`] owns the memory of its head and its seven tables. Every call answers a result or an [`Error`]; an error changed nothing,
 //! but for the one that stops a recorder ([`List::absorb`]).
 
+mod disc;
 mod error;
 mod hints;
 mod raw;
 mod recorder;
 
+pub use disc::{contents, load_disc, save_disc};
 pub use error::Error;
 pub use hints::{Hint, HintRecorder, Hinted};
 pub use recorder::{Frame, Recorder};
@@ -87,11 +89,11 @@ fn word(block: &[u8; BLOCK], i: usize) -> u64 {
     u64::from_le_bytes(bytes)
 }
 
-/// The sizes of a block, where this machine can address them.
-fn sizes_in(block: &[u8; BLOCK]) -> Result<[usize; 7], Error> {
+/// The sizes in a block from a word on, where this machine can address them.
+fn sizes_in(block: &[u8; BLOCK], from: usize) -> Result<[usize; 7], Error> {
     let mut sizes = [0; 7];
     for (i, s) in sizes.iter_mut().enumerate() {
-        *s = usize::try_from(word(block, i)).map_err(|_| Error::Room)?;
+        *s = usize::try_from(word(block, from + i)).map_err(|_| Error::Room)?;
     }
     Ok(sizes)
 }
@@ -165,7 +167,7 @@ impl List {
                 a.slot, a.channels, a.key_start, a.key_end, a.sectors, a.start, a.end, interval, budget, most, b.as_mut_ptr(), BLOCK,
             )
         })?;
-        let mut list = List::zeroed(sizes_in(&b)?)?;
+        let mut list = List::zeroed(sizes_in(&b, 0)?)?;
         let mut head = list.head;
         let [t0, t1, t2, t3, t4, t5, t6] = list.tables();
         // Safety: each pointer is that of a slice of the length behind it, and the head is a copy of its own.
@@ -189,7 +191,7 @@ impl List {
                 a.slot, a.channels, a.key_start, a.key_end, a.sectors, a.start, a.end, file.as_ptr(), file.len(), limit, b.as_mut_ptr(), BLOCK,
             )
         })?;
-        let mut list = List::zeroed(sizes_in(&b)?)?;
+        let mut list = List::zeroed(sizes_in(&b, 0)?)?;
         let (head, [t0, t1, t2, t3, t4, t5, t6]) = list.tables_mut();
         // Safety: each pointer is that of a slice of the length behind it, and no two overlap.
         answer(unsafe {

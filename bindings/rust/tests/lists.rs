@@ -1,6 +1,6 @@
 //! A list's life through the wrapper.
 
-use seek::{Area, Brings, Error, Frame, Hint, Hinted, List, Plan, first_record, sum};
+use seek::{Area, Brings, Error, Frame, Hint, Hinted, List, Plan, contents, first_record, load_disc, save_disc, sum};
 
 fn area() -> Area {
     Area { slot: 0, channels: 2, key_start: 1000, key_end: 1399, sectors: 1550, start: 1000, end: 1400 }
@@ -168,4 +168,28 @@ fn hints_and_confirmations() {
     assert_eq!(list.keep_confirmation(1100, 100, 5), Ok(true));
     assert_eq!(list.keep_confirmation(999, 100, 5), Err(Error::Confirmation));
     assert!(List::new(area(), 50, 0, 0, 2048).unwrap().hint_recorder().unwrap().is_none());
+}
+
+#[test]
+fn a_disc_file_holds_both_lists() {
+    let (a0, a1) = (area(), Area { slot: 1, ..area() });
+    let bytes = file(5);
+    let first = List::load(a0, &bytes, u64::MAX).unwrap();
+    let second = List::new(a1, 50, 4096, 8, 100).unwrap();
+    let disc = save_disc(&second, Some(&first)).unwrap();
+    assert_eq!(disc, save_disc(&first, Some(&second)).unwrap());
+    let [Some(at), Some(next)] = contents(&disc).unwrap() else { panic!("a list is missing") };
+    assert_eq!((at.start, next.start, next.end), (28, at.end, disc.len()));
+    assert_eq!(disc[at], bytes);
+    let [Some(x), Some(y)] = load_disc(a0, a1, &disc, u64::MAX).unwrap() else { panic!("a list is missing") };
+    assert_eq!((x.save(), y.save()), (first.save(), second.save()));
+
+    let alone = save_disc(&second, None).unwrap();
+    assert!(matches!(load_disc(a0, a1, &alone, u64::MAX), Ok([None, Some(_)])));
+    assert_eq!(save_disc(&first, Some(&first)), Err(Error::Disc));
+    assert_eq!(contents(&disc[1..]), Err(Error::Disc));
+    assert_eq!(load_disc(a1, a0, &disc, u64::MAX).err(), Some(Error::Area));
+    let mut changed = disc.clone();
+    changed[100] ^= 1;
+    assert_eq!(load_disc(a0, a1, &changed, u64::MAX).err(), Some(Error::FileSum));
 }
