@@ -12,8 +12,8 @@ $(ARCHIVE): tools/archive crates.txt $(shell find crates -name '*.rt' -o -name '
 
 seek: target/seek
 
-target/seek: desk/seek.c include/seek.h $(ARCHIVE)
-	$(CC) -O2 -std=c99 -Wall -Wextra -Iinclude desk/seek.c $(ARCHIVE) -o target/seek
+target/seek: desk/seek.c $(wildcard desk/seek/*) include/seek.h $(ARCHIVE)
+	$(CC) -O2 -std=c99 -Wall -Wextra -Iinclude desk/seek.c desk/seek/*.c $(ARCHIVE) -o target/seek
 
 install: $(ARCHIVE) target/seek
 	install -d $(DESTDIR)$(PREFIX)/lib/pkgconfig $(DESTDIR)$(PREFIX)/include $(DESTDIR)$(PREFIX)/bin $(DESTDIR)$(PREFIX)/share/man/man1
