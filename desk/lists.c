@@ -1,5 +1,6 @@
-/* lists DIR: writes the example lists into the folders DIR/school1 and DIR/school2, each by a pass over a disc that is made up here: recorder, record, finish,
- * absorb; hints seen and taken; the fingerprint stated; saved. Each school has a list of the whole disc and one of a pass that was broken off. */
+/* lists DIR: writes the example lists into the folders DIR/school1 to DIR/school3, each by a pass over an area that is made up here: recorder, record, finish,
+ * absorb; hints seen and taken; the fingerprint stated; saved. Schools 1 and 2 have a list of a whole area and one of a pass that was broken off, school 3
+ * small lists of both areas of one disc. */
 #include <stdio.h>
 #include <stdlib.h>
 
@@ -7,16 +8,18 @@
 
 enum { SECTOR = 2048, INTERVAL = 1024, BUDGET = 65536, SPACING = 500, MOST = 2048, LATE = 40, HELD = 300 };
 
-/* ---- discs */
+/* ---- areas of discs */
 typedef struct {
     seek_area area;
     uint64_t per_frame;   /* sectors of a frame */
     uint64_t fingerprint;
 } Disc;
 
-static const Disc discs[2] = {
+static const Disc discs[4] = {
     {{0, 2, 1000, 164499, 330000, 1000, 164500}, 4, 0x5ac0d15c00000001},
     {{1, 5, 170000, 419999, 420000, 170000, 420000}, 6, 0x5ac0d15c00000002},
+    {{0, 2, 1000, 5499, 12000, 1000, 5500}, 4, 0x5ac0d15c00000003},
+    {{1, 5, 6000, 11499, 12000, 6000, 11500}, 6, 0x5ac0d15c00000003},
 };
 
 static uint64_t lsn_of(const Disc *d, unsigned j) { return d->area.start + (uint64_t)j * INTERVAL; }
@@ -158,5 +161,7 @@ int main(int argc, char **argv)
     make(&discs[0], 81, argv[1], "school1/second.sbx");
     make(&discs[1], 124, argv[1], "school2/first.sbx");
     make(&discs[1], boundaries(&discs[1]), argv[1], "school2/second.sbx");
+    make(&discs[2], boundaries(&discs[2]), argv[1], "school3/two-channel.sbx");
+    make(&discs[3], 3, argv[1], "school3/multichannel.sbx");
     return 0;
 }

@@ -1,55 +1,70 @@
-/* seek: shows, compares and merges list files, and plans jumps in them. It reads files, calls the library and prints: every judgement on a
- * list is a call of include/seek.h. desk/seek has its commands; docs/DESK.md is for who uses it. */
+/* seek: shows, compares and merges list files and disc files, and plans jumps in them. It reads files, calls the library and prints: every judgement on a
+ * file is a call of include/seek.h. desk/seek has its commands; docs/DESK.md is for who uses it. */
 #include "seek/desk.h"
 
 #include <errno.h>
+#include <limits.h>
 #include <signal.h>
 #include <stdio.h>
 #include <stdlib.h>
 #include <string.h>
 
-Options opt;
+Options opt = {.slot = -1};
 
 static const char help[] =
     "seek: the seek index of Super Audio discs, for the service desk\n"
     "\n"
-    "  seek show FILE..          what each list file holds\n"
+    "  seek show FILE..          what each file holds\n"
     "  seek compare A B          may B be deleted if A is kept, and the other way\n"
     "                            round?\n"
     "  seek compare A B C..      beginning with the list that reaches furthest: which\n"
     "                            files bring something, and which may be deleted?\n"
-    "  seek merge -o OUT A B..   merges the lists in order and writes a new list file\n"
+    "  seek merge -o OUT A B..   merges the lists in order and writes a new file\n"
+    "  seek pack -o DISC A [B]   puts a list file, or those of a disc's two areas,\n"
+    "                            into a new disc file\n"
+    "  seek unpack DISC          writes each list of a disc file as a list file: of\n"
+    "                            our.disc our-two-channel.sbx, our-multichannel.sbx\n"
     "  seek plan FILE FRAME..    where a jump to a frame starts; a frame is a number,\n"
     "                            or minutes:seconds:frames at 75 frames a second\n"
     "\n"
+    "A file is a list file, or a disc file with the lists of one or both areas of a\n"
+    "disc. Disc files are compared and merged slot by slot: slot 0 is the two-channel\n"
+    "area, slot 1 the multichannel one. With a disc file among them, merge writes a\n"
+    "disc file.\n"
+    "\n"
+    "  --slot 0|1          of each disc file take only the list of this slot, as a\n"
+    "                      list file; not for compare\n"
     "  --range START END   the area's sectors, END excluded, where the file's key\n"
     "                      does not give them\n"
-    "  --area FILE         every list must be of the area of this list file; one of\n"
+    "  --area FILE         every list must be of the area of this file; one of\n"
     "                      another area is refused (26)\n"
     "  --json              one JSON object a line, for machines (docs/DESK.md)\n"
-    "  -o OUT              the file that merge writes\n"
-    "  -f                  merge may replace an existing file, but never one that it\n"
-    "                      reads\n"
+    "  -o OUT              the file that merge and pack write; for unpack what its\n"
+    "                      files' names begin with\n"
+    "  -f                  an existing file may be replaced, but never one that is\n"
+    "                      read\n"
     "  --                  all words after it are names, also those that begin with -\n"
     "  --help              this text\n"
     "\n"
     "Status\n"
     "  0   done; for compare: B may be deleted, or with more than two files every\n"
-    "      file but the first named\n"
-    "  1   a list was refused, or compare says keep\n"
+    "      file but those first named\n"
+    "  1   a file was refused, or compare says keep\n"
     "  2   wrong use, or a file cannot be read or written\n";
 
 static const struct {
     const char *name;
     int (*run)(char **words, int n);
-    int least;           /* how many words it needs */
-    int writes;          /* -o and -f */
+    int least, most;     /* how many words it takes */
+    int writes;          /* -o and -f: 0 none, 1 may have them, 2 needs -o */
     const char *needs;
 } commands[] = {
-    {"show", show, 1, 0, "a file"},
-    {"compare", compare, 2, 0, "two files or more"},
-    {"merge", merge, 2, 1, "-o OUT and two files or more"},
-    {"plan", plan, 2, 0, "a file and a frame"},
+    {"show", show, 1, INT_MAX, 0, "a file"},
+    {"compare", compare, 2, INT_MAX, 0, "two files or more"},
+    {"merge", merge, 2, INT_MAX, 2, "-o OUT and two files or more"},
+    {"pack", pack, 1, 2, 2, "-o DISC and one list file or two"},
+    {"unpack", unpack, 1, 1, 1, "one disc file"},
+    {"plan", plan, 2, INT_MAX, 0, "a file and a frame"},
 };
 
 static int range_option(const char *start, const char *end)
@@ -57,6 +72,14 @@ static int range_option(const char *start, const char *end)
     if (digits(&start, &opt.start) || *start || digits(&end, &opt.end) || *end)
         return complain("--range needs two sector numbers");
     opt.ranged = 1;
+    return DONE;
+}
+
+static int slot_option(const char *slot)
+{
+    if (strcmp(slot, "0") && strcmp(slot, "1"))
+        return complain("--slot needs 0 (two-channel) or 1 (multichannel)");
+    opt.slot = slot[0] - '0';
     return DONE;
 }
 
@@ -72,6 +95,8 @@ static int option(int argc, char **argv, int *i)
         opt.out = argv[++*i];
     else if (!strcmp(w, "--area") && left > 0)
         opt.area = argv[++*i];
+    else if (!strcmp(w, "--slot") && left > 0)
+        return slot_option(argv[++*i]);
     else if (!strcmp(w, "--range") && left > 1) {
         *i += 2;
         return range_option(argv[*i - 1], argv[*i]);
@@ -80,20 +105,19 @@ static int option(int argc, char **argv, int *i)
     return DONE;
 }
 
-/* The area of the file that --area names. */
+/* The areas of the file that --area names, by slot. */
 static int want_area(void)
 {
     File f;
-    const char *name = opt.area;
-    int status;
-    opt.area = NULL;
-    status = open_file(&f, name);
+    int s, status = open_file(&f, opt.area);
     if (status != DONE)
         return status;
-    if (f.list.number)
-        status = refused(name, f.list.number);
-    opt.wanted = f.list.area;
-    opt.area = name;
+    if (f.number)
+        status = refused_file(&f);
+    for (s = 0; s < 2 && status == DONE; s++) {
+        opt.known[s] = f.present[s];
+        opt.wanted[s] = f.list[s].area;
+    }
     close_file(&f);
     return status;
 }
@@ -111,8 +135,10 @@ static int command(char **words, int n)
     if (c == last)
         return complain("%s: no such command; seek --help tells them", words[0]);
     if (!commands[c].writes && (opt.out || opt.force))
-        return complain("-o and -f are for merge");
-    if (n - 1 < commands[c].least || (commands[c].writes && !opt.out))
+        return complain("-o and -f are for merge, pack and unpack");
+    if (commands[c].run == compare && opt.slot >= 0)
+        return complain("--slot is not for compare: a disc file is kept or deleted whole");
+    if (n - 1 < commands[c].least || n - 1 > commands[c].most || (commands[c].writes == 2 && !opt.out))
         return complain("%s needs %s; seek --help tells more", words[0], commands[c].needs);
     status = opt.area ? want_area() : DONE;
     return status == DONE ? commands[c].run(words + 1, n - 1) : status;

@@ -78,23 +78,25 @@ void tell(const Brought *b)
         printf("%s%s", i == 0 ? "" : i + 1 < n ? ", " : n > 2 || b->named.checkpoints ? ", and " : " and ", text[i]);
 }
 
-/* The same as a JSON object. */
-void brought_json(const char *kept, const char *other, uint32_t number, const Brought *b)
+/* The same as a JSON object. slot: that of lists in disc files, -1 for list files. */
+void brought_json(const char *kept, const char *other, int slot, uint32_t number, const Brought *b)
 {
     const seek_brings *n = &b->named;
     printf("{\"kept\":");
     json_text(kept);
     printf(",\"other\":");
     json_text(other);
+    if (slot >= 0)
+        printf(",\"slot\":%d", slot);
     printf(",\"refused\":%u", number);
     if (number) {
         printf(",\"meaning\":");
         json_text(seek_text(number));
     } else
-        printf(",\"may_be_deleted\":%s,\"checkpoints\":%s,\"end\":%s,\"parts\":%s,\"malformed\":%s,\"hints\":%s,\"confirmations\":%s,\"fingerprint\":%s"
+        printf(",\"%s\":%s,\"checkpoints\":%s,\"end\":%s,\"parts\":%s,\"malformed\":%s,\"hints\":%s,\"confirmations\":%s,\"fingerprint\":%s"
                ",\"checkpoints_brought\":%" PRIu64 ",\"parts_brought\":%" PRIu64 ",\"hints_brought\":%" PRIu64 ",\"confirmations_brought\":%" PRIu64
                ",\"up_to\":%" PRIu64,
-               truth(nothing(b)), truth(n->checkpoints), truth(n->end), truth(n->parts),
+               slot >= 0 ? "brings_nothing" : "may_be_deleted", truth(nothing(b)), truth(n->checkpoints), truth(n->end), truth(n->parts),
                truth(n->malformed), truth(n->hints), truth(n->confirmations), truth(n->fingerprint), b->checkpoints, b->parts, b->hints,
                b->confirmations, b->to);
     printf("}\n");

@@ -19,7 +19,7 @@ static int one_way(const List *own, const List *other, uint32_t *number)
     *number = bring(&copy, other, &b);
     free(copy.memory);
     if (opt.json)
-        brought_json(own->name, other->name, *number, &b);
+        brought_json(own->file, other->file, -1, *number, &b);
     else if (!*number && nothing(&b))
         printf("%s may be deleted: %s %s and holds all that %s would bring.\n", other->name, own->name,
                seek_is_complete(&own->list) ? "already runs to the end of the disc" : "reads at least as far", other->name);
@@ -47,7 +47,7 @@ static int both_ways(const List *a, const List *b)
 }
 
 /* A complete list, else one with the most checkpoints. */
-static int further(const List *a, const List *b)
+int further(const List *a, const List *b)
 {
     if (seek_is_complete(&a->list) != seek_is_complete(&b->list))
         return seek_is_complete(&a->list);
@@ -60,7 +60,7 @@ static int one_more(List *own, const List *first, const List *other)
     Brought b;
     uint32_t number = bring(own, other, &b);
     if (opt.json)
-        brought_json(first->name, other->name, number, &b);
+        brought_json(first->file, other->file, -1, number, &b);
     else if (number)
         printf("%s cannot be merged with those before it (%u): %s. %s\n", other->name, number, seek_text(number), advice(number));
     else if (nothing(&b))
@@ -76,17 +76,17 @@ static int one_more(List *own, const List *first, const List *other)
 static int several(File *f, int n)
 {
     List own;
-    const List *first = &f[0].list;
+    const List *first = only_list(&f[0]);
     int i, status = DONE;
     for (i = 1; i < n; i++)
-        if (further(&f[i].list, first))
-            first = &f[i].list;
+        if (further(only_list(&f[i]), first))
+            first = only_list(&f[i]);
     if (copy_list(&own, first) != DONE)
         return USAGE;
     if (!opt.json)
         printf("Keep %s: no other of these lists reaches further.\n", first->name);
     for (i = 0; i < n; i++)
-        if (&f[i].list != first && one_more(&own, first, &f[i].list) != DONE)
+        if (only_list(&f[i]) != first && one_more(&own, first, only_list(&f[i])) != DONE)
             status = REFUSED;
     free(own.memory);
     return status;
@@ -103,8 +103,10 @@ int compare(char **names, int n)
         status = given_twice(f, n);
     if (status != DONE)
         complain("nothing was compared");
+    else if (any_disc(f, n))
+        status = compare_discs(f, n);
     else
-        status = n == 2 ? both_ways(&f[0].list, &f[1].list) : several(f, n);
+        status = n == 2 ? both_ways(only_list(&f[0]), only_list(&f[1])) : several(f, n);
     close_files(f, n);
     return status;
 }

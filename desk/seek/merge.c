@@ -1,15 +1,15 @@
-/* merge: list files into a list file. */
+/* merge: list files into a list file; where a disc file is among them, slot by slot into a disc file. */
 #include "desk.h"
 
 #include <stdio.h>
 #include <stdlib.h>
 
-static int merge_one(List *own, const List *other)
+static int merge_one(List *own, const List *other, int slot)
 {
     Brought b;
     uint32_t number = bring(own, other, &b);
     if (opt.json)
-        brought_json(own->name, other->name, number, &b);
+        brought_json(own->file, other->file, slot, number, &b);
     else if (number)
         printf("%s cannot be merged (%u): %s. %s\n", other->name, number, seek_text(number), advice(number));
     else if (nothing(&b))
@@ -22,18 +22,50 @@ static int merge_one(List *own, const List *other)
     return number ? REFUSED : DONE;
 }
 
+/* Merges the files' lists of a slot into the first of them, which *own tells; with slot -1 the lists of list files. */
+static int merge_lists(File *f, int n, int slot, List **own)
+{
+    int i, status = DONE;
+    *own = NULL;
+    for (i = 0; i < n && status == DONE; i++) {
+        List *l = slot < 0 ? only_list(&f[i]) : f[i].present[slot] ? &f[i].list[slot] : NULL;
+        if (l && *own)
+            status = merge_one(*own, l, slot);
+        else if (l)
+            *own = l;
+    }
+    return status;
+}
+
 static int merge_files(File *f, int n, Output *out)
 {
-    List *own = &f[0].list;
-    int i, status = DONE;
-    for (i = 1; i < n && status == DONE; i++)
-        status = merge_one(own, &f[i].list);
+    List *own;
+    int status = merge_lists(f, n, -1, &own);
     if (status == DONE)
         status = save_list(own, out);
     if (status == DONE)
         status = write_files(out, 1);
     if (status == DONE)
-        written(out->name, own);
+        written(out->name, own, 0);
+    return status;
+}
+
+static int merge_discs(File *f, int n, Output *out)
+{
+    List *own[2] = {NULL, NULL};
+    uint32_t number = 0;
+    int s, status = DONE;
+    for (s = 0; s < 2 && status == DONE; s++)
+        status = merge_lists(f, n, s, &own[s]);
+    if (status == DONE)
+        status = save_disc(own[0] ? own[0] : own[1], own[0] ? own[1] : NULL, out, &number);
+    if (number)
+        refused(out->name, number);
+    if (status == DONE)
+        status = write_files(out, 1);
+    for (s = 0; s < 2 && status == DONE; s++)
+        if (own[s])
+            written(out->name, own[s], 1);
     return status;
 }
 
@@ -49,7 +81,7 @@ int merge(char **names, int n)
     if (status == DONE)
         status = may_write(opt.out, f, n, "this file is one of those to merge");
     if (status == DONE)
-        status = merge_files(f, n, &out);
+        status = any_disc(f, n) ? merge_discs(f, n, &out) : merge_files(f, n, &out);
     if (status != DONE)
         complain("nothing was written");
     free(out.bytes);

@@ -38,7 +38,9 @@ static int frame_of(const char *s, uint32_t *frame)
 static void plan_json(const List *l, uint32_t frame, uint64_t lsn, const seek_jump *j)
 {
     printf("{\"file\":");
-    json_text(l->name);
+    json_text(l->file);
+    if (l->in_disc)
+        printf(",\"slot\":%u", l->area.slot);
     printf(",\"refused\":0,\"frame\":%u,\"start\":%" PRIu64 ",\"where\":\"%s\",\"held_bytes\":%" PRIu64 "}\n", frame, lsn,
            j->where == SEEK_AT_START ? "start" : j->where == SEEK_AT_END ? "end" : "checkpoint", j->held ? j->length : 0);
 }
@@ -64,13 +66,26 @@ static int plan_one(List *l, const char *word)
     frame_of(word, &frame);
     l->number = seek_plan(&l->list, frame, &j);
     if (l->number)
-        return refused(l->name, l->number);
+        return refused_list(l);
     lsn = j.where == SEEK_AT_START ? l->area.start : j.where == SEEK_AT_END ? l->area.end : j.lsn;
     if (opt.json)
         plan_json(l, frame, lsn, &j);
     else
         plan_text(word, frame, lsn, &j);
     return DONE;
+}
+
+static int plan_frames(File *f, char **words, int n)
+{
+    List *l = only_list(f);
+    int i, status = DONE;
+    if (f->present[0] && f->present[1])
+        return complain("%s: this disc file has two lists; --slot 0 plans in the two-channel area, --slot 1 in the multichannel area", f->name);
+    if (l->in_disc && !opt.json)
+        printf("%s\n", l->name);
+    for (i = 0; i < n && status == DONE; i++)
+        status = plan_one(l, words[i]);
+    return status;
 }
 
 int plan(char **words, int n)
@@ -85,10 +100,7 @@ int plan(char **words, int n)
     status = open_file(&f, words[0]);
     if (status != DONE)
         return status;
-    if (f.list.number)
-        status = refused(words[0], f.list.number);
-    for (i = 1; i < n && status == DONE; i++)
-        status = plan_one(&f.list, words[i]);
+    status = f.number ? refused_file(&f) : plan_frames(&f, words + 1, n - 1);
     close_file(&f);
     return status;
 }

@@ -32,11 +32,11 @@ static void show_json(const List *in)
 {
     const seek_list *l = &in->list;
     printf("{\"file\":");
-    json_text(in->name);
-    printf(",\"refused\":0,\"slot\":%u,\"key_start\":%u,\"key_end\":%u,\"channels\":%u,\"image_sectors\":%" PRIu64 ",\"start\":%" PRIu64
+    json_text(in->file);
+    printf("%s,\"refused\":0,\"slot\":%u,\"key_start\":%u,\"key_end\":%u,\"channels\":%u,\"image_sectors\":%" PRIu64 ",\"start\":%" PRIu64
            ",\"end\":%" PRIu64 ",\"version\":%u,\"interval\":%" PRIu64 ",\"checkpoints\":%" PRIu64 ",\"boundaries\":%" PRIu64
            ",\"complete\":%s,\"frontier\":%" PRIu64,
-           in->area.slot, in->area.key_start, in->area.key_end, in->area.channels, in->area.sectors, in->area.start,
+           in->in_disc ? ",\"disc\":true" : "", in->area.slot, in->area.key_start, in->area.key_end, in->area.channels, in->area.sectors, in->area.start,
            in->area.end, version(in), seek_interval(l), seek_checkpoint_count(l), in->boundaries, truth(seek_is_complete(l)), frontier(in));
     printf(",\"parts\":%" PRIu64 ",\"held_bytes\":%" PRIu64 ",\"malformed\":%" PRIu64 ",\"malformed_listed\":%" PRIu64
            ",\"hints\":%" PRIu64 ",\"hint_limit\":%" PRIu64
@@ -92,13 +92,43 @@ static int show_list(const List *l, Bar *to)
     return DONE;
 }
 
+/* A list of a refused disc file, by itself. */
+static int show_alone(const File *f, List *l, Bar *to)
+{
+    int status = l->number ? REFUSED : load_list(l);
+    if (status == DONE)
+        return show_list(l, to);
+    if (l->number) {
+        refused_list(l);
+        right_lists(f);
+    }
+    return status;
+}
+
+static int show_lists(File *f, Bar *to)
+{
+    int s, status = DONE;
+    if (f->disc && !opt.json)
+        printf("%s: a disc file of %s, %s bytes\n", f->name, f->present[0] && f->present[1] ? "two lists" : "one list", grouped(f->length));
+    for (s = 0; s < 2; s++)
+        if (f->present[s]) {
+            int one = f->number ? show_alone(f, &f->list[s], &to[s]) : show_list(&f->list[s], &to[s]);
+            status = one > status ? one : status;
+        }
+    return status;
+}
+
+/* One file; where it holds lists, their bars are drawn into to, by slot. */
 static int show_one(const char *name, Bar *to)
 {
     File f;
     int status = open_file(&f, name);
     if (status != DONE)
         return status;
-    status = f.list.number ? refused(name, f.list.number) : show_list(&f.list, to);
+    if (f.number && !(f.disc && f.at))
+        status = refused_file(&f);
+    else
+        status = show_lists(&f, to);
     close_file(&f);
     return status;
 }
@@ -117,17 +147,17 @@ static void show_bars(const Bar *bars, int n)
 
 int show(char **names, int n)
 {
-    Bar *bars = calloc((size_t)n, sizeof *bars);
+    Bar *bars = calloc((size_t)n * 2, sizeof *bars);
     int i, status = DONE;
     if (!bars)
         return complain("not enough memory");
     for (i = 0; i < n; i++) {
-        int one = show_one(names[i], &bars[i]);
+        int one = show_one(names[i], &bars[2 * i]);
         status = one > status ? one : status;
     }
     if (!opt.json)
-        show_bars(bars, n);
-    for (i = 0; i < n; i++)
+        show_bars(bars, 2 * n);
+    for (i = 0; i < 2 * n; i++)
         free(bars[i].name);
     free(bars);
     return status;

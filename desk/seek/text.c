@@ -88,19 +88,61 @@ const char *advice(uint32_t number)
     case SEEK_MERGE_IDS: return "They were made from different discs or pressings. Keep both, each with its disc.";
     case SEEK_MERGE_CHECKPOINTS: return "One of them is false for this disc. Keep both, and have the disc read again.";
     case SEEK_ROOM: return "There is not enough memory for this list.";
+    case SEEK_DISC: return "It begins neither as a list file nor as a right disc file. Ask the school whether it is the right file; if so, to send it again.";
     default: return "Keep the file, and have the disc read again; the player makes a new list.";
     }
 }
 
+static void refused_json(const char *file, int slot, uint32_t number)
+{
+    printf("{\"file\":");
+    json_text(file);
+    if (slot >= 0)
+        printf(",\"slot\":%d", slot);
+    printf(",\"refused\":%u,\"meaning\":", number);
+    json_text(seek_text(number));
+    printf("}\n");
+}
+
+static void refused_text(const char *name, uint32_t number, const char *what_to_do)
+{
+    printf("%s\n  refused (%u): %s.\n  %s\n", name, number, seek_text(number), what_to_do);
+}
+
 int refused(const char *name, uint32_t number)
 {
-    if (opt.json) {
-        printf("{\"file\":");
-        json_text(name);
-        printf(",\"refused\":%u,\"meaning\":", number);
-        json_text(seek_text(number));
-        printf("}\n");
-    } else
-        printf("%s\n  refused (%u): %s.\n  %s\n", name, number, seek_text(number), advice(number));
+    if (opt.json)
+        refused_json(name, -1, number);
+    else
+        refused_text(name, number, advice(number));
+    return REFUSED;
+}
+
+int refused_list(const List *l)
+{
+    if (opt.json)
+        refused_json(l->file, l->in_disc ? l->area.slot : -1, l->number);
+    else if (l->in_disc && l->number == SEEK_FILE_AREA && !opt.area)
+        refused_text(l->name, l->number, "The contents table names it under the wrong area. Ask the school for the list file itself, or have the disc read again.");
+    else
+        refused_text(l->name, l->number, advice(l->number));
+    return REFUSED;
+}
+
+/* A disc file is taken whole or not at all: where one of its lists is right by itself, how to take it out. */
+void right_lists(const File *f)
+{
+    int s;
+    for (s = 0; s < 2 && !opt.json; s++)
+        if (f->disc && f->present[s] && !f->list[s].number)
+            printf("  The %s list in it is right: seek unpack --slot %d takes it out.\n", area_word(s), s);
+}
+
+int refused_file(const File *f)
+{
+    if (!f->at)
+        return refused(f->name, f->number);
+    refused_list(f->at);
+    right_lists(f);
     return REFUSED;
 }

@@ -123,7 +123,7 @@ static int place(Move *m)
     return rename(m->temporary, m->out);
 }
 
-/* Gives all files their names; where one cannot have it, those before it go back. 0, or errno with *at. */
+/* Gives all files their names. 0, or errno with *at. */
 static int place_all(Move *m, int n, int *at)
 {
     int i, wrong = 0;
@@ -134,15 +134,18 @@ static int place_all(Move *m, int n, int *at)
         m[i].placed = !wrong;
         *at = i;
     }
-    for (i = 0; i < n; i++) {
-        if (wrong && m[i].old)
-            (void)rename(m[i].old, m[i].out);
-        else if (wrong && m[i].placed)
-            unlink(m[i].out);
-        if (m[i].old)
-            unlink(m[i].old);
-    }
     return wrong;
+}
+
+/* After a file could not be written or placed: the folder as it was before. */
+static void put_back(Move *m)
+{
+    if (m->old)
+        (void)rename(m->old, m->out);
+    else if (m->placed)
+        unlink(m->out);
+    if (m->temporary)
+        unlink(m->temporary);
 }
 
 /* New files beside their names, flushed, then put in their places, all or none: a loss of power leaves the old file or the new one. */
@@ -158,10 +161,12 @@ int write_files(const Output *out, int n)
     if (!wrong)
         wrong = place_all(m, n, &at);
     for (i = 0; i < n; i++) {
+        if (wrong)
+            put_back(&m[i]);
+        if (m[i].old)
+            unlink(m[i].old);
         if (!wrong)
             flush_folder(out[i].name);
-        else if (m[i].temporary)
-            unlink(m[i].temporary);
         free(m[i].temporary);
         free(m[i].old);
     }
@@ -188,17 +193,35 @@ int save_list(const List *l, Output *out)
     return n < 88 ? refused(out->name, (uint32_t)n) : DONE;
 }
 
-/* What a file that was written holds. */
-void written(const char *out, const List *l)
+/* The disc file of one list, or of two in either order. *number is the refusal. */
+int save_disc(const List *l, const List *other, Output *out, uint32_t *number)
+{
+    const seek_list *second = other ? &other->list : NULL;
+    uint64_t n = seek_disc_saved_length(&l->list, second);
+    *number = n < 88 ? (uint32_t)n : 0;
+    if (*number)
+        return REFUSED;
+    if (make_bytes(out, n) != DONE)
+        return USAGE;
+    n = seek_disc_save(&l->list, second, out->bytes, (size_t)n);
+    *number = n < 88 ? (uint32_t)n : 0;
+    out->length = (size_t)n;
+    return *number ? REFUSED : DONE;
+}
+
+/* What a file that was written holds: one line for each list. In a disc file, or where a command writes two files, each list is told with its slot. */
+void written(const char *out, const List *l, int with_slot)
 {
     const seek_list *list = &l->list;
     if (opt.json) {
         printf("{\"written\":");
         json_text(out);
+        if (with_slot)
+            printf(",\"slot\":%u", l->area.slot);
         printf(",\"checkpoints\":%" PRIu64 ",\"boundaries\":%" PRIu64 ",\"complete\":%s}\n", seek_checkpoint_count(list), l->boundaries,
                truth(seek_is_complete(list)));
     } else {
-        printf("%s: %s of %s checkpoints, %s.\n", out, grouped(seek_checkpoint_count(list)), grouped(l->boundaries),
-               seek_is_complete(list) ? "to the end of the disc" : "not to the end of the disc");
+        printf("%s%s%s%s: %s of %s checkpoints, %s.\n", out, with_slot ? " (" : "", with_slot ? area_word(l->area.slot) : "", with_slot ? ")" : "",
+               grouped(seek_checkpoint_count(list)), grouped(l->boundaries), seek_is_complete(list) ? "to the end of the disc" : "not to the end of the disc");
     }
 }
