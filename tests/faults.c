@@ -1,5 +1,5 @@
 /* faults DIR: writes list files into a directory, by docs/FILE.md: some that are right and, for each refusal number of loading and merging, files that are
- * refused with it, whose names begin with it. */
+ * refused with it, whose names begin with it. A file without the magic is taken for a disc file. */
 #include <stdio.h>
 #include <string.h>
 
@@ -187,7 +187,7 @@ static void of_header(const File *f)
     write_bytes("20-empty", f->bytes, 0);
     write_bytes("20-seven-bytes", f->bytes, 7);
     cut("21-body-of-79", *f, 79);
-    changed("21-magic", *f, 0, 'X', 1);
+    changed("54-magic", *f, 0, 'X', 1);
     v = *f;
     put(&v, f->end, seek_sum(f->bytes, f->end) ^ 1, 8);
     write_bytes("22-sum", v.bytes, f->end + 8);
@@ -297,6 +297,7 @@ static void right(const File *f, const File *whole)
     write_file("unended", unended(*whole));
     write_file("capped", capped());
     changed("multichannel", *whole, 12, 1, 1);
+    changed("multichannel-half", *f, 12, 1, 1);
     changed("lower-threshold", *f, f->confirmed + 12, 44, 4);
     changed("most-2", *f, f->hinting + 12, 2, 4);
     changed("other-hint", *f, f->hinting + 24, START + 5, 4);
