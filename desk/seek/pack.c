@@ -17,7 +17,7 @@ static int cannot_pack(const File *f, int n, uint32_t number)
     return REFUSED;
 }
 
-/* What was packed. The image's sectors are those of one disc if the lists are. */
+/* What was packed. */
 static void packed(const List *l)
 {
     if (opt.json) {
@@ -41,6 +41,8 @@ static int pack_lists(File *f, int n, Output *out)
         status = write_files(out, 1);
     for (i = 0; i < n && status == DONE; i++)
         packed(only_list(&f[i]));
+    if (status == DONE && !opt.json && other && l->area.sectors != other->area.sectors)
+        printf("These are two images: ask the school whether both lists are of one disc.\n");
     for (s = 0; s < 2 && status == DONE; s++)
         for (i = 0; i < n; i++)
             if (f[i].present[s])
