@@ -109,6 +109,16 @@ pub fn sizes(ix: &AreaIndex) -> (usize, usize, usize) {
     (ix.boundaries(), ix.inline_budget, ix.max_hints)
 }
 
+/// How many checkpoints a list has.
+pub fn checkpoints(ix: &AreaIndex) -> usize {
+    ix.checkpoints.len()
+}
+
+/// Whether a list has a fingerprint.
+pub fn fingerprint(ix: &AreaIndex) -> bool {
+    ix.fingerprint.is_some()
+}
+
 pub fn kinds(ix: &AreaIndex) -> String {
     let shared = ix.stored.held.windows(2).any(|w| w[0].frame == w[1].frame);
     let surplus = ix.stored.frames.iter().enumerate().any(|(i, f)| {

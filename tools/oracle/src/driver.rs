@@ -430,7 +430,7 @@ pub fn fixed(a: &Arguments) -> Result<(), String> {
 }
 
 /// What `replay` answers, and what its end was where it did not end well.
-fn replayed(replay: &str, scripts: &[u8]) -> Result<(Vec<u8>, Option<String>), String> {
+pub fn replayed(replay: &str, scripts: &[u8]) -> Result<(Vec<u8>, Option<String>), String> {
     let words: Vec<&str> = replay.split(' ').collect();
     let mut child = Command::new(words[0])
         .args(&words[1..])

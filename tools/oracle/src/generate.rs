@@ -95,7 +95,7 @@ pub fn script(kind: Kind, number: u32, seed: u64, small: bool, out: &mut Vec<u8>
     s.loads
 }
 
-fn shape(rng: &mut Rng, small: bool) -> Shape {
+pub fn shape(rng: &mut Rng, small: bool) -> Shape {
     let mut shape = Shape::random(rng);
     if small {
         shape.boundaries = shape.boundaries.min(6);
@@ -115,7 +115,7 @@ fn shape(rng: &mut Rng, small: bool) -> Shape {
     }
 }
 
-fn limit(rng: &mut Rng, list: &List) -> u64 {
+pub fn limit(rng: &mut Rng, list: &List) -> u64 {
     let used = list.used();
     let first = list.frames.first().map_or(0, |f| f.1.len() as u64);
     let (most, s, c) = (u64::from(list.most), list.hints.len() as u64, list.confirmations.len() as u64);
@@ -144,7 +144,7 @@ fn limit(rng: &mut Rng, list: &List) -> u64 {
 }
 
 /// A valid list: empty, partial or complete, of any version.
-fn list(rng: &mut Rng, reading: &Reading, most: u64) -> List {
+pub fn list(rng: &mut Rng, reading: &Reading, most: u64) -> List {
     let b = reading.checkpoints.len();
     let complete = rng.chance(1, 3);
     let n = if complete || rng.chance(1, 4) { b } else { rng.below(b as u64 + 1) as usize };

@@ -3,6 +3,7 @@
 
 pub mod calls;
 mod damage;
+mod disc;
 mod driver;
 mod file;
 mod generate;
@@ -30,6 +31,7 @@ oracle gen [options]                     writes scripts, and on standard error h
 oracle fixed SCRIPT ANSWERS [options]    writes a list of scripts and the file of their answers
 oracle sources                           which texts of the original were built: length and FNV-1a
 oracle diff COUNT|SECONDSs REPLAY [options]  runs fresh scripts through both, until the first difference
+oracle disc COUNT|SECONDSs PROGRAM [options] runs fresh disc files through the model and PROGRAM (tools/disc), until the first difference
 options: --seed N  --kinds load,merge,calls,seams,hints,unrelated,large|all  --scripts N  --files N  --small  --only CALL,CALL,..
          --notes (counts by kind of damage)  --counts FILE (diff: tables of the counts)  --unchecked (no answer need occur)
          --shrink SECONDS (30: how long a script that shows a difference is made smaller)
@@ -139,6 +141,7 @@ pub fn command() -> ExitCode {
         ("gen", 0) => driver::generate(&a),
         ("fixed", 2) => driver::fixed(&a),
         ("diff", 2) => driver::differences(&a),
+        ("disc", 2) => disc::compare(&a),
         _ => {
             eprint!("{USAGE}");
             return ExitCode::from(2);

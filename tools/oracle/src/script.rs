@@ -59,7 +59,7 @@ pub const GIVEN_LSNS: u32 = 16_384;
 pub const GIVEN_BYTES: usize = 65_537;
 
 /// The refusal number of a text of the original.
-fn number(error: &Error) -> u32 {
+pub fn number(error: &Error) -> u32 {
     let Error::InvalidArgument(text) = error;
     match *text {
         "seek index truncated" => 20,
@@ -193,7 +193,7 @@ pub struct Sections {
     pub confirmations: usize,
 }
 
-fn sections(b: &[u8]) -> Sections {
+pub fn sections(b: &[u8]) -> Sections {
     let at = |i: usize| b.get(i..i + 4).map_or(0, |w| u32::from_le_bytes([w[0], w[1], w[2], w[3]]));
     let mut i = 80 + 24 * at(36) as usize;
     for _ in 0..at(40) {
