@@ -14,27 +14,40 @@ use cases::{Case, load_case, pair_case, source};
 use counts::{Counts, expected, tables};
 use model::{wide_answer, wides};
 
-/// The cases on which the program answers otherwise, with its answer.
-fn differing(program: &str, cases: &[Case]) -> Result<Vec<(usize, String)>, String> {
+/// What the program answers, line by line, and what its end was where it did not end well.
+fn said(program: &str, cases: &[Case]) -> Result<(Vec<String>, Option<String>), String> {
     let mut lines = Vec::new();
     for c in cases {
         lines.extend_from_slice(&c.0);
         lines.push(b'\n');
     }
-    let (said, end) = replayed(program, &lines)?;
-    let mut said = said.split(|b| *b == b'\n');
-    let mut out = Vec::new();
-    for (i, c) in cases.iter().enumerate() {
-        let Some(line) = said.next().filter(|l| !l.is_empty()) else {
-            out.push((i, end.clone().unwrap_or("no answer".to_string())));
-            break;
-        };
-        if line != &c.1[..] {
-            out.push((i, String::from_utf8_lossy(line).into_owned()));
+    let (out, end) = replayed(program, &lines)?;
+    let mut said: Vec<String> = out.split(|b| *b == b'\n').map(|l| String::from_utf8_lossy(l).into_owned()).collect();
+    // Behind the last newline lies nothing, or a line that was broken off.
+    said.pop();
+    Ok((said, end))
+}
+
+/// The cases on which the program answers otherwise, with its answer. Where it stops at a case it is run again for those behind it, a few times.
+fn differing(program: &str, cases: &[Case]) -> Result<Vec<(usize, String)>, String> {
+    let (mut out, mut from, mut runs) = (Vec::new(), 0, 0);
+    while from < cases.len() && runs < 20 {
+        let (lines, end) = said(program, &cases[from..])?;
+        for (i, line) in lines.iter().enumerate() {
+            match cases.get(from + i) {
+                Some(c) if line.as_bytes() == c.1 => {}
+                Some(_) => out.push((from + i, line.clone())),
+                None => return Err("more answers than cases".to_string()),
+            }
         }
-    }
-    if let (true, Some(end)) = (out.is_empty(), end) {
-        return Err(end);
+        from += lines.len();
+        if from < cases.len() {
+            out.push((from, end.unwrap_or("no answer".to_string())));
+            from += 1;
+        } else if let Some(end) = end {
+            return Err(end);
+        }
+        runs += 1;
     }
     Ok(out)
 }
@@ -62,8 +75,11 @@ fn wide_cases(counts: &mut Counts) -> Vec<Case> {
     let mut cases = Vec::new();
     for (name, w) in wides() {
         let words = w.map(|l| format!("{} {} {}", l.0, l.1, l.2)).join(" ");
-        cases.push((format!("wide {words}").into_bytes(), wide_answer(&w)));
-        counts.add("four bytes", name);
+        let answer = wide_answer(&w);
+        if answer.starts_with(b"wide / save 54 54") == name.starts_with("54") {
+            counts.add("four bytes", name);
+        }
+        cases.push((format!("wide {words}").into_bytes(), answer));
     }
     cases
 }
