@@ -50,9 +50,12 @@ static int pack_lists(File *f, int n, Output *out)
     return status;
 }
 
-static int only_list_files(const File *f, int n)
+/* pack takes list files, and two lists are of two areas. */
+static int may_pack(const File *f, int n)
 {
     int i;
+    if (opt.ranged && n > 1)
+        return complain("--range is for one list, and two are to be packed");
     for (i = 0; i < n; i++)
         if (f[i].disc)
             return complain("%s: this is a disc file already; seek merge joins it with others, and --slot takes one of its lists", f[i].name);
@@ -69,7 +72,7 @@ int pack(char **names, int n)
     out.name = opt.out;
     status = open_files(f, names, n);
     if (status == DONE)
-        status = only_list_files(f, n);
+        status = may_pack(f, n);
     if (status == DONE)
         status = given_twice(f, n);
     if (status == DONE)
