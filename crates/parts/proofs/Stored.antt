@@ -18,7 +18,7 @@ use Rattle.field.proofs.Records.{records-length}
 use Rattle.field.proofs.Format.{bytesOf-append, bytesOf-one, bytes-records}
 use Rattle.rules.specs.declared.Held as declared
 use Rattle.rules.specs.Tests.{lastOr}
-use Rattle.rules.specs.Values.{Frame, noFrame, used}
+use Rattle.rules.specs.Values.{Frame, maxFrame, noFrame, used}
 use Rattle.rules.specs.PartRule.{Stored, Piece, lastFrame, partOf, opens, joins, opened, grown, growth, stores, addPart}
 use Rattle.rules.specs.File.{encodeFrameHeader, encodeHeld, decodeHeld, over}
 use Rattle.rules.proofs.Tests.{test, never, all→, or-cases}
@@ -176,11 +176,11 @@ module _ {budget : ℕ} {c : Counts} {t : PartTables} (r : Room 1 budget c t) (b
 
     -- as the code places it
     module _ {last : FrameHeader} (is : last ≡ lastHeader (c .frames) (t .frames)) {new : Bool} (new-is : new ≡ (eqb (c .parts) 0 || ltb (last .start) (p .start))) where
-      pub place-ready : (c .frames < 4294967295) × (length (p .bytes) ≤ 65536) × (new ≡ false → 1 ≤ c .frames)
+      pub place-ready : (c .frames < 4294967295) × (length (p .bytes) ≤ maxFrame) × (new ≡ false → 1 ≤ c .frames)
       unfolding stores
       place-ready = (
         omega (arith, r .few .0),
-        leb-true (length (p .bytes)) 65536 (all→ _ s .0),
+        leb-true (length (p .bytes)) maxFrame (all→ _ s .0),
         λ o. r .ready .some (last-inside (r .ready) is (p .start) new-is o .0),
       )
 

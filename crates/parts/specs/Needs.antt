@@ -9,7 +9,7 @@ use lib.Seq.{sets}
 use Rattle.field.specs.Number.{encode}
 use Rattle.rules.specs.declared.Held as declared
 use Rattle.rules.specs.Tests.{agrees}
-use Rattle.rules.specs.Values.{Frame, frameAt, used, sameKind}
+use Rattle.rules.specs.Values.{Frame, maxFrame, frameAt, used, sameKind}
 use Rattle.rules.specs.PartRule.{Piece, partOf, addPart}
 use Rattle.rules.specs.File.{encodeHeld}
 use Rattle.table.specs.declared.FrameHeader.{FrameHeader}
@@ -59,7 +59,7 @@ putIn c to p t =
 -- and what that needs of the tables, for n bytes
 pub record Puts (c : Counts) (to : Placed) (n : ℕ) (t : PartTables) : Type 0 where
   pub from : to .from ≤ n
-  pub short : n ≤ 65536
+  pub short : n ≤ maxFrame
   pub few : c .parts < 4294967295
   pub frames : to .frame * 8 + 8 ≤ length (t .frames)
   pub store : c .used + (n - to .from) ≤ length (t .store)

@@ -23,7 +23,7 @@ ghost use lib.ListN.{length, take, drop};
 ghost use lib.Seq.{sets};
 ghost use Rattle.field.specs.Number.{encode};
 ghost use Rattle.rules.specs.Tests.{agrees, lastOr};
-ghost use Rattle.rules.specs.Values.{noHeld, sameKind, used};
+ghost use Rattle.rules.specs.Values.{maxFrame, noHeld, sameKind, used};
 ghost use Rattle.rules.specs.PartRule.{stores, addPart, addParts};
 ghost use Rattle.rules.specs.File.{unsigned32, kindNumber, encodeHeld};
 ghost use Rattle.table.specs.Tables.{headersIn, headerAt, framesIn, partsIn};
@@ -143,7 +143,7 @@ pub fn stores(
 // ---- the part rule, written
 // A part of n bytes opens a frame behind f others, or goes into the last of them, which has l bytes.
 fn place(f: u32, new: bool, l: u32, n: usize) -> Placed
-    requires { ⌜ (f < 4294967295) × (n ≤ 65536) × (new ≡ false → 1 ≤ f) ⌝ }
+    requires { ⌜ (f < 4294967295) × (n ≤ maxFrame) × (new ≡ false → 1 ≤ f) ⌝ }
     ensures { λ r. ⌜ r ≡ placedIn f new l n ⌝ }
 {
     if new {
