@@ -1,19 +1,37 @@
 use mathlib.Core.Path.{refl}
 use mir.Syntax.{w32}
+use mir.Val.{SFits}
 use mir.ValLaws.{toZ-ofZ}
 use Rattle.parts.proofs.Adding.{added-no, added-part}
 use borrow.Author.Needs.{needs}
 use Rattle.parts.proofs.add_one.Statement.{statement}
 use Rattle.parts.proofs.add_one.Tie as tie
 
+abbrev wanted-before : tie.After-add-part → tie.Else1
+wanted-before p = search
+
+abbrev begin : tie.Else1 → tie.Start
+begin p = search
+
+-- the remaining bytes fit their type
+sized : (p : tie.Start) → SFits w32 (p .args .p .remaining)
+sized p = search needs
+
 returns : tie.Need-returns
 returns c = added-no _ _ _ _ _ (c .if1 .taken)
 
 add-part-requires : tie.Need-add-part-requires
-add-part-requires c κs = c .before .before .before .before .before .before .before .before .before .before .before .before .pre .0 (c .before .before .before .before .before .before .if1 .left)
+add-part-requires c κs =
+    let wanted : tie.Else1 = search in
+    let start = begin wanted in
+    start .pre .0 (wanted .if1 .left)
 
 returns-2 : tie.Need-returns-2
-returns-2 c = added-part _ _ _ _ (c .before .before .before .before .before .before .before .before .before .before .before .before .before .before .before .before .before .before .before .args .p) _ _ _ _ (toZ-ofZ w32 (c .before .before .before .before .before .before .before .before .before .before .before .before .before .before .before .before .before .before .before .args .p .remaining) (search needs)) refl (c .before .before .before .before .before .before .before .before .before .before .before .before .before .if1 .left) (c .before .before .before .before .before .before .add-part .ensures)
+returns-2 c =
+    let added : tie.After-add-part = search in
+    let wanted = wanted-before added in
+    let start = begin wanted in
+    added-part _ _ _ _ (start .args .p) _ _ _ _ (toZ-ofZ w32 _ (sized start)) refl (wanted .if1 .left) (added .add-part .ensures)
 
 pub add-one-spec : {M : Type 1} → statement M
 add-one-spec =

@@ -1,13 +1,27 @@
 use Rattle.parts.specs.Parts.{pieceIn}
 use Rattle.parts.proofs.Putting.{put-is}
 use mir.Syntax.{w32}
+use mir.Val.{SFits}
 use mir.ValLaws.{toZ-ofZ}
 use borrow.Author.Needs.{needs}
 use Rattle.parts.proofs.put_part.Statement.{statement}
 use Rattle.parts.proofs.put_part.Tie as tie
 
+abbrev begin : tie.After-write-header → tie.Start
+begin p = search
+
+-- the remaining bytes fit their type
+sized : (p : tie.Start) → SFits w32 (p .args .p .remaining)
+sized p = search needs
+
 returns : tie.Need-returns
-returns c = put-is (pieceIn (c .before .before .before .before .before .before .before .before .before .before .before .before .before .before .before .before .before .before .before .before .before .before .args .p) (c .before .before .before .before .before .before .before .before .before .before .before .before .before .before .before .before .before .before .before .before .before .before .args .bytes .now)) (c .before .before .before .before .before .before .before .before .before .before .before .before .before .before .before .before .before .before .before .before .before .before .pre) (c .before .before .before .before .before .before .before .before .before .before .before .write-header .ensures) (c .before .before .before .before .before .before .before .copy-part .ensures) (rw (toZ-ofZ w32 (c .before .before .before .before .before .before .before .before .before .before .before .before .before .before .before .before .before .before .before .before .before .before .args .p .remaining) (search needs)) at (c .before .before .write-held .ensures))
+returns c =
+    let held : tie.After-write-held = search in
+    let copied : tie.After-copy-part = search in
+    let header : tie.After-write-header = search in
+    let start = begin header in
+    put-is (pieceIn (start .args .p) (start .args .bytes .now)) (start .pre) (header .write-header .ensures) (copied .copy-part .ensures)
+    (rw (toZ-ofZ w32 _ (sized start)) at (held .write-held .ensures))
 
 pub put-part-spec : {M : Type 1} → statement M
 put-part-spec =
