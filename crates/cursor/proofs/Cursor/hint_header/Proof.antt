@@ -5,29 +5,62 @@ use borrow.Author.Needs.{needs}
 use Rattle.cursor.proofs.Cursor.hint_header.Statement.{statement}
 use Rattle.cursor.proofs.Cursor.hint_header.Tie as tie
 
-returns : tie.Need-returns
-returns c = headed-none _ _ (let l = long-short (c .before .before .before .before .args .body .now) (c .before .before .before .before .args .self .at) (c .before .before .u64 .ensures) (c .enum-told .given .1) in omega arith)
+-- the calls, and what each gave, the first first
+abbrev begin : tie.After-u64 → tie.Start
+begin p = search
 
-got-long : (c : tie.After-fingerprint) → Got (c .before .before .before .before .args .body .now) 8 (c .before .before .before .before .args .self .at) (c .fingerprint .given .0 .0) (c .fingerprint .given .0 .1 .0)
-got-long c = long-got _ _ (c .before .before .u64 .ensures) (c .fingerprint .given .1)
+abbrev asked-first : tie.After-fingerprint → tie.After-u64
+asked-first p = search
+
+abbrev call : tie.After-fingerprint → tie.Start
+call p = begin (asked-first p)
+
+abbrev first : tie.After-spacing → tie.After-fingerprint
+first p = search
+
+abbrev second : tie.After-count → tie.After-spacing
+second p = search
+
+returns : tie.Need-returns
+returns c =
+    let asked : tie.After-u64 = search in
+    let a = begin asked .args in
+    headed-none _ _ (let l = long-short (a .body .now) (a .self .at) (asked .u64 .ensures) (c .enum-told .given .1) in omega arith)
+
+got-long : (p : tie.After-fingerprint) → Got (call p .args .body .now) 8 (call p .args .self .at) (p .fingerprint .given .0 .0) (p .fingerprint .given .0 .1 .0)
+got-long p = long-got _ _ (asked-first p .u64 .ensures) (p .fingerprint .given .1)
 
 returns-2 : tie.Need-returns-2
-returns-2 c = let call = c .before .before .before .before .before .before .before .before in headed-none _ _ (let l = pair-short (call .args .body .now) ((call .args .self .at) + 8) (rw (got-long (c .before .before .before .before) .moved) at (c .before .before .pair .ensures)) (c .enum-told2 .given .1) in omega arith)
+returns-2 c =
+    let asked : tie.After-pair = search in
+    let got : tie.After-fingerprint = search in
+    let a = call got .args in
+    headed-none _ _ (let l = pair-short (a .body .now) (a .self .at + 8) (rw (got-long got .moved) at (asked .pair .ensures)) (c .enum-told2 .given .1) in omega arith)
 
-got-second : (c : tie.After-spacing) → GotPair (c .before .before .before .before .before .before .before .before .args .body .now) ((c .before .before .before .before .before .before .before .before .args .self .at) + 8) (c .spacing .given .0 .0) (c .spacing .given .0 .1 .0) (c .spacing .given .0 .1 .1 .0)
-got-second c = pair-got _ _ (rw (got-long (c .before .before .before .before) .moved) at (c .before .before .pair .ensures)) (c .spacing .given .1)
+got-second : (p : tie.After-spacing)
+    → GotPair (call (first p) .args .body .now) (call (first p) .args .self .at + 8) (p .spacing .given .0 .0) (p .spacing .given .0 .1 .0) (p .spacing .given .0 .1 .1 .0)
+got-second p =
+    let asked : tie.After-pair = search in
+    pair-got _ _ (rw (got-long (first p) .moved) at (asked .pair .ensures)) (p .spacing .given .1)
 
 returns-3 : tie.Need-returns-3
-returns-3 c = let call = c .before .before .before .before .before .before .before .before .before .before .before .before in headed-none _ _ (let l = pair-short (call .args .body .now) ((call .args .self .at) + 8 + 8) (rw (got-second (c .before .before .before .before) .moved) at (c .before .before .pair2 .ensures)) (c .enum-told3 .given .1) in omega arith)
+returns-3 c =
+    let asked : tie.After-pair2 = search in
+    let got : tie.After-spacing = search in
+    let a = call (first got) .args in
+    headed-none _ _ (let l = pair-short (a .body .now) (a .self .at + 8 + 8) (rw (got-second got .moved) at (asked .pair2 .ensures)) (c .enum-told3 .given .1) in omega arith)
 
-abbrev got-third-call : tie.After-count → tie.Start
-got-third-call c = c .before .before .before .before .before .before .before .before .before .before .before .before
-
-got-third : (c : tie.After-count) → GotPair (got-third-call c .args .body .now) ((got-third-call c .args .self .at) + 8 + 8) (c .count .given .0 .0) (c .count .given .0 .1 .0) (c .count .given .0 .1 .1 .0)
-got-third c = pair-got _ _ (rw (got-second (c .before .before .before .before) .moved) at (c .before .before .pair2 .ensures)) (c .count .given .1)
+got-third : (p : tie.After-count)
+    → GotPair (call (first (second p)) .args .body .now) (call (first (second p)) .args .self .at + 8 + 8) (p .count .given .0 .0) (p .count .given .0 .1 .0)
+    (p .count .given .0 .1 .1 .0)
+got-third p =
+    let asked : tie.After-pair2 = search in
+    pair-got _ _ (rw (got-second (second p) .moved) at (asked .pair2 .ensures)) (p .count .given .1)
 
 returns-4 : tie.Need-returns-4
-returns-4 c = headed-made _ _ (got-long (c .before .before .before .before .before .before .before .before .before)) (got-second (c .before .before .before .before .before)) (got-third (c .before))
+returns-4 c =
+    let third : tie.After-count = search in
+    headed-made _ _ (got-long (first (second third))) (got-second (second third)) (got-third third)
 
 pub hint-header-spec : {M : Type 1} → statement M
 hint-header-spec =
