@@ -6,7 +6,7 @@ use lib.Dec.{eqb, leb}
 use Rattle.rules.specs.declared.Area.{Area}
 use Rattle.rules.specs.declared.Header.{Header}
 use Rattle.rules.specs.Tests.{Ask, ask}
-use Rattle.rules.specs.Values.{max32, sameKey, boundaries}
+use Rattle.rules.specs.Values.{maxInterval, max32, sameKey, boundaries}
 use Rattle.rules.specs.Sections.{countsOk}
 use Rattle.rules.specs.Load.{isComplete, keyOf, fixedSize}
 
@@ -17,6 +17,6 @@ keyQuestions a h =
 
 abbrev pub sizeQuestions : Area → Header → ℕ → List Ask
 sizeQuestions a h left =
-    ask (leb 1 (h .interval) && leb (h .interval) 65536) 27 ∷ ask (eqb (h .zero52) 0) 28 ∷ ask (leb (h .budget) max32) 29
+    ask (leb 1 (h .interval) && leb (h .interval) maxInterval) 27 ∷ ask (eqb (h .zero52) 0) 28 ∷ ask (leb (h .budget) max32) 29
     ∷ ask (eqb (h .zero68) 0) 28
     ∷ ask (countsOk (boundaries a (h .interval)) (h .checkpoints) (isComplete h) (h .frames) (h .parts) (h .malformed) && leb (fixedSize h) left) 30 ∷ []

@@ -8,10 +8,10 @@ use Rattle.field.specs.Number.{encode}
 use Rattle.rules.specs.declared.Area.{Area}
 use Rattle.rules.specs.declared.Fingerprint.the-variants.{Unknown}
 use Rattle.rules.specs.Tests.{Answer, Accepted, numberOf}
-use Rattle.rules.specs.Values.{Index, Lengths}
+use Rattle.rules.specs.Values.{Index}
 use Rattle.rules.specs.Create.{emptyIndex}
 use Rattle.rules.specs.File.{saved}
-use Rattle.rules.specs.Examples.{ample, area, checkpoint, indexOf, three, empty, numbersOf, Example, example}
+use Rattle.rules.specs.Examples.{ample, short, area, checkpoint, indexOf, three, empty, numbersOf, Example, example}
 use Rattle.rules.specs.declared.Entry.{Entry}
 use Rattle.rules.specs.Disc.{entry, Disc, discBytes, contentsOf, listed, saveOne, saveBoth, loadDisc}
 
@@ -27,10 +27,6 @@ multi = indexOf area1 100 (checkpoint 0 0 0 ∷ []) none Unknown 2048 [] []
 -- both in one file: 28 bytes, 160 of three, 112 of multi
 abbrev pub pair : List ℕ
 pair = discBytes (three ∷ multi ∷ [])
-
--- tables that are too short for any list
-abbrev pub short : Lengths
-short = record { checkpoints = 0; frames = 0; store = 0; parts = 0; malformed = 0; hints = 0; confirmed = 0 }
 
 -- ---- answers as numbers
 -- how many checkpoints a list has, and one more; 0 where there is no list

@@ -38,6 +38,10 @@ abbrev pub ample : Lengths
 ample =
     record { checkpoints = 100000; frames = 100000; store = 5000000000; parts = 100000; malformed = 4096; hints = 200000; confirmed = 100000 }
 
+-- tables that are too short for any list
+abbrev pub short : Lengths
+short = record { checkpoints = 0; frames = 0; store = 0; parts = 0; malformed = 0; hints = 0; confirmed = 0 }
+
 abbrev pub area : ℕ → ℕ → Area
 area start end = record { key = record { slot = 0; start = start; end = end; channels = 2; sectors = 9000 }; start = start; end = end }
 

@@ -20,7 +20,7 @@ use Rattle.rules.specs.declared.Held.{Held}
 use Rattle.rules.specs.declared.Hint.{Hint}
 use Rattle.rules.specs.declared.HintHeader.{HintHeader}
 use Rattle.rules.specs.Tests.{all, Ask, ask, firstNo, Answer, Refused, Accepted, after, bind}
-use Rattle.rules.specs.Values.{Frame, Scan, Hinting, Index, Lengths, maxMalformed, maxHints, max32, defaultSpacing, defaultHints, boundaries, frontierOf, counted, lastCheckpoint, sameKey}
+use Rattle.rules.specs.Values.{Frame, Scan, Hinting, Index, Lengths, maxMalformed, maxHints, maxInterval, max32, defaultSpacing, defaultHints, boundaries, frontierOf, counted, lastCheckpoint, sameKey}
 use Rattle.rules.specs.Sections.{countsOk, Passed, begun, passed, checkpointOk, Filled, unfilled, filled, frameOk, partOk, reached, endingOk, risingOk, risen, ownLsn, anyLsn, hintLsn, hintOk, confirmedLsn, confirmationOk}
 use Rattle.rules.specs.Questions.{areaOk, question3}
 use Rattle.rules.specs.Hints.{thin, lastOnes}
@@ -86,7 +86,7 @@ headerNumber a h left =
     firstNo
     (ask (leb 1 (h .version) && leb (h .version) 3) 23 ∷ ask (leb (h .slot) 1) 24
     ∷ ask (leb (h .flags) (cond (leb 2 (h .version)) 3 1) && eqb (h .zero15) 0) 25 ∷ ask (sameKey (keyOf h) (a .key)) 26
-    ∷ ask (leb 1 (h .interval) && leb (h .interval) 65536) 27 ∷ ask (eqb (h .zero52) 0) 28 ∷ ask (leb (h .budget) max32) 29
+    ∷ ask (leb 1 (h .interval) && leb (h .interval) maxInterval) 27 ∷ ask (eqb (h .zero52) 0) 28 ∷ ask (leb (h .budget) max32) 29
     ∷ ask (eqb (h .zero68) 0) 28
     ∷ ask (countsOk (boundaries a (h .interval)) (h .checkpoints) (isComplete h) (h .frames) (h .parts) (h .malformed) && leb (fixedSize h) left) 30 ∷ [])
 

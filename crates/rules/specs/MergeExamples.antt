@@ -20,7 +20,7 @@ use Rattle.rules.specs.PartRule.{Piece, addPart}
 use Rattle.rules.specs.Merge.{merge}
 use Rattle.rules.specs.File.{saved}
 use Rattle.rules.specs.Load.{load}
-use Rattle.rules.specs.Examples.{ample, area, hintAt, confirmedAt, checkpoint, indexOf, three, version2, closed, holding, storedIn, knownNumbers, hintNumbers, confirmedNumbers, numbersOf, Example, example}
+use Rattle.rules.specs.Examples.{ample, short, area, hintAt, confirmedAt, checkpoint, indexOf, three, version2, closed, holding, storedIn, knownNumbers, hintNumbers, confirmedNumbers, numbersOf, Example, example}
 use Rattle.rules.specs.AbsorbExamples.{two, ofImage}
 use Rattle.rules.specs.HintExamples.{hinting, fingerprintNumbers}
 
@@ -28,6 +28,10 @@ use Rattle.rules.specs.HintExamples.{hinting, fingerprintNumbers}
 -- three, with another last checkpoint
 abbrev pub ending : Checkpoint → Index
 ending c = indexOf (area 1000 1250) 100 (checkpoint 0 0 0 ∷ checkpoint 0 0 0 ∷ c ∷ []) none Unknown 2048 [] []
+
+-- thresholds that fall: 4 refuses it
+abbrev pub falling : Index
+falling = indexOf (area 1000 1250) 100 (checkpoint 5 0 0 ∷ checkpoint 0 0 0 ∷ []) none Unknown 2048 [] []
 
 -- without checkpoints
 abbrev pub over : Area → ℕ → Index
@@ -111,8 +115,10 @@ storing budget p = let h = addPart budget (storedIn (holding 33)) p in used (h .
 -- ---- the tables
 unfoldable pub merges : List Example
 merges =
+    -- "own index first in 3 and 4": 3 of both before 4 of either
+    example (numberOf (merge ample falling ample three) ∷ numberOf (merge ample falling short three) ∷ []) (4 ∷ 3 ∷ [])
     -- 41: "same area and interval?"
-    example (mergeNumbers (over (area 1000 1250) 100) (over (area 1000 1250) 50)) (41 ∷ [])
+    ∷ example (mergeNumbers (over (area 1000 1250) 100) (over (area 1000 1250) 50)) (41 ∷ [])
     ∷ example (mergeNumbers (over (area 1000 1250) 100) (over larger 100)) (41 ∷ [])
     ∷ example (mergeNumbers (over (area 1000 1250) 100) (over shorter 100)) (41 ∷ [])
     -- 42: "no differing image id or fingerprint?"

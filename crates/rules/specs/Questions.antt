@@ -13,7 +13,7 @@ use Rattle.rules.specs.declared.Held.{Held}
 use Rattle.rules.specs.declared.Mode.{Mode}
 use Rattle.rules.specs.declared.Mode.the-variants.{Running, Finished, Stopped}
 use Rattle.rules.specs.Tests.{all, isSome, Ask, ask}
-use Rattle.rules.specs.Values.{Frame, Scan, Hinting, Index, Recorder, HintRecorder, Lengths, maxMalformed, maxHints, maxList, mergeRoom, max32, boundaries, count, complete, frontier, counted, stated}
+use Rattle.rules.specs.Values.{Frame, Scan, Hinting, Index, Recorder, HintRecorder, Lengths, maxMalformed, maxHints, maxList, mergeRoom, maxInterval, max32, boundaries, count, complete, frontier, counted, stated}
 use Rattle.rules.specs.Sections.{countsOk, checkpointsOk, framesOk, partsOk, endingOk, malformedOk, hintsOk, confirmationsOk}
 
 -- ---- 1: is the slot 0 or 1 and start ≤ end ≤ 4,294,967,295?
@@ -22,7 +22,7 @@ areaOk a = all (leb (a .key .slot) 1 ∷ leb (a .start) (a .end) ∷ leb (a .end
 
 -- ---- 2: is interval 1..65,536 and budget ≤ 4,294,967,295?
 unfoldable pub numbersOk : ℕ → ℕ → Bool
-numbersOk k budget = all (leb 1 k ∷ leb k 65536 ∷ leb budget max32 ∷ [])
+numbersOk k budget = all (leb 1 k ∷ leb k maxInterval ∷ leb budget max32 ∷ [])
 
 -- ---- 3: are the tables long enough?
 -- for a recorder's tables: checkpoints, frames and parts at least boundaries, frame bytes the budget

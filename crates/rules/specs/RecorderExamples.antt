@@ -106,7 +106,7 @@ recorders =
     (5 ∷ 10 ∷ 1 ∷ 0xaf63dc4c8601ec8c ∷ [])
     -- "No frame under assembly: back 0"
     ∷ example (numbersOf partNumbers (recordAt ample recording 1100 0 0 none sector)) (0 ∷ 0 ∷ 0 ∷ 0 ∷ [])
-    -- "fits the budget": of 100 bytes, 100 are stored and 101 allPassed over; "at most 65,536 bytes"
+    -- "fits the budget": of 100 bytes, 100 are stored and 101 passed over; "at most 65,536 bytes"
     ∷ example (numbersOf partNumbers (recordAt ample recording 1100 0 0 (frameOf 1067 5 100) sector)) (0 ∷ 33 ∷ 1 ∷ 100 ∷ [])
     ∷ example (numbersOf partNumbers (recordAt ample recording 1100 0 0 (frameOf 1067 5 101) sector)) (0 ∷ 33 ∷ 0 ∷ 0 ∷ [])
     ∷ example (numbersOf partNumbers (recordAt ample (roomier recording) 1100 0 0 (frameOf 1067 5 65536) sector)) (0 ∷ 33 ∷ 1 ∷ 65536 ∷ [])
@@ -136,5 +136,5 @@ recorders =
     (6 ∷ 0 ∷ 6 ∷ [])
     ∷ example (numberOf (finish ample allPassed (end 75 2)) ∷ numberOf (finish ample allPassed (end 75 250)) ∷ numberOf (finish ample allPassed (end 75 251)) ∷ [])
     (6 ∷ 0 ∷ 6 ∷ [])
-    -- "1000..1000: 0" boundaries: all are allPassed at once
+    -- "1000..1000: 0" boundaries: all are passed at once
     ∷ example (numberOf (finish ample nowhere (end 0 0)) ∷ numberOf (finish ample nowhere (end 0 1)) ∷ []) (0 ∷ 6 ∷ []) ∷ []

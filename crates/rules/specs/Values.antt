@@ -46,6 +46,10 @@ maxList = 65536
 abbrev pub mergeRoom : ℕ
 mergeRoom = 65536
 
+-- the most that an interval may be (MAX_INTERVAL)
+abbrev pub maxInterval : ℕ
+maxInterval = 65536
+
 -- a part is stored only where back exceeds this (REPLAY_SECTORS)
 abbrev pub replaySectors : ℕ
 replaySectors = 32
