@@ -18,7 +18,7 @@ use Rattle.sizes.specs.Sizes.{hasSizes, sizesFor, fileSizes}
 use Rattle.sizes.specs.Theorems.{loadWithout3}
 use Rattle.sizes.proofs.Files.{load-fits, load-refused}
 use Rattle.disc_sizes.specs.Sizes.{DiscSizes, bodySizes, bothSizes, discSizes}
-use Rattle.disc_theorems.specs.Player.{hasSlot, DiscLoads, DiscSizesTold}
+use Rattle.disc_theorems.specs.Player.{hasSlot, LoadsInTables, DiscSizesTold}
 
 -- ---- a list file
 pub record Listed (r : Answer (Option Index)) : Type 0 where
@@ -85,7 +85,7 @@ module _ (a0 a1 : Area) (b : List ℕ) (limit : ℕ) (t u : Tables) where
   second = bodyOf b (entryOf 1 (entriesIn b))
 
   disc-fits : (d : DiscSizes) → discSizes a0 a1 b limit ≡ Accepted d → hasSlot (d .slot0) t ≡ true → hasSlot (d .slot1) u ≡ true
-      → DiscLoads a0 a1 b limit t u
+      → LoadsInTables a0 a1 b limit t u
   unfolding discSizes bothSizes loadDisc loadBodies
   disc-fits d e h k =
       let r = asked→ (ask (slotArea 0 a0 && slotArea 1 a1) 1 ∷ ask (contentsOk b) 54 ∷ []) _ d refl e in

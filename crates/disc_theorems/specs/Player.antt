@@ -41,14 +41,14 @@ hasSlot none t = true
 hasSlot (some s) t = hasSizes s t
 
 -- a disc file that loads in tables t and u
-pub record DiscLoads (a0 a1 : Area) (b : List ℕ) (limit : ℕ) (t u : Tables) : Type 0 where
+pub record LoadsInTables (a0 a1 : Area) (b : List ℕ) (limit : ℕ) (t u : Tables) : Type 0 where
   pub lists : Disc
   pub loads : loadDisc (roomOf t) (roomOf u) a0 a1 b limit ≡ Accepted lists
 
 pub record DiscSizesTold : Type 0 where
   -- in tables of at least the sizes told, loading never answers 3, nor any other number
   pub fits : (a0 a1 : Area) (b : List ℕ) (limit : ℕ) (t u : Tables) (d : DiscSizes) → discSizes a0 a1 b limit ≡ Accepted d
-      → hasSlot (d .slot0) t ≡ true → hasSlot (d .slot1) u ≡ true → DiscLoads a0 a1 b limit t u
+      → hasSlot (d .slot0) t ≡ true → hasSlot (d .slot1) u ≡ true → LoadsInTables a0 a1 b limit t u
   -- where no sizes are told, loading refuses with the same number, if the tables of slot 0 have the sizes of its body
   pub refused : (a0 a1 : Area) (b : List ℕ) (limit n : ℕ) (t u : Tables) → discSizes a0 a1 b limit ≡ Refused n
       → ((s : Option TableSizes) → bodySizes a0 limit (bodyOf b (entryOf 0 (entriesIn b))) ≡ Accepted s → hasSlot s t ≡ true)
