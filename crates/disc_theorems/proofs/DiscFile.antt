@@ -21,13 +21,13 @@ use Rattle.rules.specs.Sizes.{sized}
 use Rattle.rules.specs.File.{readHeader, headerBytes, headerOf, bodyOf, saved, savedLength}
 use Rattle.rules.specs.Load.{limited, load}
 use Rattle.rules.proofs.Tests.{test, order, never, all→, and-left, and-right, both as each-of, asked→, →asked, accepted-eq, bind→, →bind}
-use Rattle.filelaws.specs.Statements.{Savable}
+use Rattle.filelaws.specs.Statements.{Savable, stripped}
 use Rattle.filelaws.proofs.Facts.{facts}
 use Rattle.filelaws.proofs.Header.{header-fits}
 use Rattle.filelaws.proofs.Layouts.{header-back}
 use Rattle.filelaws.proofs.Length.{savedLength-is}
 use Rattle.filelaws.proofs.Limit.{limited-load, large-limit}
-use Rattle.theorems.specs.Terms.{Valid, asSaved, Ample}
+use Rattle.theorems.specs.Terms.{Valid, Ample}
 use Rattle.theorems.proofs.Accepts.{refuses-nothing}
 use Rattle.rules.specs.declared.Entry.{Entry}
 use Rattle.rules.specs.Disc.{Disc, entry, encodeEntry, slotOf, slotArea, entriesIn, entryOf, entriesFrom, contentsOf, contentsOk, listed, bodiesLength, discLength, discBytes, loadBody, loadBodies, loadDisc, saveLists, saveOne, bySlot, saveBoth}
@@ -272,7 +272,7 @@ one-loads =
     }
 
 -- under a limit that drops nothing
-whole : (limit : ℕ) (l : Lengths) (x : Index) → Valid l x → Ample limit x → limited limit x ≡ asSaved x
+whole : (limit : ℕ) (l : Lengths) (x : Index) → Valid l x → Ample limit x → limited limit x ≡ stripped x
 whole limit l x v a = large-limit limit x (v .four) (a .budget) (a .hints)
 
 whole-room : (limit : ℕ) (l l' : Lengths) (x : Index) → Valid l x → Ample limit x → question3 l' x ≡ true → question3 l' (limited limit x) ≡ true

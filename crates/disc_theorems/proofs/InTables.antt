@@ -14,14 +14,14 @@ use Rattle.rules.specs.Values.{Index, Lengths}
 use Rattle.rules.specs.Questions.{question3}
 use Rattle.rules.specs.File.{over}
 use Rattle.rules.specs.Disc.{Disc, entriesIn, entryOf, slotOf, saveOne, saveBoth, loadDisc}
-use Rattle.filelaws.specs.Statements.{Savable}
+use Rattle.filelaws.specs.Statements.{Savable, stripped}
 use Rattle.filelaws.proofs.Facts.{facts}
 use Rattle.index.specs.Index.{Tables, roomOf, indexIn, numbersFrom, tablesFrom, kindsIn, kinded}
 use Rattle.index.proofs.Lent.{sized-in}
 use Rattle.index.proofs.Standing.{stands, kinds-from, within, room-from}
 use Rattle.save.specs.declared.Saved.the-variants.{Length}
 use Rattle.save.specs.Save.{made, saveOut}
-use Rattle.theorems.specs.Terms.{Valid, asSaved, Ample}
+use Rattle.theorems.specs.Terms.{Valid, Ample}
 use Rattle.theorems.proofs.RoundTripInTables.{Wrote, wrote}
 use Rattle.disc_load.specs.declared.Listed.{Listed}
 use Rattle.disc_load.specs.declared.Listed.the-variants as listed
@@ -76,7 +76,7 @@ saved-disc-loads-in =
           let v = savable (roomOf t) i (first-valid (roomOf t) i (roomOf u) j (length old) (w .file) r) zx in
           let z = savable (roomOf u) j (second-valid (roomOf t) i (roomOf u) j (length old) (w .file) r) zy in
           let d = disc-loads .both (roomOf t) (roomOf u) (roomOf t') (roomOf u') i j (length old) limit (w .file) zx zy p q r g h a c in
-          rw (w .bytes) (holds-both (x .area) (y .area) (w .file) limit t' u' (asSaved i) (asSaved j) (as-saved i v) (as-saved j z) d);
+          rw (w .bytes) (holds-both (x .area) (y .area) (w .file) limit t' u' (stripped i) (stripped j) (as-saved i v) (as-saved j z) d);
       first = λ x t o old k new limit t' u' hx bt p q e g a.
           let i = indexIn x t in
           let w = wrote _ old k new e in
@@ -84,7 +84,7 @@ saved-disc-loads-in =
           let z = sized-in x t hx bt in
           let v = savable (roomOf t) i (one-valid (roomOf t) i (length old) (w .file) r) z in
           let d = disc-loads .first (roomOf t) (roomOf t') (roomOf u') i o (length old) limit (w .file) z p q r g a in
-          rw (w .bytes) (holds-first (x .area) o (w .file) limit t' u' (asSaved i) (as-saved i v) d);
+          rw (w .bytes) (holds-first (x .area) o (w .file) limit t' u' (stripped i) (as-saved i v) d);
       second = λ y u o old k new limit t' u' hy bu p q e g a.
           let j = indexIn y u in
           let w = wrote _ old k new e in
@@ -92,7 +92,7 @@ saved-disc-loads-in =
           let z = sized-in y u hy bu in
           let v = savable (roomOf u) j (one-valid (roomOf u) j (length old) (w .file) r) z in
           let d = disc-loads .second (roomOf u) (roomOf t') (roomOf u') j o (length old) limit (w .file) z p q r g a in
-          rw (w .bytes) (holds-second o (y .area) (w .file) limit t' u' (asSaved j) (as-saved j v) d);
+          rw (w .bytes) (holds-second o (y .area) (w .file) limit t' u' (stripped j) (as-saved j v) d);
       swapped = swap-in;
     }
 

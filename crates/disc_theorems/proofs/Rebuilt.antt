@@ -22,7 +22,7 @@ use Rattle.rules.specs.Questions.{areaOk, question1, question2, question3, ques
 use Rattle.rules.specs.File.{readHeader, saved, savedLength, save}
 use Rattle.rules.specs.Load.{bodyIn, fromBytes, fileNumber, headerNumber, readSections, limited, load}
 use Rattle.rules.proofs.Tests.{test, all→, →all, asked→, →asked, accepted-eq, after→, bind→}
-use Rattle.filelaws.specs.Statements.{Savable}
+use Rattle.filelaws.specs.Statements.{Savable, stripped}
 use Rattle.filelaws.proofs.Facts.{sized→}
 use Rattle.filelaws.proofs.Length.{savedLength-is}
 use Rattle.filelaws.proofs.Limit.{large-limit}
@@ -30,7 +30,7 @@ use Rattle.filelaws.proofs.Loaded.{loaded-valid}
 use Rattle.filelaws.proofs.Question4.{saved-bytes}
 use Rattle.filelaws.proofs.Saved.{load-of-save}
 use Rattle.filelaws.proofs.Parsed.{sections-forth}
-use Rattle.theorems.specs.Terms.{asSaved, Ample}
+use Rattle.theorems.specs.Terms.{Ample}
 use Rattle.theorems.proofs.Closure.{load→}
 use Rattle.theorems.proofs.RoundTrip.{loaded-saves}
 use Rattle.rules.specs.declared.Entry.{Entry}
@@ -201,9 +201,9 @@ pub record Kept (l : Lengths) (a : Area) (c : List ℕ) (x : Index) : Type 0 whe
   pub slot : slotOf x ≡ a .key .slot
 
 -- a list as a file holds it may be saved
-pub as-saved : (x : Index) → Savable x → Savable (asSaved x)
+pub as-saved : (x : Index) → Savable x → Savable (stripped x)
 unfolding question1
-as-saved x v = loaded-valid (x .scan .area) (saved x) (asSaved x) (saved-bytes x (sized→ x (v .sizes))) (v .one) (load-of-save x v)
+as-saved x v = loaded-valid (x .scan .area) (saved x) (stripped x) (saved-bytes x (sized→ x (v .sizes))) (v .one) (load-of-save x v)
 
 loaded-area : (a : Area) (b : List ℕ) (x : Index) → Bytes b → fromBytes a b ≡ Accepted x → x .scan .area ≡ a
 unfolding fromBytes
@@ -219,7 +219,7 @@ loaded-area a b x g e =
 list-savable : (a : Area) (c : List ℕ) (limit : ℕ) (w x : Index) → Bytes c → areaOk a ≡ true → fromBytes a c ≡ Accepted w → Ample limit w → limited limit w ≡ x → Savable x
 list-savable a c limit w x g o e m i =
     let v = loaded-valid a c w g o e in
-    let j : asSaved w ≡ x = sym (large-limit limit w (v .four) (m .budget) (m .hints)) ∙ i in
+    let j : stripped w ≡ x = sym (large-limit limit w (v .four) (m .budget) (m .hints)) ∙ i in
     rw (← j) (as-saved w v)
 
 pub kept : (l : Lengths) (a : Area) (c : List ℕ) (limit : ℕ) (x : Index) → Bytes c → ((w : Index) → fromBytes a c ≡ Accepted w → Ample limit w)

@@ -14,7 +14,8 @@ use Rattle.rules.specs.Questions.{question3}
 use Rattle.rules.specs.Sizes.{sized}
 use Rattle.rules.specs.File.{saved, save}
 use Rattle.rules.specs.Load.{limited, fromBytes, load}
-use Rattle.theorems.specs.Terms.{Valid, asSaved, Ample}
+use Rattle.filelaws.specs.Statements.{stripped}
+use Rattle.theorems.specs.Terms.{Valid, Ample}
 use Rattle.rules.specs.Disc.{Disc, slotOf, slotArea, entriesIn, entryOf, bodyOf, saveOne, saveBoth, loadDisc}
 
 -- "Pairs of lists with equal saved content have one disc file", whichever is given first: pairs that pass 1 to 4 are answered alike, number and bytes
@@ -52,13 +53,13 @@ pub record OneLoads : Type 0 where
 pub record DiscLoads : Type 0 where
   pub both : (l m l' m' : Lengths) (x y : Index) (out limit : ℕ) (b : List ℕ) → sized x ≡ true → sized y ≡ true → slotOf x ≡ 0 → slotOf y ≡ 1
       → saveBoth l x m y out ≡ Accepted b → question3 l' x ≡ true → question3 m' y ≡ true → Ample limit x → Ample limit y
-      → loadDisc l' m' (x .scan .area) (y .scan .area) b limit ≡ Accepted (disc (some (asSaved x)) (some (asSaved y)))
+      → loadDisc l' m' (x .scan .area) (y .scan .area) b limit ≡ Accepted (disc (some (stripped x)) (some (stripped y)))
   pub first : (l l' m' : Lengths) (x : Index) (a : Area) (out limit : ℕ) (b : List ℕ) → sized x ≡ true → slotOf x ≡ 0 → slotArea 1 a ≡ true
       → saveOne l x out ≡ Accepted b → question3 l' x ≡ true → Ample limit x
-      → loadDisc l' m' (x .scan .area) a b limit ≡ Accepted (disc (some (asSaved x)) none)
+      → loadDisc l' m' (x .scan .area) a b limit ≡ Accepted (disc (some (stripped x)) none)
   pub second : (l l' m' : Lengths) (y : Index) (a : Area) (out limit : ℕ) (b : List ℕ) → sized y ≡ true → slotOf y ≡ 1 → slotArea 0 a ≡ true
       → saveOne l y out ≡ Accepted b → question3 m' y ≡ true → Ample limit y
-      → loadDisc l' m' a (y .scan .area) b limit ≡ Accepted (disc none (some (asSaved y)))
+      → loadDisc l' m' a (y .scan .area) b limit ≡ Accepted (disc none (some (stripped y)))
 
 -- the body of slot k in the disc file b
 abbrev pub bodyIn : List ℕ → ℕ → Option (List ℕ)

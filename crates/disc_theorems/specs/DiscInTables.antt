@@ -15,7 +15,8 @@ use Rattle.index.specs.Index.{Tables, roomOf, indexIn}
 use Rattle.index.specs.Lent.{Typed, TableBytes}
 use Rattle.save.specs.declared.Saved.the-variants.{Length}
 use Rattle.save.specs.Save.{made}
-use Rattle.theorems.specs.Terms.{asSaved, Ample}
+use Rattle.filelaws.specs.Statements.{stripped}
+use Rattle.theorems.specs.Terms.{Ample}
 use Rattle.disc_load.specs.declared.Listed.the-variants as listed
 use Rattle.disc_load.specs.declared.Loaded.the-variants as loaded
 use Rattle.disc_load.specs.Calls.{DiscOut, discOut, loadDiscIn}
@@ -49,13 +50,13 @@ pub record SavedDiscLoadsIn : Type 0 where
   pub both : (x y : AreaIndex) (t u : Tables) (old : List ℕ) (k : ℕ) (new : List ℕ) (limit : ℕ) (t' u' : Tables) → Typed x → Typed y → TableBytes t → TableBytes u
       → x .area .key .slot ≡ 0 → y .area .key .slot ≡ 1 → saveBothIn x t y u old ≡ made (Length k) new
       → question3 (roomOf t') (indexIn x t) ≡ true → question3 (roomOf u') (indexIn y u) ≡ true → Ample limit (indexIn x t) → Ample limit (indexIn y u)
-      → HoldsBoth (loadDiscIn (x .area) (y .area) (take k new) limit t' u') (asSaved (indexIn x t)) (asSaved (indexIn y u))
+      → HoldsBoth (loadDiscIn (x .area) (y .area) (take k new) limit t' u') (stripped (indexIn x t)) (stripped (indexIn y u))
   pub first : (x : AreaIndex) (t : Tables) (a : Area) (old : List ℕ) (k : ℕ) (new : List ℕ) (limit : ℕ) (t' u' : Tables) → Typed x → TableBytes t
       → x .area .key .slot ≡ 0 → slotArea 1 a ≡ true → saveOneIn x t old ≡ made (Length k) new → question3 (roomOf t') (indexIn x t) ≡ true → Ample limit (indexIn x t)
-      → HoldsFirst (loadDiscIn (x .area) a (take k new) limit t' u') (asSaved (indexIn x t)) u'
+      → HoldsFirst (loadDiscIn (x .area) a (take k new) limit t' u') (stripped (indexIn x t)) u'
   pub second : (y : AreaIndex) (u : Tables) (a : Area) (old : List ℕ) (k : ℕ) (new : List ℕ) (limit : ℕ) (t' u' : Tables) → Typed y → TableBytes u
       → y .area .key .slot ≡ 1 → slotArea 0 a ≡ true → saveOneIn y u old ≡ made (Length k) new → question3 (roomOf u') (indexIn y u) ≡ true → Ample limit (indexIn y u)
-      → HoldsSecond (loadDiscIn a (y .area) (take k new) limit t' u') t' (asSaved (indexIn y u))
+      → HoldsSecond (loadDiscIn a (y .area) (take k new) limit t' u') t' (stripped (indexIn y u))
   -- whichever is given first
   pub swapped : (x y : AreaIndex) (t u : Tables) (old : List ℕ) → saveBothIn x t y u old ≡ saveBothIn y u x t old
 
