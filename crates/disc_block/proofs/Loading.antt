@@ -1,10 +1,10 @@
 -- What loading a disc file leaves in the blocks. Assumes nothing.
-use mathlib.Core.Path.{_≡_, ap}
+use mathlib.Core.Path.{_≡_}
 use mathlib.Core.List.{List}
 use Prim.Native.Nat.{ℕ}
 use Rattle.rules.specs.File.{over}
 use Rattle.head.specs.Head.{blockOf}
-use Rattle.block.specs.Block.{Called, called, two}
+use Rattle.block.specs.Block.{called, two}
 use Rattle.disc_load.specs.declared.Listed.{Listed}
 use Rattle.disc_load.specs.declared.Loaded.{Loaded}
 use Rattle.disc_load.specs.declared.Loaded.the-variants as loaded

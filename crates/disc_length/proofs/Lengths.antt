@@ -1,16 +1,15 @@
 -- What is told of a disc file's length. Assumes nothing.
-use mathlib.Core.Path.{_≡_, refl, sym, ap, _∙_}
-use mathlib.Core.Bool.{Bool, true, false, cond}
-use mathlib.Core.List.{List, [], _∷_}
-use Prim.Native.Nat.{ℕ, _+_, _≤_, _<_}
-use native.Mathlib.Omega.{arith}
-use borrow.Author.Tests.{leb-true, lt-ltb, le-ltb, ne-eqb, eq-eqb}
-use lib.Dec.{eqb, ltb}
+use mathlib.Core.Path.{_≡_, refl, sym, _∙_}
+use mathlib.Core.Bool.{Bool, true, false}
+use mathlib.Core.List.{[], _∷_}
+use Prim.Native.Nat.{ℕ, _+_, _≤_}
+use borrow.Author.Tests.{leb-true, ne-eqb}
+use lib.Dec.{ltb}
 use Rattle.rules.specs.declared.AreaIndex.{AreaIndex}
 use Rattle.rules.specs.Values.{Index, max32}
 use Rattle.rules.specs.File.{savedLength}
 use Rattle.rules.proofs.Tests.{test, all→}
-use Rattle.rules.specs.Disc.{entry, slotOf, contentsOf, listed, discLength, bySlot}
+use Rattle.rules.specs.Disc.{entry, slotOf, listed, bySlot}
 use Rattle.index.specs.Index.{Tables, indexIn, refusal}
 use Rattle.index.specs.Needs.{lowest}
 use Rattle.join.proofs.Refusal.{lowest-zero}

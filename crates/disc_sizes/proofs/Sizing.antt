@@ -1,14 +1,14 @@
 -- What is told of a disc file's sizes. Assumes nothing.
-use mathlib.Core.Path.{_≡_, refl, sym, ap, _∙_}
+use mathlib.Core.Path.{_≡_, _∙_}
 use mathlib.Core.Bool.{Bool, true, false, _&&_}
 use mathlib.Core.List.{List}
-use mathlib.Core.Option.{Option, none, some}
+use mathlib.Core.Option.{some}
 use Prim.Native.Nat.{ℕ, _+_, _-_}
 use native.Mathlib.Omega.{arith}
 use lib.ListN.{take, drop}
 use Rattle.rules.specs.declared.Area.{Area}
 use Rattle.rules.specs.declared.Entry.{Entry}
-use Rattle.rules.specs.Tests.{Answer, Accepted, firstNo, after, bind}
+use Rattle.rules.specs.Tests.{Accepted, firstNo, after, bind}
 use Rattle.rules.specs.Disc.{bodyOf, slotArea}
 use Rattle.disc_table.specs.declared.Contents.the-variants.{Broken, Lists}
 use Rattle.disc_table.specs.declared.Place.{Place}
@@ -16,14 +16,13 @@ use Rattle.disc_table.specs.declared.Place.the-variants.{Absent, At}
 use Rattle.disc_table.specs.Contents.{entryIn, contentsIn}
 use Rattle.disc_table.proofs.Inside.{locates, breaks}
 use Rattle.sizes.specs.declared.Sized.{Sized}
-use Rattle.sizes.specs.declared.TableSizes.{TableSizes}
 use Rattle.sizes.specs.Sizes.{sizedOf, fileSizes}
 use Rattle.disc_sizes.specs.declared.SlotSizes.the-variants as slot
 use Rattle.disc_sizes.specs.declared.BodySized.{BodySized}
 use Rattle.disc_sizes.specs.declared.BodySized.the-variants as body
 use Rattle.disc_sizes.specs.declared.DiscSized.{DiscSized}
 use Rattle.disc_sizes.specs.declared.DiscSized.the-variants as disc
-use Rattle.disc_sizes.specs.Sizes.{DiscSizes, bodySizes, bothSizes, discSizes, slotSizesOf, bodySizedOf, discSizedOf}
+use Rattle.disc_sizes.specs.Sizes.{bodySizes, bothSizes, discSizes, slotSizesOf, bodySizedOf, discSizedOf}
 
 -- ---- one slot
 module _ (a : Area) (limit : ℕ) (b : List ℕ) where

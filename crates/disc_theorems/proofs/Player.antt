@@ -1,16 +1,14 @@
 -- The number that saving a disc file answers, and its length. Assumes nothing.
-use Prim.Native.Nat.{ℕ, _+_, _≤_}
+use Prim.Native.Nat.{ℕ, _≤_}
 use mathlib.Core.Path.{_≡_, refl, sym, ap, _∙_}
-use mathlib.Core.Bool.{Bool, true, false, cond}
+use mathlib.Core.Bool.{Bool, true, false}
 use mathlib.Core.List.{List, [], _∷_}
 use native.Mathlib.Omega.{arith}
 use borrow.Author.Tests.{le-leb, eqb-true, eqb-false}
-use lib.Dec.{eqb, leb, ltb}
+use lib.Dec.{eqb, ltb}
 use lib.ListN.{length}
-use Rattle.rules.specs.declared.AreaIndex.{AreaIndex}
-use Rattle.rules.specs.Tests.{Answer, Refused, Accepted, ask, firstNo, after, numberOf}
+use Rattle.rules.specs.Tests.{Refused, Accepted, ask, firstNo, after, numberOf}
 use Rattle.rules.specs.Values.{Index}
-use Rattle.rules.specs.File.{savedLength}
 use Rattle.rules.specs.Disc.{slotOf, contentsOf, listed, bodiesLength, discLength, discBytes, saveLists, saveOne, bySlot, saveBoth}
 use Rattle.rules.proofs.Tests.{test}
 use Rattle.filelaws.proofs.Length.{savedLength-is}

@@ -9,8 +9,8 @@ use Rattle.rules.specs.declared.Area.{Area}
 use Rattle.rules.specs.Tests.{Answer, Refused, Accepted, ask, firstNo, after, bind}
 use Rattle.rules.specs.Values.{Index}
 use Rattle.rules.specs.Questions.{areaOk}
-use Rattle.rules.specs.Load.{fromBytes, limited, load}
-use Rattle.rules.specs.Disc.{Disc, entriesIn, entryOf, contentsOk, bodyOf, slotArea, loadBody, loadBodies, loadDisc}
+use Rattle.rules.specs.Load.{fromBytes, limited}
+use Rattle.rules.specs.Disc.{entriesIn, entryOf, contentsOk, bodyOf, slotArea, loadBody, loadBodies, loadDisc}
 use Rattle.rules.proofs.Tests.{asked→, →asked, accepted-eq, bind→, →bind}
 use Rattle.index.specs.Index.{Tables, roomOf}
 use Rattle.sizes.specs.declared.TableSizes.{TableSizes}

@@ -1,7 +1,7 @@
 -- What each call answers where its blocks are long enough, from what the calls in it ensure. Assumes nothing.
 use mathlib.Core.Path.{_≡_}
 use mathlib.Core.List.{List}
-use Prim.Native.Nat.{ℕ, _≤_, _<_}
+use Prim.Native.Nat.{ℕ, _≤_}
 use lib.ListN.{length}
 use Rattle.rules.specs.declared.Area.{Area}
 use Rattle.rules.specs.declared.AreaIndex.{AreaIndex}
@@ -9,7 +9,7 @@ use Rattle.index.specs.Index.{Tables}
 use Rattle.save.specs.Save.{made}
 use Rattle.save.specs.declared.Saved.{Saved}
 use Rattle.block.specs.Block.{called, into, headIndex, savedNumber}
-use Rattle.block.proofs.Blocks.{too-short, long-enough}
+use Rattle.block.proofs.Blocks.{long-enough}
 use Rattle.disc_table.specs.declared.Contents.{Contents}
 use Rattle.disc_table.specs.Contents.{contentsIn}
 use Rattle.disc_load.specs.declared.Loaded.{Loaded}

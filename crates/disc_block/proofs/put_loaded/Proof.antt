@@ -1,4 +1,3 @@
-use mathlib.Core.Path.{sym, ap, _∙_}
 use Rattle.disc_block.specs.Block.{loadedInto}
 use Rattle.disc_block.proofs.Loading.{lists-put}
 use borrow.Author.Needs.{needs}
