@@ -1,10 +1,7 @@
 // All lines of a script.
 use crate::input;
 use crate::output;
-use command::parse;
 use given::least;
-use given::read_given;
-use perform::perform;
 use place::Checkpoints;
 use place::Confirmed;
 use place::Frames;
@@ -12,95 +9,20 @@ use place::HintList;
 use place::Hints;
 use place::Malformed;
 use place::Parts;
-use place::Places;
 use place::Store;
 use place::no_places;
-use print::put_line;
+use run_line::State;
+use run_line::answer_line;
 use script::Position;
 
-// The places, and where the next answer goes.
-pub struct State {
-    pub places: Places,
-    pub end: Position,
-}
-
-// Has the line no answer?
-fn is_silent(line: &[u8]) -> bool {
-    if line.len() == 0 {
-        return true;
-    }
-    line[0] == 35
-}
-
-// A line's call is made, and its answer printed.
-fn answer_line(
-    line: &[u8],
-    state: State,
-    out: &mut [u8; 65536],
-    data: &mut [u8; 266240],
-    checkpoints: &mut [Checkpoints; 4],
-    frames: &mut [Frames; 4],
-    store: &mut [Store; 4],
-    parts: &mut [Parts; 4],
-    malformed: &mut [Malformed; 4],
-    hints: &mut [Hints; 4],
-    confirmed: &mut [Confirmed; 4],
-    recorder_checkpoints: &mut [Checkpoints; 4],
-    recorder_frames: &mut [Frames; 4],
-    recorder_store: &mut [Store; 4],
-    recorder_parts: &mut [Parts; 4],
-    list: &mut HintList,
-) -> State {
-    if is_silent(line) {
-        return state;
-    }
+// What was answered is written, where that is much.
+fn flushed(out: &[u8; 65536], state: State) -> State {
     let places = state.places;
     let end = state.end;
-    let p = output::flush(out, end, 32768);
-    let asked = parse(line);
-    let n = read_given(asked, line, data);
-    let step = perform(
-        asked,
+    State {
         places,
-        data,
-        n,
-        checkpoints,
-        frames,
-        store,
-        parts,
-        malformed,
-        hints,
-        confirmed,
-        recorder_checkpoints,
-        recorder_frames,
-        recorder_store,
-        recorder_parts,
-        list,
-    );
-    let answer = step.answer;
-    let after = step.places;
-    let end = put_line(
-        out,
-        p,
-        line,
-        asked,
-        answer,
-        after,
-        data,
-        list,
-        checkpoints,
-        frames,
-        store,
-        parts,
-        malformed,
-        hints,
-        confirmed,
-        recorder_checkpoints,
-        recorder_frames,
-        recorder_store,
-        recorder_parts,
-    );
-    State { places: after, end }
+        end: output::flush(out, end, 32768),
+    }
 }
 
 // Replays all lines.
@@ -137,6 +59,7 @@ pub fn replay(
             return;
         }
         if read.whole {
+            state = flushed(out, state);
             let len = read.len;
             let n = least(len.at, line.len());
             state = answer_line(
