@@ -15,8 +15,8 @@ use Rattle.rules.proofs.Tests.{asked→, →asked, accepted-eq, bind→, →bin
 use Rattle.index.specs.Index.{Tables, roomOf}
 use Rattle.sizes.specs.declared.TableSizes.{TableSizes}
 use Rattle.sizes.specs.Sizes.{hasSizes, sizesFor, fileSizes}
-use Rattle.sizes.specs.Theorems.{loadWithout3}
-use Rattle.sizes.proofs.Files.{load-fits, load-refused}
+use Rattle.theorems.specs.Player.{loadWithout3}
+use Rattle.theorems.proofs.Sizes.{load-fits, load-refused}
 use Rattle.disc_sizes.specs.Sizes.{DiscSizes, bodySizes, bothSizes, discSizes}
 use Rattle.disc_theorems.specs.Player.{hasSlot, LoadsInTables, DiscSizesTold}
 
