@@ -1,5 +1,4 @@
 // Confirmations: two lists in the order of the LSN joined in one pass, of which the last M are kept.
-use field::min_u64;
 use field::write_u32;
 use field::write_u64;
 use hintmerge::move_up;
@@ -7,7 +6,7 @@ use hints::spent;
 use rules::Confirmation;
 use table::read_confirmation;
 ghost use mathlib.Core.Path.{_≡_};
-ghost use Prim.Native.Nat.{_+_, _-_, _*_, _≤_, _<_};
+ghost use Prim.Native.Nat.{_+_, _-_, _*_, _≤_, _<_, min};
 ghost use lib.ListN.{length};
 ghost use lib.Seq.{sets};
 ghost use Rattle.rules.specs.File.{decodeConfirmation, encodeConfirmation};
@@ -16,15 +15,22 @@ ghost use Rattle.hintlaws.specs.Passes.{between, Begins, Left, Takes, Fits};
 ghost use Rattle.table.specs.Tables.{confirmationsIn};
 ghost use Rattle.confirm.specs.Kept.{confirmationsMerged, lastLsn, Rising, Splits, Keeps};
 
+// The lower of two thresholds.
+fn lower_threshold(a: u32, b: u32) -> u32
+    ensures { λ r. ⌜ r ≡ min a b ⌝ }
+{
+    if a < b { a } else { b }
+}
+
 // Two confirmations at one LSN, x being held: the lower threshold of one digest, else the new one.
 fn met(x: Confirmation, y: Confirmation) -> Confirmation
     ensures { λ r. ⌜ r ≡ heldConfirmation x y ⌝ }
 {
     if x.digest == y.digest {
-        let lower = min_u64(x.threshold as u64, y.threshold as u64);
+        let lower = lower_threshold(x.threshold, y.threshold);
         return Confirmation {
             lsn: x.lsn,
-            threshold: lower as u32,
+            threshold: lower,
             digest: x.digest,
         };
     }

@@ -4,11 +4,17 @@ use Rattle.confirm.proofs.met.Statement.{statement}
 use Rattle.confirm.proofs.met.Tie as tie
 
 returns : tie.Need-returns
-returns c = let a = c .before .before .before .before .before .before .args in met-lower (a .x) (a .y) (c .before .before .before .if1 .taken) (c .min-u64 .ensures)
+returns c =
+    let same : tie.Then1 = search in
+    let start : tie.Start = search in
+    let a = start .args in
+    met-lower (a .x) (a .y) (same .if1 .taken) (c .lower-threshold .ensures)
 
 returns-2 : tie.Need-returns-2
-returns-2 c = let a = c .before .before .before .args in met-other (a .x) (a .y) (c .if1 .left)
+returns-2 c =
+    let start : tie.Start = search in
+    let a = start .args in
+    met-other (a .x) (a .y) (c .if1 .left)
 
 pub met-spec : {M : Type 1} → statement M
-met-spec =
-    tie.close (tie.spec (λ c. search needs) (λ c. search needs) (λ c κs. search needs) (λ c. search needs) returns returns-2)
+met-spec = tie.close (tie.spec (λ c κs. search needs) returns returns-2)
