@@ -50,27 +50,27 @@ fn line(t: Tally, name: &[u8], got: First, want: First) -> Tally
 pub fn examples(t: Tally) -> Tally
     ensures { λ r. ⌜ r ≡ allRight 4 t ⌝ }
 {
-    let whole = hints::first_record(b"\x24\0\0\x01\x02\x03");
+    let whole = first_record::first_record(b"\x24\0\0\x01\x02\x03");
     let t = line(
         t,
         b"first record, header 0x24 with 1 2 3 at 3",
         whole,
         First::Number(4653),
     );
-    let frameless = hints::first_record(b"\x20\0\0\x01\x02\x03");
+    let frameless = first_record::first_record(b"\x20\0\0\x01\x02\x03");
     let t = line(
         t,
         b"first record, header 0x20 with 1 2 3 at 3",
         frameless,
         First::Nothing,
     );
-    let short = hints::first_record(b"\x24\0\0\x01\x02");
+    let short = first_record::first_record(b"\x24\0\0\x01\x02");
     let t = line(
         t,
         b"first record, header 0x24 with 1 2 at 3",
         short,
         First::Nothing,
     );
-    let empty = hints::first_record(b"");
+    let empty = first_record::first_record(b"");
     line(t, b"first record, no bytes", empty, First::Nothing)
 }

@@ -2,7 +2,7 @@
 use field::and;
 use field::min_u64;
 use field::or;
-use hints::first_record;
+use first_record::first_record;
 use hints::write_hint;
 use rules::AreaIndex;
 use rules::First;

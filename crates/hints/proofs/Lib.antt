@@ -1,3 +1,2 @@
-mod Record
 pub mod Ranks
 pub mod Steps

@@ -1,15 +1,13 @@
-// Seek hints: the first record of a sector, and thinning.
+// Thinning of hints without a second table: the cutoff gap by bisection, then one pass that keeps what stays.
 use field::and;
 use field::copy_first;
 use field::or;
 use field::write_u32;
-use rules::First;
 use rules::Hint;
 use table::read_hint;
 ghost use mathlib.Core.Path.{_≡_};
 ghost use Prim.Native.Nat.{_+_, _<_, _≤_, _-_, _*_, min};
 ghost use lib.ListN.{length};
-ghost use Rattle.rules.specs.FirstRecord.{firstRecord, frames, packets, timeAt};
 ghost use mathlib.Core.Bool.{cond, _&&_, _||_};
 ghost use lib.Dec.{eqb, ltb};
 ghost use lib.Seq.{sets};
@@ -18,55 +16,7 @@ ghost use Rattle.rules.specs.Hints.{rise, thin};
 ghost use Rattle.table.specs.Tables.{hintsIn};
 ghost use Rattle.hints.specs.Thin.{one, lower, remaining, stayed, firstPlace, nextPlace, Cuts, Starts};
 
-// ---- the first record
-// A byte as a u32.
-fn wide(x: u8) -> u32
-    ensures { λ r. ⌜ (r ≡ x) × (r < 256) ⌝ }
-{
-    x as u32
-}
-
-// How many frames start in a sector, by its header byte.
-fn frames_of(header: u8) -> u8
-    ensures { λ r. ⌜ r ≡ frames header ⌝ }
-{
-    (header >> 2) & 7
-}
-
-// How many packets a sector has, by its header byte.
-fn packets_of(header: u8) -> usize
-    ensures { λ r. ⌜ (r ≡ packets header) × (r < 8) ⌝ }
-{
-    (header >> 5) as usize
-}
-
-// The frame number in the three bytes from r on.
-fn time_at(sector: &[u8], r: usize) -> u32
-    requires { ⌜ r + 3 ≤ length (now sector) ⌝ }
-    ensures { λ t. ⌜ t ≡ timeAt (now (sector .entry)) r ⌝ }
-{
-    (wide(sector[r]) * 60 + wide(sector[r + 1])) * 75 + wide(sector[r + 2])
-}
-
-// The first frame record of a sector, as a frame number.
-pub fn first_record(sector: &[u8]) -> First
-    ensures { λ r. ⌜ r ≡ firstRecord (now (sector .entry)) ⌝ }
-{
-    if sector.len() == 0 {
-        return First::Nothing;
-    }
-    let header = sector[0];
-    if frames_of(header) == 0 {
-        return First::Nothing;
-    }
-    let r = 1 + 2 * packets_of(header);
-    if sector.len() < r + 3 {
-        return First::Nothing;
-    }
-    First::Number(time_at(sector, r))
-}
-
-// ---- thinning without a second table: the cutoff gap by bisection, then one pass that keeps what stays
+// The rise from the number before.
 pub fn rise_of(p: u32, t: u32) -> u64
     ensures { λ r. ⌜ r ≡ rise p t ⌝ }
 {

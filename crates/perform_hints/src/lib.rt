@@ -83,7 +83,7 @@ fn change(command: Command, old: Hinting, data: &[u8], n: usize, list: &mut Hint
         Command::See(lsn) => see(old, lsn, &data[0..n], list),
         Command::Flush => flush(old, list),
         Command::FirstRecord => HintStep {
-            answer: Answer::First(hints::first_record(&data[0..n])),
+            answer: Answer::First(first_record::first_record(&data[0..n])),
             hinting: old,
         },
         _ => HintStep {

@@ -32,7 +32,7 @@ pub extern "C" fn seek_raw_first_record(sector: &[u8], answer: &mut [u8]) -> u32
     if answer.len() < HEAD_BYTES {
         return 3;
     }
-    let first = hints::first_record(sector);
+    let first = first_record::first_record(sector);
     put_first(answer, first)
 }
 

@@ -1,9 +1,9 @@
 -- Each return is one answer of the definition.
 use mathlib.Core.Path.{sym, _∙_}
 use borrow.Author.Needs.{needs}
-use Rattle.hints.proofs.Record.{empty, frameless, short, whole}
-use Rattle.hints.proofs.first_record.Statement.{statement}
-use Rattle.hints.proofs.first_record.Tie as tie
+use Rattle.first_record.proofs.Record.{empty, frameless, short, whole}
+use Rattle.first_record.proofs.first_record.Statement.{statement}
+use Rattle.first_record.proofs.first_record.Tie as tie
 
 returns : tie.Need-returns
 returns c = empty _ (c .if1 .taken)

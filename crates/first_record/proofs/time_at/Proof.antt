@@ -1,8 +1,8 @@
 -- The code is the definition, term by term.
 use borrow.Author.Needs.{needs}
 use Rattle.rules.specs.FirstRecord.{timeAt}
-use Rattle.hints.proofs.time_at.Statement.{statement}
-use Rattle.hints.proofs.time_at.Tie as tie
+use Rattle.first_record.proofs.time_at.Statement.{statement}
+use Rattle.first_record.proofs.time_at.Tie as tie
 
 returns : tie.Need-returns
 unfolding timeAt
