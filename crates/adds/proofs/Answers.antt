@@ -20,7 +20,8 @@ use Rattle.index.specs.Index.{Tables, indexIn}
 use Rattle.sections.specs.Numbers.{endIn, idIn}
 use Rattle.index.proofs.Questions.{passes-long, passes-hints}
 use Rattle.join.specs.Join.{mergeRefusal}
-use Rattle.join.specs.Needs.{furtherIn, Joins}
+use Rattle.further.specs.Further.{furtherIn}
+use Rattle.join.specs.Needs.{Joins}
 use Rattle.join.proofs.Refusal.{further-is, asked-after}
 use Rattle.join.proofs.Ready.{hinting-is, areas}
 use Rattle.join.proofs.Held.{lent, room}

@@ -18,7 +18,8 @@ use Rattle.parts.specs.declared.Counts.{Counts}
 use Rattle.parts.specs.Parts.{PartTables, partTables}
 use Rattle.parts.specs.Needs.{Lent, Room, wanted}
 use Rattle.parts.proofs.Callers.{lent-from, wanted-from, room-from}
-use Rattle.join.specs.Needs.{furtherIn, Joins}
+use Rattle.further.specs.Further.{furtherIn}
+use Rattle.join.specs.Needs.{Joins}
 use Rattle.join.proofs.Ready.{scan-is, store-room, few-boundaries, few-checkpoints, other-few, further-fewer}
 
 -- no parts of another list

@@ -23,7 +23,8 @@ use Rattle.filelaws.proofs.Ranges.{boundaries-small}
 use Rattle.index.specs.Index.{Tables, indexIn, kindsIn, roomIn}
 use Rattle.index.specs.Needs.{Passes, heldQuestion4}
 use Rattle.index.proofs.Questions.{range, space}
-use Rattle.join.specs.Needs.{furtherIn, Joins}
+use Rattle.further.specs.Further.{furtherIn}
+use Rattle.join.specs.Needs.{Joins}
 use Rattle.join.proofs.Refusal.{further-is}
 
 -- ---- of one list

@@ -20,7 +20,8 @@ use Rattle.index.specs.Needs.{Passes, lowest}
 use Rattle.index.proofs.Four.{Later, number-more, kinded-more, lowest-both}
 use Rattle.index.proofs.Questions.{passes, passes-long}
 use Rattle.join.specs.Join.{mergeRefusal}
-use Rattle.join.specs.Needs.{joinNumber, furtherIn, Joins}
+use Rattle.further.specs.Further.{furtherIn}
+use Rattle.join.specs.Needs.{joinNumber, Joins}
 
 pub lowest-zero : (m n : ℕ) → lowest m n ≡ 0 → (m ≡ 0) × (n ≡ 0)
 unfolding lowest

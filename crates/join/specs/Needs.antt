@@ -1,15 +1,13 @@
 -- Questions 41 to 43 of two lists in their tables, of which only the checkpoints are read, and what holds where nothing refuses a merge.
 use mathlib.Core.Path.{_≡_}
 use Prim.Native.Nat.{ℕ}
-use mathlib.Core.Bool.{Bool, true, _&&_, _||_, not}
+use mathlib.Core.Bool.{Bool, true}
 use mathlib.Core.List.{List, [], _∷_}
-use lib.Dec.{ltb}
 use Rattle.rules.specs.declared.AreaIndex.{AreaIndex}
-use Rattle.rules.specs.Tests.{isSome, ask, firstNo}
+use Rattle.rules.specs.Tests.{ask, firstNo}
 use Rattle.rules.specs.Values.{Index}
 use Rattle.rules.specs.Merge.{question41, question42, question43}
 use Rattle.index.specs.Index.{Tables, tables, indexIn}
-use Rattle.sections.specs.Numbers.{endIn}
 use Rattle.index.specs.Needs.{Passes}
 
 -- a list as far as its checkpoints
@@ -30,10 +28,6 @@ unfoldable pub joinNumber : AreaIndex → List ℕ → AreaIndex → List ℕ �
 joinNumber x cs y ds =
     firstNo
     (ask (question41 (upTo x cs) (upTo y ds)) 41 ∷ ask (question42 (upTo x cs) (upTo y ds)) 42 ∷ ask (question43 (upTo x cs) (upTo y ds)) 43 ∷ [])
-
--- the other list goes further, by the numbers
-unfoldable pub furtherIn : AreaIndex → AreaIndex → Bool
-furtherIn x y = not (isSome (endIn (x .ending))) && (isSome (endIn (y .ending)) || ltb (x .checkpoints) (y .checkpoints))
 
 -- nothing refuses a merge
 pub record Joins (x : AreaIndex) (t : Tables) (y : AreaIndex) (u : Tables) : Type 0 where

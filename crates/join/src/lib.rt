@@ -1,11 +1,9 @@
-// What a merge asks of two lists in their tables: 1 to 4 of both, and 41 to 43; and whether the other goes further.
+// What a merge asks of two lists in their tables: 1 to 4 of both, and 41 to 43.
 use create::agrees;
 use field::and;
 use field::min_u64;
-use field::or;
 use field::same;
 use header_questions::same_key;
-use index::is_complete;
 use index::lowest;
 use index::refuses;
 use rules::Area;
@@ -26,7 +24,7 @@ ghost use Rattle.table.specs.Tables.{checkpointsIn};
 ghost use Rattle.index.specs.Index.{tables};
 ghost use Rattle.sections.specs.Numbers.{endIn, idIn};
 ghost use Rattle.join.specs.Join.{mergeRefusal};
-ghost use Rattle.join.specs.Needs.{areaAgrees, imageAgrees, readingAgrees, joinNumber, furtherIn};
+ghost use Rattle.join.specs.Needs.{areaAgrees, imageAgrees, readingAgrees, joinNumber};
 
 // ---- 41
 pub fn same_area(a: Area, b: Area) -> bool
@@ -187,14 +185,6 @@ pub fn merge_refuses(
         return number;
     }
     join_number(x, y, checkpoints, other_checkpoints)
-}
-
-// Is the own list not complete and the other is, or has more checkpoints?
-pub fn further(x: AreaIndex, y: AreaIndex) -> bool
-    ensures { λ r. ⌜ r ≡ furtherIn x y ⌝ }
-{
-    let more = or(is_complete(y), x.checkpoints < y.checkpoints);
-    and(!is_complete(x), more)
 }
 
 // n where go holds, else 0.

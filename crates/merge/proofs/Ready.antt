@@ -15,7 +15,8 @@ use Rattle.index.specs.Index.{Tables}
 use Rattle.index.specs.Needs.{Passes}
 use Rattle.index.proofs.Questions.{space, passes-long, passes-hints}
 use Rattle.confirm.specs.Kept.{Rising}
-use Rattle.join.specs.Needs.{furtherIn, Joins}
+use Rattle.further.specs.Further.{furtherIn}
+use Rattle.join.specs.Needs.{Joins}
 use Rattle.join.proofs.Ready.{scan-is, hinting-is, hint-room, confirmed-room, areas, few-boundaries, few-checkpoints, other-few}
 use Rattle.join.proofs.Held.{lent, room}
 use Rattle.parts.specs.Parts.{partTables}

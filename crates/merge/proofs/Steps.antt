@@ -26,7 +26,7 @@ use Rattle.index.specs.Index.{Tables, tables, indexIn, storeOf, numbersFrom, ta
 use Rattle.sections.specs.Numbers.{endIn, endFrom, idFrom}
 use Rattle.index.specs.declared.Made.the-variants as made
 use Rattle.join.specs.Join.{mergeRefusal}
-use Rattle.join.specs.Needs.{furtherIn}
+use Rattle.further.specs.Further.{furtherIn}
 use Rattle.join.proofs.Refusal.{further-is, asked-after}
 use Rattle.parts.specs.declared.Counts.{Counts}
 use Rattle.parts.specs.Parts.{partTables, storedIn, Held, held, heldFrom}

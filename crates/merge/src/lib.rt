@@ -1,8 +1,8 @@
 // Merging two lists in their tables.
 use confirm::merge_confirmations;
+use further::further;
 use index::Made;
 use index::is_checked;
-use join::further;
 use join::merge_refuses;
 use join::taken;
 use rules::AreaIndex;

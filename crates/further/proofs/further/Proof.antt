@@ -1,8 +1,8 @@
-use Rattle.join.specs.Needs.{furtherIn}
+use Rattle.further.specs.Further.{furtherIn}
 use mathlib.Core.Path.{sym, _∙_}
 use borrow.Author.Needs.{needs}
-use Rattle.join.proofs.further.Statement.{statement}
-use Rattle.join.proofs.further.Tie as tie
+use Rattle.further.proofs.further.Statement.{statement}
+use Rattle.further.proofs.further.Tie as tie
 
 returns : tie.Need-returns
 unfolding furtherIn
