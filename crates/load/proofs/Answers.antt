@@ -11,6 +11,7 @@ use Rattle.rules.specs.Tests.{Answer, Refused, Accepted, firstNo, after, bind}
 use Rattle.rules.specs.Values.{Index}
 use Rattle.rules.specs.Questions.{areaOk, question1, question3}
 use Rattle.rules.specs.Load.{fromBytes, limited, load}
+use Rattle.rules.proofs.Tests.{→bind}
 use Rattle.filelaws.proofs.Loaded.{loaded-valid}
 use Rattle.index.specs.declared.Made.the-variants as made
 use Rattle.index.specs.Index.{Tables, roomOf, roomIn, numbersFrom, tablesFrom, out, outOf}
@@ -85,7 +86,11 @@ module _ {a : Area} {b : List ℕ} (limit : ℕ) (t : Tables) where
   unfolding outOf
   answer-refused {r} {n} d e = rw (d .refused n e)
 
+  pub ready-loads : {found : Found} {y : AreaIndex} → Ready a b limit found y t → load (roomOf t) a b limit ≡ Accepted (limitedIn a b limit)
+  unfolding load firstNo after
+  ready-loads w = rw (w .accepts .area) (→bind _ (w .accepts .file) (rw (w .room)))
+
   pub answer-ready : {found : Found} {y : AreaIndex} {t' : Tables} → Ready a b limit found y t → t' ≡ tablesFrom (limitedIn a b limit) t
       → out (made.Index y) t' ≡ loadIn a b limit t
-  unfolding outOf load firstNo after bind
-  answer-ready w h = rw (w .accepts .area, w .accepts .file, w .room, h, w .numbers)
+  unfolding outOf
+  answer-ready w h = rw (ready-loads w, h, w .numbers)

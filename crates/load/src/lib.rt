@@ -87,7 +87,7 @@ fn commit_hints(t: &mut [u8], b: &[u8], at: usize, n: usize, most: usize)
 }
 
 // The limited list of an accepted file, whose numbers are y, into tables that have room for it.
-fn commit(
+pub fn commit(
     area: Area,
     found: Found,
     y: AreaIndex,
@@ -162,7 +162,7 @@ fn decide_room(
 }
 
 // Questions 1, 20 to 38, 3.
-fn decide(
+pub fn decide(
     area: Area,
     bytes: &[u8],
     limit: u64,
