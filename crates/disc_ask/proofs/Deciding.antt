@@ -1,40 +1,23 @@
 -- What the questions of a disc file answer. Assumes nothing.
-use mathlib.Core.Path.{_≡_, refl, sym, ap, _∙_}
+use mathlib.Core.Path.{_≡_, refl, sym, _∙_}
 use mathlib.Core.Bool.{Bool, true, false, _&&_}
 use mathlib.Core.List.{List}
-use mathlib.Core.Option.{Option, none, some}
 use Prim.Native.Nat.{ℕ}
 use native.Mathlib.Omega.{arith}
 use Rattle.rules.specs.declared.Area.{Area}
-use Rattle.rules.specs.Tests.{Answer, Refused, Accepted, firstNo, after, bind}
-use Rattle.rules.specs.Values.{Index}
-use Rattle.rules.specs.Disc.{Disc, entriesIn, entryOf, contentsOk, bodyOf, slotArea, loadBody, loadBodies, loadDisc}
+use Rattle.rules.specs.Tests.{Refused, Accepted, firstNo, after, bind}
+use Rattle.rules.specs.Disc.{bodyOf, slotArea, loadBody, loadBodies, loadDisc}
 use Rattle.disc_table.specs.declared.Contents.the-variants.{Broken, Lists}
 use Rattle.disc_table.specs.declared.Place.{Place}
 use Rattle.disc_table.specs.Contents.{entryIn, contentsIn}
-use Rattle.disc_table.specs.Inside.{Locates}
 use Rattle.disc_table.proofs.Inside.{locates, breaks}
 use Rattle.index.specs.Index.{Tables, roomOf}
 use Rattle.disc_ask.specs.declared.Asked.{Asked}
 use Rattle.disc_ask.specs.declared.Asked.the-variants as asked
 use Rattle.disc_ask.specs.declared.Decided.{Decided}
 use Rattle.disc_ask.specs.declared.Decided.the-variants as decided
-use Rattle.disc_ask.specs.Ask.{askedOf, decidedBy, Located, Ready, Decision}
-
--- ---- by what the questions answered
-pub record Loads (r : Answer (Option Index)) : Type 0 where
-  pub list : Option Index
-  pub is : r ≡ Accepted list
-
-pub loads-by : (r : Answer (Option Index)) → asked.Passed ≡ askedOf r → Loads r
-unfolding askedOf
-loads-by (Refused m) e = let z : _≡_ {A = ℕ} 0 1 = cc in let f : ⊥ = omega arith in absurd f
-loads-by (Accepted o) e = record { list = o; is = refl }
-
-refused-by : (r : Answer (Option Index)) {n : ℕ} → asked.Refused n ≡ askedOf r → r ≡ Refused n
-unfolding askedOf
-refused-by (Refused m) e = cc
-refused-by (Accepted o) e = let z : _≡_ {A = ℕ} 0 1 = cc in let f : ⊥ = omega arith in absurd f
+use Rattle.disc_ask.specs.Ask.{BodyDecision, decidedBy, Located, Decision}
+use Rattle.disc_ask.proofs.Asking.{held-loads}
 
 pub located : {a0 a1 : Area} {b : List ℕ} {r : Bool} {p q : Place} → r ≡ (slotArea 0 a0 && slotArea 1 a1) → r ≡ true → Lists p q ≡ contentsIn b → Located a0 a1 b p q
 located {a0} {a1} {b} e h k = record { areas = sym e ∙ h; table = locates b k }
@@ -64,16 +47,20 @@ module _ {a0 a1 : Area} {b : List ℕ} (limit : ℕ) (t u : Tables) where
     unfolding loadDisc firstNo after loadBodies
     by-places = rw (l .areas, l .table .contents, l .table .entry0, l .table .entry1) refl
 
-    pub bodies : (v w : Asked) {r : Decided} → v ≡ askedOf (loadBody (roomOf t) a0 limit (bodyOf b (entryIn p)))
-        → w ≡ askedOf (loadBody (roomOf u) a1 limit (bodyOf b (entryIn q))) → r ≡ decidedBy p q v w → Decision a0 a1 b limit t u r
+    pub bodies : (v w : Asked) {r : Decided} → BodyDecision a0 b limit t p v → BodyDecision a1 b limit u q w → r ≡ decidedBy v w → Decision a0 a1 b limit t u r
     unfolding decidedBy bind
-    bodies (asked.Refused n) w e f d = rw d (refuses (by-places ∙ rw (refused-by _ e)))
-    bodies asked.Passed (asked.Refused n) e f d =
-        let x = loads-by _ e in rw d (refuses (by-places ∙ rw (x .is, refused-by _ f)))
-    bodies asked.Passed asked.Passed e f d =
+    bodies (asked.Refused n) w e f d = rw d (refuses (by-places ∙ rw (e .refused n refl)))
+    bodies (asked.Passed x) (asked.Refused n) e f d =
+        let h = e .passed x refl in
+        rw d (refuses (by-places ∙ rw (held-loads a0 b limit t x (h .0) (h .1), f .refused n refl)))
+    bodies (asked.Passed x) (asked.Passed y) e f d =
+        let h = e .passed x refl in
+        let k = f .passed y refl in
         rw d
         (record {
-          refused = λ n h. let z : _≡_ {A = ℕ} 0 1 = cc in let g : ⊥ = omega arith in absurd g;
-          ready = λ p' q' h.
-              let i : p ≡ p' = cc in let j : q ≡ q' = cc in rw (← i, ← j) (record { located = l; loads0 = e; loads1 = f });
+          refused = λ n z. let z : _≡_ {A = ℕ} 0 1 = cc in let g : ⊥ = omega arith in absurd g;
+          ready = λ x' y' z.
+              let i : x ≡ x' = cc in
+              let j : y ≡ y' = cc in
+              rw (← i, ← j) (record { located = rw (← h .0, ← k .0) l; holds0 = h .1; holds1 = k .1 });
         })

@@ -4,107 +4,38 @@ use disc_table::Place;
 use disc_table::read_contents;
 use field::and;
 use index::question1;
-use index::question3;
 use inspect::Found;
-use inspect::Inspected;
-use inspect::inspect;
-use limit::limited;
+use load::Decided as Said;
 use rules::Area;
+use rules::AreaIndex;
+use rules::Entry;
 ghost use mathlib.Core.Path.{_≡_};
 ghost use mathlib.Core.Bool.{_&&_};
-ghost use Rattle.rules.specs.Load.{load};
-ghost use Rattle.rules.specs.Disc.{slotArea, bodyOf, loadBody};
-ghost use Rattle.disc_table.specs.Contents.{entryIn};
+ghost use Rattle.rules.specs.Disc.{slotArea};
 ghost use Rattle.disc_table.specs.Inside.{Inside};
-ghost use Rattle.index.specs.Index.{tables, roomOf};
-ghost use Rattle.limit.specs.Limit.{Accepts};
-ghost use Rattle.disc_ask.specs.Ask.{askedOf, decidedBy, Located, Decision};
+ghost use Rattle.index.specs.Index.{tables};
+ghost use Rattle.disc_ask.specs.Ask.{BodyDecision, decidedBy, Located, Decision};
 
-// What the questions of one list file answer: a refusal number, or that none refuses.
+// The body of a slot, which no question refuses: the file has none, or its entry, what it says, and the numbers of its limited list.
+pub enum Body {
+    Absent,
+    At(Entry, Found, AreaIndex),
+}
+
+// What the questions of one body answer.
 pub enum Asked {
     Refused(u32),
-    Passed,
+    Passed(Body),
 }
 
-// The refusal number, or where the lists lie.
+// The refusal number, or the bodies of slots 0 and 1.
 pub enum Decided {
     Refused(u32),
-    Ready(Place, Place),
-}
-
-// ---- the questions of one list file
-// 3, of the limited list of an accepted file.
-fn ask_room(
-    area: Area,
-    found: Found,
-    bytes: &[u8],
-    limit: u64,
-    checkpoints: &[u8],
-    frames: &[u8],
-    store: &[u8],
-    parts: &[u8],
-    malformed: &[u8],
-    hints: &[u8],
-    confirmed: &[u8],
-) -> Asked
-    requires { ⌜ Accepts area (now bytes) found ⌝ }
-    ensures { λ r. ⌜ r ≡ askedOf (load (roomOf (tables (now (checkpoints .entry)) (now (frames .entry)) (now (store .entry)) (now (parts .entry)) (now (malformed .entry)) (now (hints .entry)) (now (confirmed .entry)))) area (now (bytes .entry)) limit) ⌝ }
-{
-    let y = limited(area, found, bytes, limit);
-    if !question3(
-        y,
-        checkpoints,
-        frames,
-        store,
-        parts,
-        malformed,
-        hints,
-        confirmed,
-    ) {
-        return Asked::Refused(3);
-    }
-    Asked::Passed
-}
-
-// The questions of from_bytes: 1, 20 to 38, 3.
-fn ask_load(
-    area: Area,
-    bytes: &[u8],
-    limit: u64,
-    checkpoints: &[u8],
-    frames: &[u8],
-    store: &[u8],
-    parts: &[u8],
-    malformed: &[u8],
-    hints: &[u8],
-    confirmed: &[u8],
-) -> Asked
-    ensures { λ r. ⌜ r ≡ askedOf (load (roomOf (tables (now (checkpoints .entry)) (now (frames .entry)) (now (store .entry)) (now (parts .entry)) (now (malformed .entry)) (now (hints .entry)) (now (confirmed .entry)))) area (now (bytes .entry)) limit) ⌝ }
-{
-    if !question1(area) {
-        return Asked::Refused(1);
-    }
-    let read = inspect(area, bytes);
-    match read {
-        Inspected::Refused(n) => Asked::Refused(n),
-        Inspected::Passed(found) => ask_room(
-            area,
-            found,
-            bytes,
-            limit,
-            checkpoints,
-            frames,
-            store,
-            parts,
-            malformed,
-            hints,
-            confirmed,
-        ),
-    }
+    Ready(Body, Body),
 }
 
 // ---- the body of a slot
-// Its questions; an absent one is not asked.
+// Its questions, 1, 20 to 38, 3; an absent one is not asked.
 fn ask_body(
     place: Place,
     area: Area,
@@ -119,14 +50,14 @@ fn ask_body(
     confirmed: &[u8],
 ) -> Asked
     requires { ⌜ Inside (now bytes) place ⌝ }
-    ensures { λ r. ⌜ r ≡ askedOf (loadBody (roomOf (tables (now (checkpoints .entry)) (now (frames .entry)) (now (store .entry)) (now (parts .entry)) (now (malformed .entry)) (now (hints .entry)) (now (confirmed .entry)))) area limit (bodyOf (now (bytes .entry)) (entryIn place))) ⌝ }
+    ensures { λ r. ⌜ BodyDecision area (now (bytes .entry)) limit (tables (now (checkpoints .entry)) (now (frames .entry)) (now (store .entry)) (now (parts .entry)) (now (malformed .entry)) (now (hints .entry)) (now (confirmed .entry))) place r ⌝ }
 {
     match place {
-        Place::Absent => Asked::Passed,
+        Place::Absent => Asked::Passed(Body::Absent),
         Place::At(e) => {
             let from = e.offset as usize;
             let to = from + e.len as usize;
-            ask_load(
+            let said = load::decide(
                 area,
                 &bytes[from..to],
                 limit,
@@ -137,7 +68,11 @@ fn ask_body(
                 malformed,
                 hints,
                 confirmed,
-            )
+            );
+            match said {
+                Said::Refused(n) => Asked::Refused(n),
+                Said::Ready(found, y) => Asked::Passed(Body::At(e, found, y)),
+            }
         }
     }
 }
@@ -154,15 +89,15 @@ pub fn areas_ok(area0: Area, area1: Area) -> bool
     and(first, second)
 }
 
-// The first failing body's own number, or the places of both.
-fn decide_by(first: Place, second: Place, asked: Asked, other: Asked) -> Decided
-    ensures { λ r. ⌜ r ≡ decidedBy first second asked other ⌝ }
+// The first failing body's own number, or both.
+fn decide_by(asked: Asked, other: Asked) -> Decided
+    ensures { λ r. ⌜ r ≡ decidedBy asked other ⌝ }
 {
     match asked {
         Asked::Refused(n) => Decided::Refused(n),
-        Asked::Passed => match other {
+        Asked::Passed(first) => match other {
             Asked::Refused(n) => Decided::Refused(n),
-            Asked::Passed => Decided::Ready(first, second),
+            Asked::Passed(second) => Decided::Ready(first, second),
         },
     }
 }
@@ -219,7 +154,7 @@ fn decide_bodies(
         other_hints,
         other_confirmed,
     );
-    decide_by(first, second, asked, other_asked)
+    decide_by(asked, other_asked)
 }
 
 // 1 of both areas, 54, then the bodies.

@@ -1,48 +1,40 @@
 -- The list of a body, put into its slot's tables. Assumes nothing.
-use mathlib.Core.Path.{_≡_, refl, sym, ap, _∙_}
+use mathlib.Core.Path.{_≡_, refl}
 use mathlib.Core.List.{List}
-use mathlib.Core.Option.{Option, none, some}
-use Prim.Native.Nat.{ℕ, _+_, _-_}
-use lib.ListN.{take, drop}
+use Prim.Native.Nat.{ℕ, _+_, _-_, _≤_}
+use native.Mathlib.Omega.{arith}
+use lib.ListN.{length, take, drop}
 use Rattle.rules.specs.declared.Area.{Area}
 use Rattle.rules.specs.declared.AreaIndex.{AreaIndex}
-use Rattle.rules.specs.Tests.{Answer, Refused, Accepted, bind}
-use Rattle.rules.specs.Values.{Index}
-use Rattle.rules.specs.Load.{load}
 use Rattle.rules.specs.declared.Entry.{Entry}
-use Rattle.rules.specs.Disc.{bodyOf, loadBody}
-use Rattle.disc_table.specs.declared.Place.{Place}
-use Rattle.disc_table.specs.declared.Place.the-variants.{Absent, At}
-use Rattle.disc_table.specs.Contents.{entryIn}
-use Rattle.disc_ask.proofs.Asking.{absent, present}
-use Rattle.index.specs.declared.Made.{Made}
-use Rattle.index.specs.declared.Made.the-variants as made
-use Rattle.index.specs.Index.{Tables, roomOf, numbersFrom, tablesFrom, Out, out, outOf}
-use Rattle.load.specs.Load.{loadIn}
+use Rattle.index.specs.Index.{Tables, tablesFrom}
+use Rattle.inspect.specs.declared.Found.{Found}
+use Rattle.limit.specs.Limit.{limitedIn}
+use Rattle.load.specs.Steps.{Ready}
+use Rattle.disc_ask.specs.declared.Body.{Body}
+use Rattle.disc_ask.specs.declared.Body.the-variants as body
+use Rattle.disc_ask.specs.Ask.{Holds, heldIn}
 use Rattle.disc_load.specs.declared.Listed.{Listed}
 use Rattle.disc_load.specs.declared.Listed.the-variants as listed
 use Rattle.disc_load.specs.Calls.{listedFrom, tablesWith}
-use Rattle.disc_load.specs.Needs.{listedOf, ListOut, listOut, listOutOf}
 
-pub listed-index : {m : Made} {x : AreaIndex} → m ≡ made.Index x → listed.Index x ≡ listedOf m
-unfolding listedOf
-listed-index h = rw h
+module _ (a : Area) (b : List ℕ) (limit : ℕ) (t : Tables) {x : Body} where
+  pub absent : x ≡ body.Absent → (listed.Absent ≡ listedFrom (heldIn a b limit x)) × (t ≡ tablesWith (heldIn a b limit x) t)
+  unfolding listedFrom tablesWith heldIn
+  absent h = rw h (refl, refl)
 
-module _ (a : Area) (limit : ℕ) (b : List ℕ) (t : Tables) where
-  pub absent-out : {p : Place} → p ≡ Absent → listOut listed.Absent t ≡ listOutOf t (loadBody (roomOf t) a limit (bodyOf b (entryIn p)))
-  unfolding listOutOf listedFrom tablesWith
-  absent-out h = rw (absent (roomOf t) a limit b h)
+  module _ {e : Entry} {found : Found} {y : AreaIndex} (h : x ≡ body.At e found y) (k : Holds a b limit t x) where
+    holds : (e .offset + e .len ≤ length b) × Ready a (take (e .len) (drop (e .offset) b)) limit found y t
+    holds = rw h at k
 
-  out-bound : (r : Answer Index) {m : Made} {t' : Tables} → out m t' ≡ outOf (λ y. tablesFrom y t) t r
-      → listOut (listedOf m) t' ≡ listOutOf t (bind r (λ x. Accepted (some x)))
-  unfolding outOf listOutOf bind listedOf listedFrom tablesWith
-  out-bound (Refused n) {m} {t'} e =
-      let p : m ≡ made.Refused n = ap (λ (o : Out). o .answer) e in let q : t' ≡ t = ap (λ (o : Out). o .tables) e in rw (p, q)
-  out-bound (Accepted x) {m} {t'} e =
-      let p : m ≡ made.Index (numbersFrom x) = ap (λ (o : Out). o .answer) e in let q : t' ≡ tablesFrom x t = ap (λ (o : Out). o .tables) e in rw (p, q)
+    pub inside : e .offset + e .len ≤ length b
+    inside = holds .0
 
-  pub body-out : {p : Place} {e : Entry} {to : ℕ} {m : Made} {r : Listed} {t' : Tables} → p ≡ At e → to ≡ e .offset + e .len
-      → out m t' ≡ loadIn a (take (to - e .offset) (drop (e .offset) b)) limit t → r ≡ listedOf m
-      → listOut r t' ≡ listOutOf t (loadBody (roomOf t) a limit (bodyOf b (entryIn p)))
-  body-out {p} {e} {to} h q o k =
-      rw k (out-bound (load (roomOf t) a (take (to - e .offset) (drop (e .offset) b)) limit) o) ∙ sym (ap (listOutOf t) (present (roomOf t) a limit b h q))
+    module _ {to : ℕ} (q : to ≡ e .offset + e .len) where
+      pub ready : Ready a (take (to - e .offset) (drop (e .offset) b)) limit found y t
+      ready = let s : to - e .offset ≡ e .len = omega arith in rw s (holds .1)
+
+      pub present : {t' : Tables} → t' ≡ tablesFrom (limitedIn a (take (to - e .offset) (drop (e .offset) b)) limit) t
+          → (listed.Index y ≡ listedFrom (heldIn a b limit x)) × (t' ≡ tablesWith (heldIn a b limit x) t)
+      unfolding listedFrom tablesWith heldIn
+      present m = let s : to - e .offset ≡ e .len = omega arith in rw h (rw (holds .1 .numbers), rw (m, s))

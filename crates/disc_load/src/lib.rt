@@ -1,18 +1,14 @@
 // Loading a disc file under the areas of slots 0 and 1, each list into tables of its own: all lists or none.
+use disc_ask::Body;
 use disc_ask::Decided;
 use disc_ask::decide;
-use disc_table::Place;
-use index::Made;
-use load::from_bytes;
+use load::commit;
 use rules::Area;
 use rules::AreaIndex;
 ghost use mathlib.Core.Path.{_≡_};
-ghost use Rattle.rules.specs.Disc.{bodyOf, loadBody};
-ghost use Rattle.disc_table.specs.Contents.{entryIn};
-ghost use Rattle.disc_table.specs.Inside.{Inside};
-ghost use Rattle.index.specs.Index.{tables, roomOf};
-ghost use Rattle.disc_load.specs.Calls.{discOut, loadDiscIn};
-ghost use Rattle.disc_load.specs.Needs.{listedOf, listOut, listOutOf};
+ghost use Rattle.index.specs.Index.{tables};
+ghost use Rattle.disc_ask.specs.Ask.{Holds, heldIn};
+ghost use Rattle.disc_load.specs.Calls.{listedFrom, tablesWith, discOut, loadDiscIn};
 
 // The list of a slot: none in the file, or the numbers of the list that the slot's tables then hold.
 pub enum Listed {
@@ -26,18 +22,9 @@ pub enum Loaded {
     Lists(Listed, Listed),
 }
 
-fn listed_of(made: Made) -> Listed
-    ensures { λ r. ⌜ r ≡ listedOf made ⌝ }
-{
-    match made {
-        Made::Refused(_) => Listed::Absent,
-        Made::Index(x) => Listed::Index(x),
-    }
-}
-
-// Its list into the slot's tables; an absent one leaves them.
+// The limited list of a body into the slot's tables, by what its questions found; an absent one leaves them.
 fn commit_body(
-    place: Place,
+    body: Body,
     area: Area,
     bytes: &[u8],
     limit: u64,
@@ -49,16 +36,18 @@ fn commit_body(
     hints: &mut [u8],
     confirmed: &mut [u8],
 ) -> Listed
-    requires { ⌜ Inside (now bytes) place ⌝ }
-    ensures { λ r. ⌜ listOut r (tables (now (checkpoints .exit)) (now (frames .exit)) (now (store .exit)) (now (parts .exit)) (now (malformed .exit)) (now (hints .exit)) (now (confirmed .exit))) ≡ listOutOf (tables (now (checkpoints .entry)) (now (frames .entry)) (now (store .entry)) (now (parts .entry)) (now (malformed .entry)) (now (hints .entry)) (now (confirmed .entry))) (loadBody (roomOf (tables (now (checkpoints .entry)) (now (frames .entry)) (now (store .entry)) (now (parts .entry)) (now (malformed .entry)) (now (hints .entry)) (now (confirmed .entry)))) area limit (bodyOf (now (bytes .entry)) (entryIn place))) ⌝ }
+    requires { ⌜ Holds area (now bytes) limit (tables (now checkpoints) (now frames) (now store) (now parts) (now malformed) (now hints) (now confirmed)) body ⌝ }
+    ensures { λ r. ⌜ (r ≡ listedFrom (heldIn area (now (bytes .entry)) limit body)) × (tables (now (checkpoints .exit)) (now (frames .exit)) (now (store .exit)) (now (parts .exit)) (now (malformed .exit)) (now (hints .exit)) (now (confirmed .exit)) ≡ tablesWith (heldIn area (now (bytes .entry)) limit body) (tables (now (checkpoints .entry)) (now (frames .entry)) (now (store .entry)) (now (parts .entry)) (now (malformed .entry)) (now (hints .entry)) (now (confirmed .entry)))) ⌝ }
 {
-    match place {
-        Place::Absent => Listed::Absent,
-        Place::At(e) => {
+    match body {
+        Body::Absent => Listed::Absent,
+        Body::At(e, found, y) => {
             let from = e.offset as usize;
             let to = from + e.len as usize;
-            let made = from_bytes(
+            commit(
                 area,
+                found,
+                y,
                 &bytes[from..to],
                 limit,
                 checkpoints,
@@ -69,7 +58,7 @@ fn commit_body(
                 hints,
                 confirmed,
             );
-            listed_of(made)
+            Listed::Index(y)
         }
     }
 }

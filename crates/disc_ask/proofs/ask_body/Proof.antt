@@ -1,34 +1,42 @@
 use mathlib.Core.Path.{refl}
-use native.Mathlib.Omega.{arith}
-use Rattle.index.specs.Index.{Tables, tables}
-use Rattle.disc_ask.proofs.Asking.{inside-at, absent-asked, body-asked}
+use Rattle.disc_ask.proofs.Asking.{inside-at, absent, present-refused, present-ready}
 use borrow.Author.Needs.{needs}
 use Rattle.disc_ask.proofs.ask_body.Statement.{statement}
 use Rattle.disc_ask.proofs.ask_body.Tie as tie
 
--- the tables as they are lent
-abbrev lent : tie.Start → Tables
-lent s =
-    let a = s .args in
-    tables (a .checkpoints .now) (a .frames .now) (a .store .now) (a .parts .now) (a .malformed .now) (a .hints .now) (a .confirmed .now)
+-- where the body's place was told, and the start
+abbrev told : tie.After-decide → tie.After-place
+told p = search
 
-part-ask-load-end : tie.Need-part-ask-load-end
-part-ask-load-end c =
-    let start : tie.Start = search in
-    let told : tie.After-place = search in
-    inside-at (start .args .bytes .now) (told .place .given .1) (start .pre)
+abbrev begin : tie.After-place → tie.Start
+begin p = search
+
+part-decide-end : tie.Need-part-decide-end
+part-decide-end c =
+    let at : tie.After-place = search in
+    inside-at (begin at .args .bytes .now) (at .place .given .1) (begin at .pre)
 
 returns : tie.Need-returns
 returns c =
     let start : tie.Start = search in
-    absent-asked (start .args .area) (start .args .limit) (start .args .bytes .now) (lent start) (c .enum-told .given .1)
+    let a = start .args in
+    absent (a .area) (a .bytes .now) _ _ (c .enum-told .given .1)
 
 returns-2 : tie.Need-returns-2
 returns-2 c =
-    let start : tie.Start = search in
-    let told : tie.After-place = search in
-    let file : tie.After-ask-load = search in
-    body-asked (start .args .area) (start .args .limit) (start .args .bytes .now) (lent start) (told .place .given .1) refl (file .ask-load .ensures)
+    let no : tie.After-said = search in
+    let file : tie.After-decide = search in
+    let at = told file in
+    let a = begin at .args in
+    present-refused (a .area) (a .bytes .now) _ _ (at .place .given .1) refl (file .decide .ensures) (no .said .given .1)
+
+returns-3 : tie.Need-returns-3
+returns-3 c =
+    let yes : tie.After-said2 = search in
+    let file : tie.After-decide = search in
+    let at = told file in
+    let a = begin at .args in
+    present-ready (a .area) (a .bytes .now) _ _ (at .place .given .1) refl (file .decide .ensures) (yes .said2 .given .1) (begin at .pre)
 
 pub ask-body-spec : {M : Type 1} → statement M
 ask-body-spec =
@@ -41,7 +49,10 @@ ask-body-spec =
     (λ c. search needs)
     (λ c. search needs)
     (λ c. search needs)
-    part-ask-load-end
+    part-decide-end
     (λ c κs. search needs)
+    (λ c. search needs)
+    (λ c. search needs)
     returns
-    returns-2)
+    returns-2
+    returns-3)

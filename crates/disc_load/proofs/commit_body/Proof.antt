@@ -1,7 +1,6 @@
 use mathlib.Core.Path.{refl}
 use Rattle.index.specs.Index.{Tables, tables}
-use Rattle.disc_ask.proofs.Asking.{inside-at}
-use Rattle.disc_load.proofs.Body.{absent-out, body-out}
+use Rattle.disc_load.proofs.Body.{absent, inside, ready, present}
 use borrow.Author.Needs.{needs}
 use Rattle.disc_load.proofs.commit_body.Statement.{statement}
 use Rattle.disc_load.proofs.commit_body.Tie as tie
@@ -12,31 +11,36 @@ lent s =
     let a = s .args in
     tables (a .checkpoints .now) (a .frames .now) (a .store .now) (a .parts .now) (a .malformed .now) (a .hints .now) (a .confirmed .now)
 
--- where the file is about to be loaded, and the start
-abbrev told : tie.After-from-bytes → tie.After-place
+-- where the list is about to be written, and the start
+abbrev told : tie.After-commit → tie.After-body
 told p = search
 
-abbrev begin : tie.After-place → tie.Start
+abbrev begin : tie.After-body → tie.Start
 begin p = search
 
-part-from-bytes-end : tie.Need-part-from-bytes-end
-part-from-bytes-end c =
-    let place : tie.After-place = search in
-    let start = begin place in
-    inside-at (start .args .bytes .now) (place .place .given .1) (start .pre)
+part-commit-end : tie.Need-part-commit-end
+part-commit-end c =
+    let at : tie.After-body = search in
+    let start = begin at in
+    inside (start .args .area) (start .args .bytes .now) (start .args .limit) (lent start) (at .body .given .1) (start .pre)
+
+commit-requires : tie.Need-commit-requires
+commit-requires c κs =
+    let at : tie.After-body = search in
+    let start = begin at in
+    ready (start .args .area) (start .args .bytes .now) (start .args .limit) (lent start) (at .body .given .1) (start .pre) refl
 
 returns : tie.Need-returns
 returns c =
     let start : tie.Start = search in
-    absent-out (start .args .area) (start .args .limit) (start .args .bytes .now) (lent start) (c .enum-told .given .1)
+    absent (start .args .area) (start .args .bytes .now) (start .args .limit) (lent start) (c .enum-told .given .1)
 
 returns-2 : tie.Need-returns-2
 returns-2 c =
-    let says : tie.After-listed-of = search in
-    let loads : tie.After-from-bytes = search in
-    let place = told loads in
-    let start = begin place in
-    body-out (start .args .area) (start .args .limit) (start .args .bytes .now) (lent start) (place .place .given .1) refl (loads .from-bytes .ensures) (says .listed-of .ensures)
+    let done : tie.After-commit = search in
+    let at = told done in
+    let start = begin at in
+    present (start .args .area) (start .args .bytes .now) (start .args .limit) (lent start) (at .body .given .1) (start .pre) refl (done .commit .ensures)
 
 pub commit-body-spec : {M : Type 1} → statement M
 commit-body-spec =
@@ -49,9 +53,8 @@ commit-body-spec =
     (λ c. search needs)
     (λ c. search needs)
     (λ c. search needs)
-    part-from-bytes-end
-    (λ c κs. search needs)
-    (λ c κs. search needs)
+    part-commit-end
+    commit-requires
     returns
     (λ c. let place : tie.After-checkpoints = search in place .checkpoints .given)
     (λ c. let place : tie.After-frames = search in place .frames .given)

@@ -31,13 +31,13 @@ begin p = search
 commit-body-requires : tie.Need-commit-body-requires
 commit-body-requires c κs =
     let ready : tie.After-decided2 = search in
-    asked ready .decide .ensures .ready _ _ (ready .decided2 .given .1) .located .table .inside0
+    asked ready .decide .ensures .ready _ _ (ready .decided2 .given .1) .holds0
 
 commit-body-requires-2 : tie.Need-commit-body-requires-2
 commit-body-requires-2 c κs =
     let done : tie.After-commit-body = search in
     let ready = told done in
-    asked ready .decide .ensures .ready _ _ (ready .decided2 .given .1) .located .table .inside1
+    asked ready .decide .ensures .ready _ _ (ready .decided2 .given .1) .holds1
 
 returns : tie.Need-returns
 returns c =
