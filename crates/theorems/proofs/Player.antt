@@ -23,7 +23,8 @@ use Rattle.hinting.specs.Recorder.{createdOf, hintRecorderIn}
 use Rattle.save.specs.declared.Saved.the-variants as told
 use Rattle.save.specs.Save.{saveOut, saveIn}
 use Rattle.sizes.specs.Sizes.{sizesOf, fileLength}
-use Rattle.theorems.specs.Player.{Told, SaveNumber, oneNumber, LengthIsSaved, hasFour, RecorderRoomIsSizes, HintListIsSize, MadeHasSpacing}
+use Rattle.block.specs.Block.{savedNumber}
+use Rattle.theorems.specs.Player.{Told, SaveNumber, LengthIsSaved, hasFour, RecorderRoomIsSizes, HintListIsSize, MadeHasSpacing}
 use Rattle.theorems.proofs.Sizes.{fits24, fits8}
 
 -- ---- saving
@@ -61,8 +62,8 @@ save-number x t out n = told-by _ _ _ _ _ _ _ out n
 length-by : (k a b c d : Bool) (x : Index) (out : List ℕ)
     → let n = kindedNumber k (firstNo (ask a 1 ∷ ask b 2 ∷ ask c 3 ∷ ask d 4 ∷ [])) in let m = cond (eqb n 0) (savedLength x) n in
     m ≤ length out
-    → oneNumber (saveOut (kinded k (after (firstNo (ask a 1 ∷ ask b 2 ∷ ask c 3 ∷ ask d 4 ∷ ask (leb (savedLength x) (length out)) 40 ∷ [])) (Accepted (saved x)))) out .answer) ≡ m
-unfolding saveOut kinded kindedNumber after firstNo orFour numberOf oneNumber
+    → savedNumber (saveOut (kinded k (after (firstNo (ask a 1 ∷ ask b 2 ∷ ask c 3 ∷ ask d 4 ∷ ask (leb (savedLength x) (length out)) 40 ∷ [])) (Accepted (saved x)))) out .answer) ≡ m
+unfolding saveOut kinded kindedNumber after firstNo orFour numberOf savedNumber
 length-by true false b c d x out l = refl
 length-by true true false c d x out l = refl
 length-by true true true false d x out l = refl

@@ -22,6 +22,7 @@ use Rattle.save.specs.declared.Saved.the-variants as saved
 use Rattle.save.specs.Save.{saveIn}
 use Rattle.sizes.specs.declared.TableSizes.{TableSizes}
 use Rattle.sizes.specs.Sizes.{sizesOf, sizesFor, hasSizes, fileSizes, fileLength}
+use Rattle.block.specs.Block.{savedNumber}
 
 -- ---- saving
 -- a refusal number is 1 to 40, a length at least 88: one number tells both
@@ -31,13 +32,9 @@ Told s n = (s ≡ saved.Refused n → (1 ≤ n) × (n ≤ 40)) × (s ≡ saved.L
 abbrev pub SaveNumber : Type 0
 SaveNumber = (x : AreaIndex) (t : Tables) (out : List ℕ) (n : ℕ) → Told (saveIn x t out .answer) n
 
-unfoldable pub oneNumber : Saved → ℕ
-oneNumber (saved.Refused n) = n
-oneNumber (saved.Length n) = n
-
 -- the length that is told before saving is the number that saving answers, where the output is that long
 abbrev pub LengthIsSaved : Type 0
-LengthIsSaved = (x : AreaIndex) (t : Tables) (out : List ℕ) → fileLength x t ≤ length out → oneNumber (saveIn x t out .answer) ≡ fileLength x t
+LengthIsSaved = (x : AreaIndex) (t : Tables) (out : List ℕ) → fileLength x t ≤ length out → savedNumber (saveIn x t out .answer) ≡ fileLength x t
 
 -- ---- the tables of a list
 -- question 3 passes exactly where every table has at least the sizes
