@@ -24,19 +24,19 @@ returns c =
 
 returns-2 : tie.Need-returns-2
 returns-2 c =
-    let no : tie.After-said = search in
+    let refused : tie.After-said = search in
     let file : tie.After-decide = search in
     let at = told file in
     let a = begin at .args in
-    present-refused (a .area) (a .bytes .now) _ _ (at .place .given .1) refl (file .decide .ensures) (no .said .given .1)
+    present-refused (a .area) (a .bytes .now) _ _ (at .place .given .1) refl (file .decide .ensures) (refused .said .given .1)
 
 returns-3 : tie.Need-returns-3
 returns-3 c =
-    let yes : tie.After-said2 = search in
+    let ready : tie.After-said2 = search in
     let file : tie.After-decide = search in
     let at = told file in
     let a = begin at .args in
-    present-ready (a .area) (a .bytes .now) _ _ (at .place .given .1) refl (file .decide .ensures) (yes .said2 .given .1) (begin at .pre)
+    present-ready (a .area) (a .bytes .now) _ _ (at .place .given .1) refl (file .decide .ensures) (ready .said2 .given .1) (begin at .pre)
 
 pub ask-body-spec : {M : Type 1} → statement M
 ask-body-spec =
