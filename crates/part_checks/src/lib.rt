@@ -51,7 +51,7 @@ fn follows_ok(first: bool, q: Held, p: Held) -> bool
 }
 
 // What is left of a after b; 0 where b is more.
-fn less(a: u64, b: u64) -> u64
+pub fn less(a: u64, b: u64) -> u64
     ensures { λ r. ⌜ r ≡ a - b ⌝ }
 {
     if b <= a { a - b } else { 0 }

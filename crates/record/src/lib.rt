@@ -3,6 +3,7 @@ use field::and;
 use field::write_u32;
 use field::write_u64;
 use fnv::digest;
+use part_checks::less;
 use parts::Counts;
 use parts::Piece;
 use parts::add_part;
@@ -22,7 +23,7 @@ use sections::last_checkpoint;
 ghost use mathlib.Core.Path.{_≡_};
 ghost use mathlib.Core.Bool.{true};
 ghost use mathlib.Core.List.{List};
-ghost use Prim.Native.Nat.{ℕ, _+_, _-_, _*_, _≤_, _<_};
+ghost use Prim.Native.Nat.{ℕ, _+_, _*_, _≤_, _<_};
 ghost use lib.ListN.{length};
 ghost use lib.Seq.{sets};
 ghost use Rattle.rules.specs.Tests.{ask};
@@ -75,13 +76,6 @@ fn starts(area: Area, lsn: u64, frame: UnderAssembly) -> bool
 }
 
 // ---- what is written
-// What is left of a after b; 0 where b is more.
-fn less(a: u64, b: u64) -> u64
-    ensures { λ q. ⌜ q ≡ a - b ⌝ }
-{
-    if b <= a { a - b } else { 0 }
-}
-
 fn back_of(lsn: u64, frame: UnderAssembly) -> u32
     requires { ⌜ lsn < 4294967296 ⌝ }
     ensures { λ q. ⌜ ((b : List ℕ) → q ≡ backOf lsn (assemblingIn frame b)) ⌝ }
