@@ -1,7 +1,7 @@
 //! Calls on one list that leave it as it is, or make it: three lists.
 
 use crate::limits::Work;
-use crate::lists::{List, hint, list, their_area, theirs};
+use crate::lists::{List, their_area, theirs, three};
 use crate::raw::BLOCK;
 use crate::report::{Report, Row};
 use crate::rounds::{Round, repeat};
@@ -11,9 +11,7 @@ use oracle::seek::{AreaIndex, IndexOptions};
 use std::hint::black_box;
 
 pub fn rows(r: &Report) {
-    let hints = List { hints: (0..2_048).map(hint).collect(), ..list(7_400, 64) };
-    let frames = List { held: (1..=16).map(|i| 10 * i).collect(), budget: 1 << 20, ..list(1_000, 64) };
-    for (case, list) in [("7,400 checkpoints, 2,048 hints", hints), ("475,000 checkpoints", list(475_000, 1)), ("1 MiB of frame bytes", frames)] {
+    for (case, list) in three() {
         Case { r, case, list: &list, file: list.file() }.rows();
     }
 }

@@ -20,6 +20,7 @@ pub const START: u32 = 1000;
 /// A list, before it is a file.
 #[derive(Clone)]
 pub struct List {
+    pub slot: u8,
     pub boundaries: u32,
     pub interval: u32,
     /// How many checkpoints it has.
@@ -36,6 +37,7 @@ pub struct List {
 /// A list of all of `n` boundaries, and nothing else.
 pub fn list(n: u32, interval: u32) -> List {
     List {
+        slot: 0,
         boundaries: n,
         interval,
         checkpoints: n,
@@ -46,6 +48,13 @@ pub fn list(n: u32, interval: u32) -> List {
         confirmed: Vec::new(),
         fingerprint: None,
     }
+}
+
+/// The three lists of the calls on files, and their cases.
+pub fn three() -> [(&'static str, List); 3] {
+    let hints = List { hints: (0..2_048).map(hint).collect(), ..list(7_400, 64) };
+    let frames = List { held: (1..=16).map(|i| 10 * i).collect(), budget: 1 << 20, ..list(1_000, 64) };
+    [("7,400 checkpoints, 2,048 hints", hints), ("475,000 checkpoints", list(475_000, 1)), ("1 MiB of frame bytes", frames)]
 }
 
 /// Frame numbers that rise by 1 to 15.
@@ -63,7 +72,7 @@ pub fn confirmation(i: u32) -> (u32, u32, u64) {
     (START + 3 * i, number(i), u64::from(i) * 0x9e37_79b9)
 }
 
-fn u32s(out: &mut Vec<u8>, values: &[u32]) {
+pub fn u32s(out: &mut Vec<u8>, values: &[u32]) {
     for v in values {
         out.extend_from_slice(&v.to_le_bytes());
     }
@@ -73,7 +82,7 @@ impl List {
     pub fn area(&self) -> Area {
         let start = u64::from(START);
         let end = start + u64::from(self.boundaries) * u64::from(self.interval);
-        Area { slot: 0, channels: 2, key_start: START, key_end: end as u32 - 1, sectors: end + 100, start, end }
+        Area { slot: self.slot, channels: 2, key_start: START, key_end: end as u32 - 1, sectors: end + 100, start, end }
     }
 
     fn version(&self) -> u32 {
@@ -147,7 +156,8 @@ impl List {
 
 /// The original's area.
 pub fn their_area(a: &Area) -> oracle::toc::Area {
-    oracle::toc::Area::new(oracle::Slot::TwoChannel, a.key_start, a.key_end, a.channels)
+    let slot = if a.slot == 0 { oracle::Slot::TwoChannel } else { oracle::Slot::Multichannel };
+    oracle::toc::Area::new(slot, a.key_start, a.key_end, a.channels)
 }
 
 /// The original's index of a file.

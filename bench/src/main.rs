@@ -2,6 +2,7 @@
 //! `--quick` takes about a minute, `--markdown` writes the table of docs/SPEED.md, `--only` and `--case` take the calls and cases named so.
 
 mod allocator;
+mod discs;
 mod files;
 mod hints;
 mod limits;
@@ -50,6 +51,7 @@ fn main() {
     report.head();
     sectors::rows(&report);
     files::rows(&report);
+    discs::rows(&report);
     merges::rows(&report);
     hints::rows(&report);
     records::rows(&report);

@@ -63,7 +63,8 @@ fn both(r: &Report, case: &str, own: &List, other: &List) {
     let rest = b[0] - common;
     let list_bytes = |u: [usize; 7]| u[5] + u[6];
     let parts = if rest > 0 { b[1] + b[2] + b[3] } else { 0 };
-    let least = Work { sum: 0, read: start.read() + other_ours.read(), compare: common, copy: rest + parts + list_bytes(a) + list_bytes(b) };
+    let copy = rest + parts + list_bytes(a) + list_bytes(b);
+    let least = Work { read: start.read() + other_ours.read(), compare: common, copy, ..Work::default() };
     if r.wants("merge") {
         let (mut one, mut two) = (start.copy(), other_ours.copy());
         let four = repeat(move || (one.four(), two.four()));

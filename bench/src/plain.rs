@@ -1,8 +1,23 @@
 //! Plain Rust.
 
+/// The sum of no bytes.
+const EMPTY: u64 = 0xcbf2_9ce4_8422_2325;
+
+/// A sum with one byte more.
+fn step(h: u64, &b: &u8) -> u64 {
+    (h ^ u64::from(b)).wrapping_mul(0x0100_0000_01b3)
+}
+
 /// The sum of bytes.
 pub fn fnv(bytes: &[u8]) -> u64 {
-    bytes.iter().fold(0xcbf2_9ce4_8422_2325, |h, &b| (h ^ u64::from(b)).wrapping_mul(0x0100_0000_01b3))
+    bytes.iter().fold(EMPTY, step)
+}
+
+/// Two sums in one pass; the second is of as many bytes at most.
+pub fn sums(bytes: &[u8], beside: &[u8]) -> (u64, u64) {
+    let (with, alone) = bytes.split_at(beside.len());
+    let (h, k) = with.iter().zip(beside).fold((EMPTY, EMPTY), |(h, k), (b, c)| (step(h, b), step(k, c)));
+    (alone.iter().fold(h, step), k)
 }
 
 /// Every word of the bytes, read once.

@@ -17,6 +17,16 @@ macro_rules! seven {
     }};
 }
 
+/// The same over seven tables and seven more, whose pointers `$pointer` tells.
+macro_rules! fourteen {
+    ($f:ident ($($before:expr),*) $tables:expr, $more:expr, $pointer:ident, ($($after:expr),*)) => {{
+        let [u0, u1, u2, u3, u4, u5, u6] = $more;
+        seven!($f($($before),*) $tables, (
+            u0.$pointer(), u0.len(), u1.$pointer(), u1.len(), u2.$pointer(), u2.len(), u3.$pointer(), u3.len(), u4.$pointer(), u4.len(),
+            u5.$pointer(), u5.len(), u6.$pointer(), u6.len() $(, $after)*))
+    }};
+}
+
 /// A word of a block.
 pub fn word(block: &[u8; BLOCK], i: usize) -> u64 {
     u64::from_le_bytes(std::array::from_fn(|k| block[8 * i + k]))
@@ -37,6 +47,11 @@ fn sizes(list: &List) -> [usize; 7] {
 impl Tables {
     pub fn new(list: &List) -> Tables {
         Tables { head: [0; BLOCK], tables: sizes(list).map(|s| vec![0; s]) }
+    }
+
+    /// No tables, for a list that is not there.
+    pub fn absent() -> Tables {
+        Tables { head: [0; BLOCK], tables: Default::default() }
     }
 
     /// A list's file, loaded.
@@ -125,17 +140,11 @@ impl Tables {
     }
 
     pub fn merge(&mut self, other: &Tables) -> u32 {
-        let [u0, u1, u2, u3, u4, u5, u6] = &other.tables;
-        seven!(seek_raw_merge(self.head.as_mut_ptr(), BLOCK, other.head.as_ptr(), BLOCK) self.tables, (
-            u0.as_ptr(), u0.len(), u1.as_ptr(), u1.len(), u2.as_ptr(), u2.len(), u3.as_ptr(), u3.len(), u4.as_ptr(), u4.len(), u5.as_ptr(), u5.len(),
-            u6.as_ptr(), u6.len()))
+        fourteen!(seek_raw_merge(self.head.as_mut_ptr(), BLOCK, other.head.as_ptr(), BLOCK) self.tables, &other.tables, as_ptr, ())
     }
 
     pub fn adds(&mut self, other: &Tables, answer: &mut [u8; BLOCK]) -> u32 {
-        let [u0, u1, u2, u3, u4, u5, u6] = &other.tables;
-        seven!(seek_raw_adds(self.head.as_ptr(), BLOCK, other.head.as_ptr(), BLOCK, answer.as_mut_ptr(), BLOCK) self.tables, (
-            u0.as_ptr(), u0.len(), u1.as_ptr(), u1.len(), u2.as_ptr(), u2.len(), u3.as_ptr(), u3.len(), u4.as_ptr(), u4.len(), u5.as_ptr(), u5.len(),
-            u6.as_ptr(), u6.len()))
+        fourteen!(seek_raw_adds(self.head.as_ptr(), BLOCK, other.head.as_ptr(), BLOCK, answer.as_mut_ptr(), BLOCK) self.tables, &other.tables, as_ptr, ())
     }
 
     /// Hints of 8 bytes each.
@@ -157,6 +166,31 @@ impl Tables {
 
     pub fn hint_recorder(&mut self, block: &mut [u8; BLOCK]) -> u32 {
         seven!(seek_raw_hint_recorder(self.head.as_ptr(), BLOCK, block.as_mut_ptr(), BLOCK) self.tables, ())
+    }
+
+    pub fn disc_saved_length(&mut self) -> u64 {
+        seven!(seek_raw_disc_saved_length(self.head.as_ptr(), BLOCK) self.tables, ())
+    }
+
+    pub fn disc_saved_length_both(&mut self, other: &Tables) -> u64 {
+        fourteen!(seek_raw_disc_saved_length_both(self.head.as_ptr(), BLOCK, other.head.as_ptr(), BLOCK) self.tables, &other.tables, as_ptr, ())
+    }
+
+    pub fn disc_save(&mut self, out: &mut [u8]) -> u64 {
+        seven!(seek_raw_disc_save(self.head.as_ptr(), BLOCK) self.tables, (out.as_mut_ptr(), out.len()))
+    }
+
+    pub fn disc_save_both(&mut self, other: &Tables, out: &mut [u8]) -> u64 {
+        fourteen!(seek_raw_disc_save_both(self.head.as_ptr(), BLOCK, other.head.as_ptr(), BLOCK) self.tables, &other.tables, as_ptr,
+            (out.as_mut_ptr(), out.len()))
+    }
+
+    /// A disc file's lists of slots 0 and 1, into these tables and the others.
+    pub fn disc_load(&mut self, other: &mut Tables, [a, b]: &[Area; 2], file: &[u8], answer: &mut [u8; BLOCK]) -> u32 {
+        fourteen!(seek_raw_disc_load(
+            self.head.as_mut_ptr(), BLOCK, other.head.as_mut_ptr(), BLOCK, a.slot, a.channels, a.key_start, a.key_end, a.sectors, a.start, a.end, b.slot,
+            b.channels, b.key_start, b.key_end, b.sectors, b.start, b.end, file.as_ptr(), file.len(), u64::MAX, answer.as_mut_ptr(), BLOCK)
+            self.tables, &mut other.tables, as_mut_ptr, ())
     }
 
     pub fn absorb(&mut self, r: &mut Recorder, image: u64) -> u32 {
@@ -273,4 +307,21 @@ pub fn file_sizes(a: &Area, file: &[u8], answer: &mut [u8; BLOCK]) -> u32 {
 pub fn file_area(file: &[u8], answer: &mut [u8; BLOCK]) -> u32 {
     // Safety: as above.
     unsafe { raw::seek_raw_file_area(file.as_ptr(), file.len(), answer.as_mut_ptr(), BLOCK) }
+}
+
+/// Where the lists of a disc file lie.
+pub fn disc_contents(file: &[u8], answer: &mut [u8; BLOCK]) -> u32 {
+    // Safety: as above.
+    unsafe { raw::seek_raw_disc_contents(file.as_ptr(), file.len(), answer.as_mut_ptr(), BLOCK) }
+}
+
+/// The lengths of the tables of a disc file's lists.
+pub fn disc_sizes([a, b]: &[Area; 2], file: &[u8], answer: &mut [u8; BLOCK]) -> u32 {
+    // Safety: as above.
+    unsafe {
+        raw::seek_raw_disc_sizes(
+            a.slot, a.channels, a.key_start, a.key_end, a.sectors, a.start, a.end, b.slot, b.channels, b.key_start, b.key_end, b.sectors, b.start, b.end,
+            file.as_ptr(), file.len(), u64::MAX, answer.as_mut_ptr(), BLOCK,
+        )
+    }
 }
