@@ -4,7 +4,7 @@ use crate::limits::Work;
 use crate::lists::{List, their_area, theirs, three};
 use crate::raw::BLOCK;
 use crate::report::{Report, Row};
-use crate::rounds::{Round, repeat};
+use crate::rounds::{Round, fresh, repeat};
 use crate::tables::{self, Tables, word};
 use oracle::calls;
 use oracle::seek::{AreaIndex, IndexOptions};
@@ -71,7 +71,7 @@ impl Case<'_> {
     fn load(&self) {
         let (mut ours, a) = (Tables::new(self.list), self.list.area());
         let load = repeat(move || ours.load(black_box(&a), &self.file));
-        self.row("load", self.bytes(), false, load, Some(repeat(move || theirs(black_box(&a), &self.file))));
+        self.row("load", self.bytes(), false, load, Some(fresh(|| (), move |_| theirs(black_box(&a), &self.file))));
         let mut answer = [0; BLOCK];
         let sizes = repeat(move || tables::file_sizes(black_box(&a), &self.file, &mut answer));
         self.row("file sizes", Work { sum: self.file.len(), ..Work::default() }, false, sizes, None);
@@ -82,7 +82,7 @@ impl Case<'_> {
     fn save(&self, theirs: AreaIndex) {
         let (mut ours, mut out) = (Tables::loaded(self.list), vec![0; self.file.len()]);
         let save = repeat(move || black_box(&mut ours).save(&mut out));
-        self.row("save", self.bytes(), true, save, Some(repeat(move || black_box(&theirs).to_bytes())));
+        self.row("save", self.bytes(), true, save, Some(fresh(|| (), move |_| black_box(&theirs).to_bytes())));
         let mut ours = Tables::loaded(self.list);
         self.row("saved length", self.reading(), true, repeat(move || black_box(&mut ours).saved_length()), None);
     }
