@@ -12,7 +12,7 @@ use std::hint::black_box;
 const CALLS: [&str; 5] = ["disc contents", "disc sizes", "disc load", "disc saved length", "disc save"];
 
 pub fn rows(r: &Report) {
-    if !CALLS.iter().any(|c| r.wants(c)) {
+    if !r.wants_any(&CALLS) {
         return;
     }
     for (case, list) in three() {

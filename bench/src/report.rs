@@ -96,7 +96,7 @@ impl Report {
 
     /// Runs a case and prints its row.
     pub fn row(&self, row: Row<'_>) {
-        if !self.has(&row.case) {
+        if !self.wants(row.call) || !self.has(&row.case) {
             return;
         }
         let (has_theirs, has_four, limit) = (row.theirs.is_some(), row.four.is_some(), row.least.text());
@@ -148,6 +148,10 @@ impl Report {
 
     pub fn wants(&self, call: &str) -> bool {
         call.contains(&self.only)
+    }
+
+    pub fn wants_any(&self, calls: &[&str]) -> bool {
+        calls.iter().any(|c| self.wants(c))
     }
 
     pub fn has(&self, case: &str) -> bool {
