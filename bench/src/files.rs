@@ -5,12 +5,19 @@ use crate::lists::{List, their_area, theirs, three};
 use crate::raw::BLOCK;
 use crate::report::{Report, Row};
 use crate::rounds::{Round, fresh, repeat};
-use crate::tables::{self, Tables, word};
+use crate::tables::{self, Tables};
 use oracle::calls;
 use oracle::seek::{AreaIndex, IndexOptions};
 use std::hint::black_box;
 
+const LOADS: [&str; 3] = ["load", "file sizes", "file area"];
+const SAVES: [&str; 2] = ["save", "saved length"];
+const RECORDERS: [&str; 2] = ["recorder", "hint recorder"];
+
 pub fn rows(r: &Report) {
+    if !r.wants_any(&[&LOADS[..], &SAVES, &RECORDERS, &["plan", "new", "fingerprint"]].concat()) {
+        return;
+    }
     for (case, list) in three() {
         Case { r, case, list: &list, file: list.file() }.rows();
     }
@@ -35,10 +42,10 @@ impl Case<'_> {
         let theirs = self.list.theirs();
         assert_eq!(ours.file(), self.file, "{}: saved bytes differ", self.case);
         assert_eq!(theirs.to_bytes(), self.file, "{}: the original's saved bytes differ", self.case);
-        if self.r.wants("load") {
+        if self.r.wants_any(&LOADS) {
             self.load();
         }
-        if self.r.wants("save") {
+        if self.r.wants_any(&SAVES) {
             self.save(theirs.clone());
         }
         if self.r.wants("plan") {
@@ -50,10 +57,7 @@ impl Case<'_> {
         if self.r.wants("fingerprint") {
             self.fingerprint(theirs.clone());
         }
-        if self.r.wants("hint") {
-            self.hint(&theirs);
-        }
-        if self.r.wants("recorder") {
+        if self.r.wants_any(&RECORDERS) {
             self.recorders(&theirs);
         }
     }
@@ -102,25 +106,19 @@ impl Case<'_> {
         let (mut ours, a, l) = (Tables::new(self.list), self.list.area(), self.list);
         let area = their_area(&a);
         let options = IndexOptions::new().with_interval(l.interval).with_inline_budget(l.budget as usize).with_hints(8, l.most as usize);
+        let made = AreaIndex::new(&area, a.sectors, options.clone()).expect("the original makes no list");
+        assert_eq!(ours.create(&a, l.interval, l.budget, 8, l.most), 0, "no list is made");
+        assert_eq!(ours.file(), made.to_bytes(), "the new lists differ");
         let new = repeat(move || ours.create(black_box(&a), l.interval, l.budget, 8, l.most));
         self.row("new", Work::default(), false, new, Some(repeat(move || AreaIndex::new(black_box(&area), a.sectors, options).is_ok())));
     }
 
     fn fingerprint(&self, mut theirs: AreaIndex) {
         let mut ours = Tables::loaded(self.list);
+        assert!(ours.fingerprint(7) == 0 && calls::fingerprint(&mut theirs, 7), "the fingerprint is refused");
+        assert_eq!(ours.file(), theirs.to_bytes(), "the lists with a fingerprint differ");
         let stated = repeat(move || ours.fingerprint(black_box(7)));
         self.row("fingerprint", self.reading(), true, stated, Some(repeat(move || calls::fingerprint(black_box(&mut theirs), 7))));
-    }
-
-    fn hint(&self, theirs: &AreaIndex) {
-        let Some(&(_, number)) = self.list.hints.get(self.list.hints.len() / 2) else { return };
-        let (mut ours, mut answer) = (Tables::loaded(self.list), [0; BLOCK]);
-        assert_eq!(ours.hint(number + 3, number + 75, 40_000, &mut answer), 0, "hint is refused");
-        let said = (word(&answer, 1), word(&answer, 2) as u32, word(&answer, 3), word(&answer, 4) != 0);
-        assert_eq!(Some(said), calls::hint(theirs, number + 3, number + 75, 40_000), "hints differ");
-        let hint = repeat(move || ours.hint(black_box(number + 3), number + 75, 40_000, &mut answer));
-        let theirs = repeat(move || calls::hint(black_box(theirs), black_box(number + 3), number + 75, 40_000));
-        self.row("hint", self.reading(), true, hint, Some(theirs));
     }
 
     fn recorders(&self, theirs: &AreaIndex) {

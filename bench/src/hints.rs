@@ -4,11 +4,12 @@ use crate::limits::Work;
 use crate::lists::{List, confirmation, hint, list};
 use crate::plain::shuffled;
 use crate::raw::BLOCK;
-use crate::report::{Report, Row};
+use crate::report::{Report, Row, grouped};
 use crate::rounds::{fresh, repeat, restored};
 use crate::sectors::sector;
-use crate::tables::{Hints, Tables};
+use crate::tables::{Hints, Tables, word};
 use oracle::calls;
+use std::hint::black_box;
 use std::ops::Range;
 
 pub fn rows(r: &Report) {
@@ -16,7 +17,7 @@ pub fn rows(r: &Report) {
         adding(r);
     }
     if r.wants("hint") {
-        for (most, held) in [(4_096, 64), (65_536, 65_536)] {
+        for (most, held) in [(4_096, 64), (4_096, 2_048), (65_536, 65_536)] {
             finding(r, most, held);
         }
     }
@@ -25,8 +26,8 @@ pub fn rows(r: &Report) {
             keep(r, most, held);
         }
     }
-    if r.wants("see") {
-        see(r);
+    if r.wants_any(&SEEING.map(|s| s.call)) {
+        seeing(r);
     }
 }
 
@@ -55,12 +56,17 @@ fn adding(r: &Report) {
     add(r, "65,536 to none, not rising", &holding(65_536, 0), shuffled(&known), 1.0);
 }
 
+/// Hints as the library takes them.
+fn bytes_of(hints: &[(u32, u32)]) -> Vec<u8> {
+    hints.iter().flat_map(|&(lsn, n)| [lsn.to_le_bytes(), n.to_le_bytes()].concat()).collect()
+}
+
 fn add(r: &Report, case: &str, held: &List, given: Vec<(u32, u32)>, goal: f64) {
     if !r.has(case) {
         return;
     }
     let (start, theirs) = (Tables::loaded(held), held.theirs());
-    let list: Vec<u8> = given.iter().flat_map(|&(lsn, n)| [lsn.to_le_bytes(), n.to_le_bytes()].concat()).collect();
+    let list = bytes_of(&given);
     let (mut ours, mut same, mut asked) = (start.copy(), theirs.clone(), start.copy());
     assert_eq!(ours.add_hints(&list), 0, "{case}: refused");
     calls::add_hints(&mut same, given.clone());
@@ -83,11 +89,14 @@ fn finding(r: &Report, most: u32, n: u32) {
     let (mut ours, mut asked, theirs) = (Tables::loaded(&held), Tables::loaded(&held), held.theirs());
     let least = Work { read: ours.read(), ..Work::default() };
     let (first, mut answer) = (held.hints[n as usize / 2].1 + 3, [0; BLOCK]);
+    assert_eq!(ours.hint(first, first + 75, 1_000_000, &mut answer), 0, "hint is refused");
+    let said = (word(&answer, 1), word(&answer, 2) as u32, word(&answer, 3), word(&answer, 4) != 0);
+    assert_eq!(Some(said), calls::hint(&theirs, first, first + 75, 1_000_000), "hints differ");
     r.row(Row {
         call: "hint",
-        case: format!("one of {}", crate::report::grouped(u64::from(n))),
-        ours: repeat(move || ours.hint(first, first + 75, 1_000_000, &mut answer)),
-        theirs: Some(repeat(|| calls::hint(&theirs, first, first + 75, 1_000_000))),
+        case: format!("one of {}", grouped(u64::from(n))),
+        ours: repeat(move || ours.hint(black_box(first), first + 75, 1_000_000, &mut answer)),
+        theirs: Some(repeat(|| calls::hint(black_box(&theirs), black_box(first), first + 75, 1_000_000))),
         four: Some(repeat(move || asked.four())),
         least,
         goal: Some((1.0, false)),
@@ -107,7 +116,7 @@ fn keep(r: &Report, most: u32, n: u32) {
     let least = Work { read: start.read(), copy: 8 * n as usize, ..Work::default() };
     r.row(Row {
         call: "keep_confirmation",
-        case: format!("in the middle of {}", crate::report::grouped(u64::from(n))),
+        case: format!("in the middle of {}", grouped(u64::from(n))),
         ours: restored(ours, |t| t.restore(&start), |t| t.keep_confirmation((lsn, threshold, digest), &mut [0; BLOCK])),
         theirs: Some(fresh(|| theirs.clone(), |ix| calls::keep_confirmation(ix, u64::from(lsn), threshold, digest))),
         four: Some(repeat(move || asked.four())),
@@ -116,48 +125,82 @@ fn keep(r: &Report, most: u32, n: u32) {
     });
 }
 
-/// 4,096 sectors, every second one with a frame start that is listed.
-fn see(r: &Report) {
-    let held = list(7_400, 64);
-    let (mut ours, theirs) = (Tables::loaded(&held), held.theirs());
-    let sectors: Vec<[u8; 2048]> = (0..4_096).map(|i| sector(4 * i)).collect();
-    let mut start = Hints::new();
-    assert_eq!(ours.hint_recorder(&mut start.block), 0, "no hint recorder");
-    let block = start.block;
-    let their_start = calls::Hints::new(&theirs).expect("no hint recorder");
-    for (call, flush, take) in [("see", false, false), ("see and flush", true, false), ("see and take", false, true)] {
-        let ready = move |h: &mut Hints| h.block = block;
-        let sees = |h: &mut Hints| {
-            for (i, s) in sectors.iter().enumerate() {
-                let mut refused = h.see(2_000 + i as u64, s);
-                if flush {
-                    refused |= h.flush();
-                }
-                if take {
-                    refused |= h.take(&mut [0; BLOCK]);
-                }
-                assert_eq!(refused, 0, "a sector is refused");
+/// What follows each sector that is seen.
+#[derive(Clone, Copy)]
+struct Seeing {
+    call: &'static str,
+    flush: bool,
+    take: bool,
+}
+
+const SEEING: [Seeing; 3] = [
+    Seeing { call: "see", flush: false, take: false },
+    Seeing { call: "see and flush", flush: true, take: false },
+    Seeing { call: "see and take", flush: false, take: true },
+];
+
+impl Seeing {
+    fn ours(self, h: &mut Hints, sectors: &[[u8; 2048]]) {
+        for (i, s) in sectors.iter().enumerate() {
+            let mut refused = h.see(2_000 + i as u64, s);
+            if self.flush {
+                refused |= h.flush();
             }
-        };
-        let their_sees = |h: &mut calls::Hints| {
-            for (i, s) in sectors.iter().enumerate() {
-                h.see(2_000 + i as u64, s);
-                if flush {
-                    h.flush();
-                }
-                if take {
-                    std::hint::black_box(h.take());
-                }
+            if self.take {
+                refused |= h.take(&mut [0; BLOCK]);
             }
-        };
-        r.row(Row {
-            call,
-            case: "4,096 sectors".to_string(),
-            ours: restored(Hints::new(), ready, sees),
-            theirs: Some(fresh(|| their_start.clone(), their_sees)),
-            four: None,
-            least: Work::default(),
-            goal: None,
-        });
+            assert_eq!(refused, 0, "a sector is refused");
+        }
     }
+
+    fn theirs(self, h: &mut calls::Hints, sectors: &[[u8; 2048]]) {
+        for (i, s) in sectors.iter().enumerate() {
+            h.see(2_000 + i as u64, s);
+            if self.flush {
+                h.flush();
+            }
+            if self.take {
+                black_box(h.take());
+            }
+        }
+    }
+}
+
+/// What a hint recorder takes last.
+fn taken(h: &mut Hints) -> Vec<u8> {
+    let mut answer = [0; BLOCK];
+    assert_eq!(h.flush() | h.take(&mut answer), 0, "nothing is taken");
+    h.list[..8 * word(&answer, 0) as usize].to_vec()
+}
+
+/// Sectors in each of which a frame starts; every second one is listed.
+fn seeing(r: &Report) {
+    let held = list(7_400, 64);
+    let (mut ours, mut start) = (Tables::loaded(&held), Hints::new());
+    assert_eq!(ours.hint_recorder(&mut start.block), 0, "no hint recorder");
+    let their_start = calls::Hints::new(&held.theirs()).expect("no hint recorder");
+    let sectors: Vec<[u8; 2048]> = (0..16_384).map(|i| sector(4 * i)).collect();
+    for n in [64, 4_096, 16_384] {
+        for call in SEEING {
+            see(r, call, (start.block, &their_start), &sectors[..n]);
+        }
+    }
+}
+
+fn see(r: &Report, seeing: Seeing, (block, their_start): ([u8; BLOCK], &calls::Hints), sectors: &[[u8; 2048]]) {
+    let (mut ours, mut theirs) = (Hints::new(), their_start.clone());
+    ours.block = block;
+    seeing.ours(&mut ours, sectors);
+    seeing.theirs(&mut theirs, sectors);
+    theirs.flush();
+    assert_eq!(taken(&mut ours), bytes_of(&theirs.take()), "{}: the hints differ", seeing.call);
+    r.row(Row {
+        call: seeing.call,
+        case: format!("{} sectors", grouped(sectors.len() as u64)),
+        ours: restored(ours, move |h| h.block = block, |h| seeing.ours(h, sectors)),
+        theirs: Some(fresh(|| their_start.clone(), |h| seeing.theirs(h, sectors))),
+        four: None,
+        least: Work::default(),
+        goal: None,
+    });
 }
