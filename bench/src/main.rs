@@ -4,6 +4,7 @@
 mod allocator;
 mod discs;
 mod files;
+mod goals;
 mod hints;
 mod limits;
 mod lists;
@@ -21,6 +22,7 @@ mod tables;
 
 use report::Report;
 use rounds::Effort;
+use std::cell::RefCell;
 use std::time::Duration;
 
 #[global_allocator]
@@ -42,7 +44,7 @@ fn options() -> Option<Report> {
         true => Effort { row: Duration::from_millis(300), fewest: 3, most: 61 },
         false => Effort { row: Duration::from_secs(5), fewest: 5, most: 101 },
     };
-    Some(Report { effort, markdown, only, case })
+    Some(Report { effort, markdown, only, case, judged: RefCell::default() })
 }
 
 fn main() {
@@ -57,4 +59,5 @@ fn main() {
     merges::rows(&report);
     hints::rows(&report);
     records::rows(&report);
+    report.tail();
 }

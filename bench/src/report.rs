@@ -1,7 +1,9 @@
 //! The table: one row for each case.
 
+use crate::goals::{self, Goal, Judged, judge, middle};
 use crate::limits::Work;
 use crate::rounds::{Effort, Round, Timed, run};
+use std::cell::RefCell;
 
 /// One case of a call.
 pub struct Row<'a> {
@@ -13,8 +15,7 @@ pub struct Row<'a> {
     /// The questions 1 to 4 of the call's lists alone, where it asks them.
     pub four: Option<Round<'a>>,
     pub least: Work,
-    /// The ratio that the issue asks for, and whether question 4 counts in it.
-    pub goal: Option<(f64, bool)>,
+    pub goal: Option<Goal>,
 }
 
 pub struct Report {
@@ -24,6 +25,8 @@ pub struct Report {
     pub only: String,
     /// Only cases with this in them.
     pub case: String,
+    /// The rows with a goal so far.
+    pub judged: RefCell<Vec<Judged>>,
 }
 
 /// A number with its thousands apart.
@@ -51,8 +54,9 @@ fn micros(t: f64) -> String {
 }
 
 /// A ratio with the digits that say something.
-fn ratio(r: f64) -> String {
+pub fn ratio(r: f64) -> String {
     match r {
+        r if r < 0.0 => format!("-{}", ratio(-r)),
         r if r >= 100.0 => grouped(r.round() as u64),
         r if r >= 10.0 => format!("{r:.1}"),
         r if r >= 0.01 => format!("{r:.2}"),
@@ -60,8 +64,28 @@ fn ratio(r: f64) -> String {
     }
 }
 
-fn pair(t: Option<Timed>) -> String {
-    t.map_or("none".to_string(), |t| format!("{} / {}", micros(t.least), micros(t.median)))
+fn pair(t: &Timed) -> String {
+    format!("{} / {}", micros(t.least), micros(t.median))
+}
+
+fn ratios(ours: &Timed, theirs: &Timed) -> String {
+    format!("{} / {}", ratio(ours.least / theirs.least), ratio(ours.median / theirs.median))
+}
+
+fn spread(ours: &Timed, theirs: &Timed) -> String {
+    let (low, high) = middle(ours, theirs, None);
+    format!("{} to {}", ratio(low), ratio(high))
+}
+
+fn without(ours: &Timed, theirs: &Timed, four: &Timed) -> String {
+    goals::without(ours, theirs, four).map_or("they are all of it".to_string(), ratio)
+}
+
+fn allocated(t: &Timed) -> String {
+    match t.allocations {
+        0 => "nothing".to_string(),
+        n => format!("{} in {}", grouped(t.bytes), grouped(n)),
+    }
 }
 
 /// The processor's model, as the system says it.
@@ -77,8 +101,9 @@ fn said(program: &str, word: &str) -> String {
     output.map_or(format!("{program} not told"), |o| String::from_utf8_lossy(&o.stdout).trim().to_string())
 }
 
-const NAMES: [&str; 10] = [
-    "call", "case", "Rattle, us", "Rust, us", "ratio", "goal", "questions 1 to 4, us", "ratio without them", "limit, us: bytes", "the Rust allocates",
+const NAMES: [&str; 11] = [
+    "call", "case", "Rattle, us", "Rust, us", "ratio", "spread", "goal", "questions 1 to 4, us", "ratio without them", "limit, us: bytes",
+    "the Rust allocates",
 ];
 
 impl Report {
@@ -92,6 +117,11 @@ impl Report {
         println!("## Numbers\n\n{}, {cores} cores, {}, {}; {effort}.\n", model(), said("date", "+%Y-%m-%d"), said("rustc", "--version"));
         println!("| {} |", NAMES.join(" | "));
         println!("|{}", "---|".repeat(NAMES.len()));
+    }
+
+    /// What stands below it: the rows that miss their goal.
+    pub fn tail(&self) {
+        goals::print(&self.judged.borrow());
     }
 
     /// Runs a case and prints its row.
@@ -111,32 +141,28 @@ impl Report {
         assert_eq!(ours.allocations, 0, "{}: the library allocates", row.call);
         let theirs = if has_theirs { timed.next() } else { None };
         let four = if has_four { timed.next() } else { None };
-        let bound = timed.next();
-        let ratios = |t: Timed| format!("{} / {}", ratio(ours.least / t.least), ratio(ours.median / t.median));
-        let without = |t: Timed, q: Timed| match ours.least - q.least {
-            rest if rest < 0.05 * ours.least => "they are all of it".to_string(),
-            rest => ratio(rest / t.least),
-        };
-        let allocated = |t: Timed| match t.allocations {
-            0 => "nothing".to_string(),
-            n => format!("{} in {}", grouped(t.bytes), grouped(n)),
-        };
+        let (theirs, four, bound) = (theirs.as_ref(), four.as_ref(), timed.next());
+        if let (Some(goal), Some(t)) = (row.goal, theirs) {
+            self.judged.borrow_mut().push(judge(&format!("{}, {}", row.call, row.case), goal, &ours, t, four));
+        }
+        let or_empty = |cell: Option<String>| cell.unwrap_or_default();
         let cells = [
             row.call.to_string(),
             row.case,
-            pair(Some(ours)),
-            pair(theirs),
-            theirs.map_or(String::new(), ratios),
-            row.goal.map_or(String::new(), |(g, four)| format!("{g:.1}{}", if four { "" } else { " without 1 to 4" })),
-            four.map_or(String::new(), |q| micros(q.least)),
-            theirs.zip(four).map_or(String::new(), |(t, q)| without(t, q)),
-            bound.map_or(String::new(), |b| format!("{}: {limit}", micros(b.least))),
-            theirs.map_or(String::new(), allocated),
+            pair(&ours),
+            theirs.map_or("none".to_string(), pair),
+            or_empty(theirs.map(|t| ratios(&ours, t))),
+            or_empty(theirs.map(|t| spread(&ours, t))),
+            or_empty(row.goal.map(|(g, four)| format!("{g:.1}{}", if four { "" } else { " without 1 to 4" }))),
+            or_empty(four.map(|q| micros(q.least))),
+            or_empty(theirs.zip(four).map(|(t, q)| without(&ours, t, q))),
+            or_empty(bound.map(|b| format!("{}: {limit}", micros(b.least)))),
+            or_empty(theirs.map(allocated)),
         ];
         self.print(&cells);
     }
 
-    fn print(&self, cells: &[String; 10]) {
+    fn print(&self, cells: &[String; 11]) {
         if self.markdown {
             println!("| {} |", cells.join(" | "));
             return;

@@ -89,9 +89,9 @@ pub fn partly<'a>(mut run: impl FnMut(&mut Clock) + 'a) -> Round<'a> {
     })
 }
 
-/// Least and median of the rounds, and what was allocated in one call.
-#[derive(Clone, Copy)]
+/// The rounds in their order, the least and the median of them, and what was allocated in one call.
 pub struct Timed {
+    pub rounds: Vec<f64>,
     pub least: f64,
     pub median: f64,
     pub allocations: u64,
@@ -136,8 +136,10 @@ pub fn run(rounds: &mut [Round<'_>], effort: Effort) -> Vec<Timed> {
     samples.into_iter().map(timed).collect()
 }
 
-fn timed(mut s: Vec<Sample>) -> Timed {
-    s.sort_by(|a, b| a.micros.total_cmp(&b.micros));
-    let last = s[s.len() - 1];
-    Timed { least: s[0].micros, median: s[s.len() / 2].micros, allocations: last.allocations, bytes: last.bytes }
+fn timed(s: Vec<Sample>) -> Timed {
+    let rounds: Vec<f64> = s.iter().map(|s| s.micros).collect();
+    let mut sorted = rounds.clone();
+    sorted.sort_by(f64::total_cmp);
+    let most = s.iter().max_by_key(|s| s.allocations).expect("a round");
+    Timed { rounds, least: sorted[0], median: sorted[sorted.len() / 2], allocations: most.allocations, bytes: most.bytes }
 }
