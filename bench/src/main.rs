@@ -10,7 +10,7 @@ mod limits;
 mod lists;
 mod merges;
 mod plain;
-// A call of include/seek.h that has no case stops the build.
+// A call that no case makes stops the build.
 #[deny(dead_code)]
 #[path = "../../bindings/rust/src/raw.rs"]
 mod raw;
