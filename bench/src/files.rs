@@ -106,7 +106,7 @@ impl Case<'_> {
         let (mut ours, a, l) = (Tables::new(self.list), self.list.area(), self.list);
         let area = their_area(&a);
         let options = IndexOptions::new().with_interval(l.interval).with_inline_budget(l.budget as usize).with_hints(8, l.most as usize);
-        let made = AreaIndex::new(&area, a.sectors, options.clone()).expect("the original makes no list");
+        let made = AreaIndex::new(&area, a.sectors, options).expect("the original makes no list");
         assert_eq!(ours.create(&a, l.interval, l.budget, 8, l.most), 0, "no list is made");
         assert_eq!(ours.file(), made.to_bytes(), "the new lists differ");
         let new = repeat(move || ours.create(black_box(&a), l.interval, l.budget, 8, l.most));

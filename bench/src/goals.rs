@@ -47,10 +47,12 @@ pub fn judge(name: &str, (goal, counted): Goal, ours: &Timed, theirs: &Timed, fo
     let four = if counted { None } else { four };
     let (low, high) = middle(ours, theirs, four);
     let reached = four.map_or(Some(ours.least / theirs.least), |q| without(ours, theirs, q));
+    // By two digits behind the point, as they are printed.
+    let meets = |r: f64| (100.0 * r).round() <= (100.0 * goal).round();
     let verdict = match reached {
         None => Verdict::Untold,
-        Some(r) if (100.0 * r).round() <= 100.0 * goal => Verdict::Met,
-        Some(_) if low <= goal => Verdict::Spread,
+        Some(r) if meets(r) => Verdict::Met,
+        Some(_) if meets(low) => Verdict::Spread,
         Some(_) => Verdict::Missed,
     };
     let left_out = if counted { "" } else { " without questions 1 to 4" };

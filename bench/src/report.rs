@@ -88,6 +88,47 @@ fn allocated(t: &Timed) -> String {
     }
 }
 
+/// The times of a row.
+struct Times {
+    ours: Timed,
+    theirs: Option<Timed>,
+    four: Option<Timed>,
+    bound: Option<Timed>,
+}
+
+impl Times {
+    fn of(row: Row<'_>, effort: Effort) -> Times {
+        let (has_theirs, has_four) = (row.theirs.is_some(), row.four.is_some());
+        let mut rounds = vec![row.ours];
+        rounds.extend(row.theirs);
+        rounds.extend(row.four);
+        if !row.least.text().is_empty() {
+            rounds.push(row.least.round());
+        }
+        let mut timed = run(&mut rounds, effort).into_iter();
+        let ours = timed.next().expect("a time of ours");
+        let theirs = if has_theirs { timed.next() } else { None };
+        let four = if has_four { timed.next() } else { None };
+        Times { ours, theirs, four, bound: timed.next() }
+    }
+
+    /// The cells of both sides, their ratio and its spread, questions 1 to 4, the ratio without them, the limit, what is allocated.
+    fn cells(&self, limit: &str) -> [String; 8] {
+        let (ours, theirs, four) = (&self.ours, self.theirs.as_ref(), self.four.as_ref());
+        let or_empty = |cell: Option<String>| cell.unwrap_or_default();
+        [
+            pair(ours),
+            theirs.map_or("none".to_string(), pair),
+            or_empty(theirs.map(|t| ratios(ours, t))),
+            or_empty(theirs.map(|t| spread(ours, t))),
+            or_empty(four.map(|q| micros(q.least))),
+            or_empty(theirs.zip(four).map(|(t, q)| without(ours, t, q))),
+            or_empty(self.bound.as_ref().map(|b| format!("{}: {limit}", micros(b.least)))),
+            or_empty(theirs.map(allocated)),
+        ]
+    }
+}
+
 /// The processor's model, as the system says it.
 fn model() -> String {
     let text = std::fs::read_to_string("/proc/cpuinfo").unwrap_or_default();
@@ -129,37 +170,16 @@ impl Report {
         if !self.wants(row.call) || !self.has(&row.case) {
             return;
         }
-        let (has_theirs, has_four, limit) = (row.theirs.is_some(), row.four.is_some(), row.least.text());
-        let mut rounds = vec![row.ours];
-        rounds.extend(row.theirs);
-        rounds.extend(row.four);
-        if !limit.is_empty() {
-            rounds.push(row.least.round());
+        let (call, case, goal, limit) = (row.call, row.case.clone(), row.goal, row.least.text());
+        let times = Times::of(row, self.effort);
+        assert_eq!(times.ours.allocations, 0, "{call}: the library allocates");
+        if let (Some(goal), Some(theirs)) = (goal, &times.theirs) {
+            let judged = judge(&format!("{call}, {case}"), goal, &times.ours, theirs, times.four.as_ref());
+            self.judged.borrow_mut().push(judged);
         }
-        let mut timed = run(&mut rounds, self.effort).into_iter();
-        let ours = timed.next().expect("a time of ours");
-        assert_eq!(ours.allocations, 0, "{}: the library allocates", row.call);
-        let theirs = if has_theirs { timed.next() } else { None };
-        let four = if has_four { timed.next() } else { None };
-        let (theirs, four, bound) = (theirs.as_ref(), four.as_ref(), timed.next());
-        if let (Some(goal), Some(t)) = (row.goal, theirs) {
-            self.judged.borrow_mut().push(judge(&format!("{}, {}", row.call, row.case), goal, &ours, t, four));
-        }
-        let or_empty = |cell: Option<String>| cell.unwrap_or_default();
-        let cells = [
-            row.call.to_string(),
-            row.case,
-            pair(&ours),
-            theirs.map_or("none".to_string(), pair),
-            or_empty(theirs.map(|t| ratios(&ours, t))),
-            or_empty(theirs.map(|t| spread(&ours, t))),
-            or_empty(row.goal.map(|(g, four)| format!("{g:.1}{}", if four { "" } else { " without 1 to 4" }))),
-            or_empty(four.map(|q| micros(q.least))),
-            or_empty(theirs.zip(four).map(|(t, q)| without(&ours, t, q))),
-            or_empty(bound.map(|b| format!("{}: {limit}", micros(b.least)))),
-            or_empty(theirs.map(allocated)),
-        ];
-        self.print(&cells);
+        let [ours, theirs, ratio, spread, four, without, bound, allocated] = times.cells(&limit);
+        let goal = goal.map_or(String::new(), |(g, four)| format!("{g:.1}{}", if four { "" } else { " without 1 to 4" }));
+        self.print(&[call.to_string(), case, ours, theirs, ratio, spread, goal, four, without, bound, allocated]);
     }
 
     fn print(&self, cells: &[String; 11]) {
