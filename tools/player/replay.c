@@ -281,10 +281,11 @@ static void say_hex(const uint8_t *at, size_t n)
         printf("%02x", at[i]);
 }
 
-/* The first line of an answer, without its end; n is looked at behind the call. */
+/* The first line of an answer, without its end: the call is made, and what was lent and edited for it as it was. */
 static int answer(uint64_t n)
 {
     look(n);
+    restore();
     printf("%s %" PRIu64, command, n);
     return n == 0;
 }
@@ -295,7 +296,11 @@ static void end_line(void)
     changed = 0;
 }
 
-static void none(void) { printf("%s none\n", command); }
+static void none(void)
+{
+    restore();
+    printf("%s none\n", command);
+}
 
 static void say_tables(int p, int first, int end)
 {
@@ -373,6 +378,7 @@ static void do_script(void)
 {
     uint64_t n = number();
     int p;
+    restore();
     for (p = 0; p < PLACES; p++)
         places[p].has_area = places[p].has_list = places[p].has_recorder = 0;
     has_hints = 0;
@@ -383,6 +389,7 @@ static void do_area(void)
 {
     int p = at_place();
     seek_area *a = &places[p].area;
+    restore();
     a->slot = (uint8_t)number();
     a->key_start = (uint32_t)number();
     a->key_end = (uint32_t)number();
@@ -414,16 +421,11 @@ static void do_edit(void)
     int there = t == SEEN || t == HINT_BLOCK ? has_hints : t < RECORDS || t == HEAD ? places[p].has_list : places[p].has_recorder;
     if (at >= (t < TABLES ? room[t] : SEEK_BLOCK / 8))
         stop("an edit of nothing");
-    if (!there) {
-        none();
-        return;
+    if (there) {
+        put_bytes(t < TABLES ? table(p, t)->at + at : block(p, t) + 8 * at, t < TABLES ? 1 : 8, v);
+        pending = 1;
     }
-    if (t < TABLES)
-        put_bytes(table(p, t)->at + at, 1, v);
-    else
-        put_bytes(block(p, t) + 8 * at, 8, v);
-    pending = 1;
-    puts("edit 0");
+    puts(there ? "edit 0" : "edit none");
 }
 
 /* ---- lines: lists */
@@ -785,17 +787,12 @@ static const struct {
              {"absorb", do_absorb}, {"first_record", do_first_record}, {"hint_recorder", do_hint_recorder}, {"see", do_see},
              {"see_bytes", do_see_bytes}, {"see_many", do_see_many}, {"flush", do_flush}, {"take", do_take}};
 
-/* Lines that are no call: what was lent or edited stays for the call behind them, but for script and area. */
-static int is_call(void) { return strcmp(command, "lend") != 0 && strcmp(command, "edit") != 0; }
-
 static void run_line(char *line)
 {
     size_t i, n = strcspn(line, " \n");
     word = line + n + 1;
     line[n] = '\0';
     command = line;
-    if (strcmp(command, "script") == 0 || strcmp(command, "area") == 0)
-        restore();
     for (i = 0; i < sizeof lines / sizeof *lines; i++)
         if (strcmp(command, lines[i].name) == 0) {
             lines[i].run();
@@ -803,8 +800,6 @@ static void run_line(char *line)
         }
     if (i == sizeof lines / sizeof *lines)
         printf("%s unsupported\n", command);
-    if (is_call())
-        restore();
 }
 
 int main(int argc, char **argv)

@@ -2,6 +2,7 @@
 //! recorder, and asks the questions of document 01 that the original does not ask.
 
 use super::*;
+use crate::lent::Raw;
 use crate::text::{Sum, put, put_sum};
 
 include!(concat!(env!("OUT_DIR"), "/persist_cuts.rs"));
@@ -316,6 +317,90 @@ pub fn put_pairs(out: &mut Vec<u8>, list: &[(u32, u32)]) {
         sum.u32(lsn).u32(t);
     }
     put_sum(out, list.len(), &sum);
+}
+
+// ---- lists and recorders in lent tables
+
+fn key_words(words: &mut [u64; 24], key: &AreaKey, range: (u64, u64)) {
+    words[0] = u64::from(key.slot == crate::Slot::Multichannel);
+    (words[1], words[2], words[3]) = (u64::from(key.channels), u64::from(key.start), u64::from(key.end));
+    (words[4], words[5], words[6]) = (key.image_sectors, range.0, range.1);
+}
+
+/// The bytes of the tables that lists and recorders have: checkpoints, frames, frame bytes, parts.
+fn raw_tables(list: &[Checkpoint], st: &Stored) -> Vec<Vec<u8>> {
+    let mut out = vec![Vec::new(); 4];
+    for c in list {
+        out[0].extend_from_slice(&c.next_acceptable.to_le_bytes());
+        out[0].extend_from_slice(&c.back.to_le_bytes());
+        out[0].extend_from_slice(&c.malformed_before.to_le_bytes());
+        out[0].extend_from_slice(&c.digest.to_le_bytes());
+    }
+    for f in &st.frames {
+        out[1].extend_from_slice(&(f.start as u32).to_le_bytes());
+        out[1].extend_from_slice(&(f.bytes.len() as u32).to_le_bytes());
+        out[2].extend_from_slice(&f.bytes);
+    }
+    for h in &st.held {
+        let kind = u32::from(h.kind == FrameKind::Dsd);
+        for v in [h.at, h.frame, h.len, h.number, h.remaining as u32, kind] {
+            out[3].extend_from_slice(&v.to_le_bytes());
+        }
+    }
+    out
+}
+
+pub fn raw_list(ix: &AreaIndex) -> Raw {
+    let mut words = [0; 24];
+    key_words(&mut words, &ix.key, (ix.start, ix.end));
+    (words[7], words[8]) = (u64::from(ix.interval), ix.inline_budget as u64);
+    (words[9], words[10]) = (u64::from(ix.hint_spacing), ix.max_hints as u64);
+    let counts = [ix.checkpoints.len(), ix.stored.frames.len(), ix.stored.held.len(), ix.malformed.len()];
+    for (i, n) in counts.into_iter().chain([ix.samples.len(), ix.confirmed.len()]).enumerate() {
+        words[11 + i] = n as u64;
+    }
+    if let Some(e) = ix.end_state {
+        (words[17], words[18], words[19]) = (1, u64::from(e.next_acceptable), e.malformed);
+    }
+    if let Some(f) = ix.fingerprint {
+        (words[20], words[21]) = (1 + u64::from(ix.fingerprint_checked), f);
+    }
+    if let Some(id) = ix.image_id {
+        (words[22], words[23]) = (1, id);
+    }
+    let mut tables = raw_tables(&ix.checkpoints, &ix.stored);
+    tables.push(ix.malformed.iter().flat_map(|m| m.to_le_bytes()).collect());
+    tables.push(ix.samples.iter().flat_map(|s| [s.0.to_le_bytes(), s.1.to_le_bytes()].concat()).collect());
+    let confirmed = |c: &(u32, u32, u64)| [&c.0.to_le_bytes()[..], &c.1.to_le_bytes(), &c.2.to_le_bytes()].concat();
+    tables.push(ix.confirmed.iter().flat_map(confirmed).collect());
+    Raw { words, tables }
+}
+
+pub fn raw_recorder(r: &Recorder, stopped: bool) -> Raw {
+    let mut words = [0; 24];
+    key_words(&mut words, &r.key, r.key.audio_sector_range());
+    (words[7], words[8]) = (u64::from(r.interval), r.budget as u64);
+    (words[9], words[10], words[11]) = (u64::from(r.first), r.from, r.checkpoints.len() as u64);
+    (words[12], words[13]) = (r.stored.frames.len() as u64, r.stored.held.len() as u64);
+    match r.end_state {
+        _ if stopped => words[14] = 2,
+        None => {}
+        Some(e) => (words[14], words[15], words[16]) = (1, u64::from(e.next_acceptable), e.malformed),
+    }
+    Raw { words, tables: raw_tables(&r.checkpoints, &r.stored) }
+}
+
+/// The recorder that a complete list gives, which the original does not hold: stopped.
+pub fn stopped_recorder(ix: &AreaIndex, from: u64) -> Recorder {
+    let mut open = ix.clone();
+    open.end_state = None;
+    open.recorder(from).map_or_else(|| panic!("no recorder of a list that is not complete"), |r| *r)
+}
+
+/// What an accepted absorb leaves of a recorder.
+pub fn drained(r: &Recorder) -> Recorder {
+    let first = r.first + r.checkpoints.len() as u32;
+    Recorder { first, checkpoints: Vec::new(), stored: Stored::default(), end_state: None, ..r.clone() }
 }
 
 /// Where a jump to a frame starts: an LSN.

@@ -8,7 +8,8 @@ use std::time::{Duration, Instant};
 use crate::Arguments;
 use crate::file::mend;
 use crate::generate;
-use crate::script::{Oracle, Stats};
+use crate::lent;
+use crate::script::{NO_CALLS, Oracle, Stats};
 use crate::text::{parse_hex, put_hex};
 
 /// Appends scripts from `number` on until `enough`; answers the next number.
@@ -108,6 +109,12 @@ fn report(stats: &Stats, a: &Arguments) -> Result<(), String> {
     eprintln!("\naccepted files:");
     for (name, count) in &stats.accepted {
         eprintln!("  {name} x{count}");
+    }
+    if !stats.lent.is_empty() {
+        eprintln!("lent:");
+        for (name, count) in &stats.lent {
+            eprintln!("  {name} x{count}");
+        }
     }
     eprintln!("refusals 20 and 28 by place:");
     for (name, count) in &stats.places {
@@ -258,6 +265,59 @@ fn missing_branches(stats: &Stats, a: &Arguments) -> Vec<String> {
     never.map(|(call, what)| format!("{call}: {what}")).collect()
 }
 
+/// What calls over lent tables answer in scripts of kind lent, beside the calls of one list.
+const LENT: [(&str, &[u64]); 11] = [
+    ("new", &[0, 1, 2, 3]),
+    ("load", &[0, 1, 3]),
+    ("merge", &[0, 1, 2, 3, 4]),
+    ("record", &[0, 1, 2, 3, 4]),
+    ("finish", &[0, 1, 2, 3, 4]),
+    ("absorb", &[0, 1, 2, 3, 4]),
+    ("take", &[0, 1, 2, 3, 4]),
+    ("see", &[0, 3, 4]),
+    ("see_bytes", &[0, 3, 4]),
+    ("see_many", &[0, 3, 4]),
+    ("flush", &[0, 3, 4]),
+];
+const OF_ONE_LIST: [&str; 9] =
+    ["save", "reload", "plan", "fingerprint", "add_hints", "confirm", "hint", "recorder", "hint_recorder"];
+
+/// What comes behind 1 to 4 in a call.
+const LATER: [(&str, &[u64]); 9] = [
+    ("save", &[40]),
+    ("merge", &[41, 42, 43]),
+    ("record", &[5, 6, 7]),
+    ("finish", &[5, 6]),
+    ("absorb", &[8, 9, 10, 11, 12]),
+    ("add_hints", &[13]),
+    ("confirm", &[14]),
+    ("fingerprint", &[15]),
+    ("hint", &[16]),
+];
+
+/// What lines of kind lent are to lend and edit, as the oracle counts it.
+fn lent_names() -> Vec<String> {
+    let mut out = Vec::new();
+    for (name, width) in lent::NAMES.iter().zip(lent::WIDTHS) {
+        let short = if width > 1 { &["one byte short", "one record short"][..] } else { &["one byte short"] };
+        out.extend(["exactly long enough"].iter().chain(short).map(|how| format!("{name}: {how}")));
+    }
+    let asked = LENT.iter().filter(|c| c.1.contains(&4)).map(|c| c.0).chain(OF_ONE_LIST);
+    out.extend(asked.map(|call| format!("{call}: 3 before 4")));
+    for call in ["merge", "absorb"] {
+        for a in 1..=4 {
+            out.extend(["own", "other"].iter().map(|whose| format!("{call}: {a} of the {whose} alone")));
+            out.extend((1..=4).filter(|b| a != *b).map(|b| format!("{call}: {a} of the own, {b} of the other")));
+        }
+    }
+    out.extend((20..=38).chain([1]).map(|n| format!("load: {n} before 3")));
+    out.extend((1..=2).map(|n| format!("new: {n} before 3")));
+    for (call, list) in LATER {
+        out.extend(list.iter().flat_map(|n| (3..=4).map(move |first| format!("{call}: {first} before {n}"))));
+    }
+    out
+}
+
 /// What never occurred of what the kinds asked for have.
 fn missing(stats: &Stats, a: &Arguments) -> Vec<String> {
     let mut missing = Vec::new();
@@ -294,6 +354,15 @@ fn missing(stats: &Stats, a: &Arguments) -> Vec<String> {
                 need(command, n);
             }
         }
+    }
+    if a.kinds.contains(&generate::Kind::Lent) {
+        for call in OF_ONE_LIST {
+            (0..=4).for_each(|n| need(call, n));
+        }
+        for (call, list) in LENT {
+            list.iter().for_each(|&n| need(call, n));
+        }
+        missing.extend(lent_names().into_iter().filter(|n| a.only.is_empty() && !stats.lent.contains_key(n)));
     }
     if a.kinds.contains(&generate::Kind::Load) {
         for name in [
@@ -353,7 +422,7 @@ fn tables(stats: &Stats) -> String {
     let mut out = "| call | answered | accepted | refused, by number |\n|---|---:|---:|---|\n".to_string();
     let mut calls: BTreeMap<&str, Vec<(u64, u64)>> = BTreeMap::new();
     for ((call, n), count) in &stats.answers {
-        if !["script", "area"].contains(&call.as_str()) {
+        if !NO_CALLS.contains(&call.as_str()) {
             calls.entry(call).or_default().push((*n, *count));
         }
     }
@@ -367,6 +436,12 @@ fn tables(stats: &Stats) -> String {
     out += "\n| accepted call | what it did | times |\n|---|---|---:|\n";
     for ((call, what), count) in &stats.branches {
         out += &format!("| `{call}` | {what} | {count} |\n");
+    }
+    if !stats.lent.is_empty() {
+        out += "\n| lent or edited | times |\n|---|---:|\n";
+        for (what, count) in &stats.lent {
+            out += &format!("| {what} | {count} |\n");
+        }
     }
     out += "\n| file | times |\n|---|---:|\n";
     for (what, count) in &stats.accepted {

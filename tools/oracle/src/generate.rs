@@ -23,8 +23,10 @@ pub enum Kind {
     Unrelated,
     /// Hints and confirmations at the bounds: M, ties, falling numbers, reach, merges of two lists.
     Hints,
-    /// Lists that need larger tables: 65,536 hints and confirmations, up to 16,384 boundaries, budgets up to 1,048,576.
+    /// Lists that need larger tables: 65,536 hints and confirmations, up to 65,536 boundaries, budgets up to 1,048,576.
     Large,
+    /// Tables lent too short, lists and recorders that are edited: 1 to 4 of all calls. Not for the Rattle `replay`.
+    Lent,
 }
 
 pub fn kinds(names: &str) -> Option<Vec<Kind>> {
@@ -38,6 +40,7 @@ pub fn kinds(names: &str) -> Option<Vec<Kind>> {
             "unrelated" => Some(vec![Kind::Unrelated]),
             "hints" => Some(vec![Kind::Hints]),
             "large" => Some(vec![Kind::Large]),
+            "lent" => Some(vec![Kind::Lent]),
             "all" => {
                 Some(vec![Kind::Load, Kind::Load, Kind::Merge, Kind::Calls, Kind::Seams, Kind::Hints, Kind::Unrelated])
             }
@@ -78,6 +81,8 @@ macro_rules! say {
     ($s:expr, $($text:tt)*) => { $s.line(format_args!($($text)*)) };
 }
 
+mod lent;
+
 /// Appends script `number`; answers how many files it loads. `small` keeps files short.
 pub fn script(kind: Kind, number: u32, seed: u64, small: bool, out: &mut Vec<u8>) -> u64 {
     let mut rng = Rng::new(seed ^ (u64::from(number) << 20));
@@ -91,6 +96,7 @@ pub fn script(kind: Kind, number: u32, seed: u64, small: bool, out: &mut Vec<u8>
         Kind::Hints => hints(&mut s, &mut rng, small),
         Kind::Unrelated => unrelated(&mut s, &mut rng),
         Kind::Large => large(&mut s, &mut rng),
+        Kind::Lent => lent::lent(&mut s, &mut rng),
     }
     s.loads
 }

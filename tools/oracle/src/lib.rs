@@ -7,6 +7,7 @@ mod disc;
 mod driver;
 mod file;
 mod generate;
+mod lent;
 mod rng;
 mod script;
 mod stubs;
@@ -32,7 +33,7 @@ oracle fixed SCRIPT ANSWERS [options]    writes a list of scripts and the file o
 oracle sources                           which texts of the original were built: length and FNV-1a
 oracle diff COUNT|SECONDSs REPLAY [options]  runs fresh scripts through both, until the first difference
 oracle disc COUNT|SECONDSs PROGRAM [options] runs fresh disc files through the model and PROGRAM (tools/disc), until the first difference
-options: --seed N  --kinds load,merge,calls,seams,hints,unrelated,large|all  --scripts N  --files N  --small  --only CALL,CALL,..
+options: --seed N  --kinds load,merge,calls,seams,hints,unrelated,large,lent|all  --scripts N  --files N  --small  --only CALL,CALL,..
          --notes (counts by kind of damage)  --counts FILE (diff: tables of the counts)  --unchecked (no answer need occur)
          --shrink SECONDS (30: how long a script that shows a difference is made smaller)
 ";

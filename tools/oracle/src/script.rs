@@ -6,8 +6,9 @@ use std::collections::BTreeMap;
 use crate::audio::{AreaCursor, AreaKey, FrameKind, Warning};
 use crate::error::{Error, Slot};
 use crate::image::SECTOR_SIZE;
+use crate::lent::{self, Nos, Raw};
 use crate::seek::access::{self, Twelve};
-use crate::seek::{AreaIndex, Assembling, HintRecorder, IndexOptions, first_record};
+use crate::seek::{AreaIndex, Assembling, HintRecorder, IndexOptions, Recorder, first_record};
 use crate::text::{Sum, parse_hex, parse_number, put, put_hex, put_sum, sum_of};
 use crate::toc::Area;
 
@@ -19,7 +20,8 @@ pub struct Sizes {
     pub boundaries: usize,
     /// Bytes in a place's store of frame bytes.
     pub store: usize,
-    /// The largest M whose tables of hints (M + 65,536) and confirmations (M + 1) a place has.
+    /// The largest M whose tables of hints (M + 65,536) and confirmations (M + 1) a place has; those of kind `large` have
+    /// room for an M above 65,536, so that question 4 is asked of it.
     pub most: usize,
     /// The longest output that `save` lends.
     pub output: usize,
@@ -34,11 +36,11 @@ const USUAL: Sizes =
 
 /// The sizes of kind `large`.
 const LARGE: Sizes = Sizes {
-    boundaries: 16_384,
+    boundaries: 65_536,
     store: 1_048_576,
-    most: 65_536,
-    output: 4_194_304,
-    line: 8_388_608,
+    most: 66_000,
+    output: 8_388_608,
+    line: 16_777_216,
     given_hints: 65_537,
 };
 
@@ -118,12 +120,37 @@ impl Place7 {
     }
 }
 
-#[derive(Default)]
+#[derive(Default, Clone)]
 struct Place {
     area: Option<Place7>,
     list: Option<AreaIndex>,
     cursor: Option<AreaCursor>,
+    /// A recorder that is stopped, as the port holds it: the original holds none.
+    stopped: Option<Box<Recorder>>,
 }
+
+/// What a call works on and asks 1 to 4 of.
+#[derive(Clone, Copy)]
+enum Object {
+    List(usize),
+    Recorder(usize),
+    Hints,
+}
+
+use Object::{Hints, List, Recorder as Records};
+
+/// A line `lend` or `edit`: place, table or block, length or byte or word, value.
+type Line = (usize, usize, u64, u64);
+
+/// What lines before the next call lend short and edit.
+#[derive(Default, Clone)]
+struct Pending {
+    lent: Vec<Line>,
+    edits: Vec<Line>,
+}
+
+/// Lines that are answered and are no calls.
+pub const NO_CALLS: [&str; 4] = ["script", "area", "lend", "edit"];
 
 /// How often each answer occurred.
 #[derive(Default)]
@@ -138,13 +165,15 @@ pub struct Stats {
     pub branches: BTreeMap<(&'static str, &'static str), u64>,
     /// Refusals 20 and 28 of loads, by the place in the file that gave them.
     pub places: BTreeMap<&'static str, u64>,
+    /// Calls over what lines lent or edited, by what that was.
+    pub lent: BTreeMap<String, u64>,
     pub loads: u64,
 }
 
 impl Stats {
     /// Calls that were answered by a number.
     pub fn calls(&self) -> u64 {
-        self.answers.iter().filter(|a| !["script", "area"].contains(&a.0.0.as_str())).map(|a| a.1).sum()
+        self.answers.iter().filter(|a| !NO_CALLS.contains(&a.0.0.as_str())).map(|a| a.1).sum()
     }
 }
 
@@ -224,6 +253,7 @@ fn wrong_number(wrong: u32, n: u32, b: &[u8]) -> u32 {
 pub struct Oracle {
     places: [Place; PLACES],
     hints: Option<Box<HintRecorder>>,
+    pending: Pending,
     note: String,
     pub stats: Stats,
     pub count: bool,
@@ -233,6 +263,7 @@ pub struct Oracle {
 }
 
 /// The words of a line, read one after the other.
+#[derive(Clone)]
 struct Words<'a>(std::slice::Split<'a, u8, fn(&u8) -> bool>);
 
 impl<'a> Words<'a> {
@@ -315,7 +346,7 @@ impl Oracle {
         let Some(command) = words.word() else { return false };
         // The lists, the recorder and the hint recorder shown after the answer.
         let (mut lists, mut recorder, mut hint_recorder): (Vec<usize>, Option<usize>, bool) = (Vec::new(), None, false);
-        let Some(answer) = self.call(command, &mut words, &mut lists, &mut recorder, &mut hint_recorder) else {
+        let Some(answer) = self.made(command, &mut words, &mut lists, &mut recorder, &mut hint_recorder) else {
             return false;
         };
         if words.word().is_some() {
@@ -397,6 +428,242 @@ impl Oracle {
         out.push(b'\n');
     }
 
+    /// One line, with what the lines before lent and edited for it. None: the line is malformed.
+    fn made(
+        &mut self,
+        command: &[u8],
+        w: &mut Words<'_>,
+        lists: &mut Vec<usize>,
+        recorder: &mut Option<usize>,
+        hint_recorder: &mut bool,
+    ) -> Option<Answer> {
+        match command {
+            b"lend" => return self.lend(w),
+            b"edit" => return self.edit(w),
+            b"script" | b"area" => self.pending = Pending::default(),
+            _ => {}
+        }
+        if self.pending.lent.is_empty() && self.pending.edits.is_empty() {
+            return self.call(command, w, lists, recorder, hint_recorder);
+        }
+        let before = (self.places.clone(), self.hints.clone());
+        let answer = self.call(command, &mut w.clone(), lists, recorder, hint_recorder);
+        let refused = matches!(answer, Some(Number(1..=4, _)));
+        if refused && self.count {
+            // What the call would be refused with if nothing were lent or edited.
+            let mut free = Oracle { places: before.0.clone(), hints: before.1.clone(), ..Oracle::default() };
+            let later = free.call(command, &mut w.clone(), &mut Vec::new(), &mut None, &mut false);
+            if let (Some(Number(n, _)), Some(Number(later @ 5.., _))) = (&answer, later) {
+                let call = String::from_utf8_lossy(command);
+                *self.stats.lent.entry(format!("{call}: {n} before {later}")).or_default() += 1;
+            }
+        }
+        // A list that is edited and not refused is none that a call may work on.
+        if !self.pending.edits.is_empty() && !refused && !matches!(answer, Some(Nothing) | None) {
+            (self.places, self.hints) = before;
+            return Some(Outside);
+        }
+        while w.word().is_some() {}
+        if !matches!(answer, Some(Outside)) {
+            self.pending = Pending::default();
+        }
+        answer
+    }
+
+    /// A table's length for the next call.
+    fn lend(&mut self, w: &mut Words<'_>) -> Option<Answer> {
+        let (p, t, n) = (w.place()?, w.u64()? as usize, w.u64()?);
+        if n > *lent::rooms(sizes()).get(t)? as u64 {
+            return None;
+        }
+        self.pending.lent.push((p, t, n, 0));
+        Some(accepted())
+    }
+
+    /// A byte of a table or a word of a block for the next call, where 1, 2 or 4 is then no.
+    fn edit(&mut self, w: &mut Words<'_>) -> Option<Answer> {
+        let (p, t, at, v) = (w.place()?, w.u64()? as usize, w.u64()?, w.u64()?);
+        let object = match t {
+            lent::SEEN | lent::HINT_BLOCK => Hints,
+            0..lent::RECORDS | lent::HEAD => List(p),
+            lent::RECORDS..lent::SEEN | lent::BLOCK => Records(p),
+            _ => return None,
+        };
+        let most = if t < lent::HEAD { lent::rooms(sizes())[t] as u64 } else { 24 };
+        if at >= most || (t < lent::HEAD && v > 255) {
+            return None;
+        }
+        if !self.there(object) {
+            return Some(Nothing);
+        }
+        self.pending.edits.push((p, t, at, v));
+        let nos = self.nos(object, true);
+        if nos.is_none_or(|nos| !nos[0] && !nos[1] && !nos[3]) {
+            self.pending.edits.pop();
+            return Some(Outside);
+        }
+        Some(accepted())
+    }
+
+    fn there(&self, object: Object) -> bool {
+        match object {
+            List(p) => self.places[p].list.is_some(),
+            Records(p) => self.places[p].cursor.is_some(),
+            Hints => self.hints.is_some(),
+        }
+    }
+
+    /// The lengths of the tables from `first` to `end` of a place.
+    fn lengths(&self, p: usize, first: usize, end: usize) -> Vec<usize> {
+        let mut all = lent::rooms(sizes());
+        for &(q, t, n, _) in &self.pending.lent {
+            if q == p || t == lent::SEEN {
+                all[t] = n as usize;
+            }
+        }
+        all[first..end].to_vec()
+    }
+
+    /// The object with its edits; None where one of them is of a byte that no record has. The tables of the object begin at
+    /// `first`, and its block is edited as `block`.
+    fn edited(&self, mut raw: Raw, p: usize, first: usize, block: usize) -> Option<Raw> {
+        for &(q, t, at, v) in &self.pending.edits {
+            if q == p && t == block {
+                raw.words[at as usize] = v;
+            } else if q == p && (first..first + raw.tables.len()).contains(&t) {
+                *raw.tables[t - first].get_mut(at as usize)? = v as u8;
+            }
+        }
+        Some(raw)
+    }
+
+    /// Which of 1 to 4 an object fails; None where that cannot be told. `all`: in tables of the full length.
+    fn nos(&self, object: Object, all: bool) -> Option<Nos> {
+        let rooms = lent::rooms(sizes());
+        let lengths = |p, a, b| if all { rooms[a..b].to_vec() } else { self.lengths(p, a, b) };
+        let edits = !self.pending.edits.is_empty();
+        match object {
+            List(p) => {
+                let raw = self.edited(access::raw_list(self.places[p].list.as_ref()?), p, 0, lent::HEAD)?;
+                let holds = if edits && raw.area_passes() && raw.numbers_pass() { raw.list_holds()? } else { true };
+                Some(lent::nos(&raw, false, &lengths(p, 0, lent::RECORDS), || holds))
+            }
+            Records(p) => {
+                let raw = self.edited(self.raw_recorder(p)?, p, lent::RECORDS, lent::BLOCK)?;
+                let holds = if edits && raw.area_passes() && raw.numbers_pass() { raw.recorder_holds()? } else { true };
+                Some(lent::nos(&raw, true, &lengths(p, lent::RECORDS, lent::SEEN), || holds))
+            }
+            Hints => {
+                let words = self.pending.edits.iter().filter(|e| e.1 == lent::HINT_BLOCK && e.2 == 6);
+                let count = words.last().map_or(0, |e| e.3 as u32);
+                let short = lengths(0, lent::SEEN, lent::HEAD)[0] < rooms[lent::SEEN];
+                Some([false, false, short, count > 65_536])
+            }
+        }
+    }
+
+    fn raw_recorder(&self, p: usize) -> Option<Raw> {
+        let place = &self.places[p];
+        match (place.cursor.as_ref()?.recorder(), &place.stopped) {
+            (Some(r), _) => Some(access::raw_recorder(r, false)),
+            (None, Some(r)) => Some(access::raw_recorder(r, true)),
+            (None, None) => panic!("a stopped recorder that is not known"),
+        }
+    }
+
+    /// The first of 1 to 4 that is no, of several objects number by number.
+    fn refused(&mut self, call: &str, objects: &[Object]) -> Option<Answer> {
+        if self.pending.lent.is_empty() && self.pending.edits.is_empty() {
+            return None;
+        }
+        let nos: Vec<Nos> = objects.iter().filter_map(|&o| self.nos(o, false)).collect();
+        if self.count {
+            self.count_nos(call, objects, &nos);
+        }
+        let n = (0..4).find(|&i| nos.iter().any(|x| x[i]))?;
+        Some(Number(n as u32 + 1, Vec::new()))
+    }
+
+    fn count_lent(&mut self, what: String) {
+        *self.stats.lent.entry(what).or_default() += 1;
+    }
+
+    /// Counts which of 1 to 4 were no at once, and how the lent tables lie to what was needed.
+    fn count_nos(&mut self, call: &str, objects: &[Object], nos: &[Nos]) {
+        for x in nos {
+            for (a, b) in (0..4).flat_map(|a| (a + 1..4).map(move |b| (a, b))) {
+                if x[a] && x[b] && x[..a].iter().all(|no| !no) {
+                    self.count_lent(format!("{call}: {} before {}", a + 1, b + 1));
+                }
+            }
+        }
+        let first = |x: &Nos| x.iter().position(|&no| no).map(|i| i + 1);
+        if let [own, other] = nos {
+            if let (Some(a), Some(b)) = (first(own), first(other)) {
+                self.count_lent(format!("{call}: {a} of the own, {b} of the other"));
+            }
+            for (x, whose) in [(own, "own"), (other, "other")] {
+                let alone = [own, other].iter().filter(|y| first(y).is_some()).count() == 1;
+                if let (Some(n), true) = (first(x), alone) {
+                    self.count_lent(format!("{call}: {n} of the {whose} alone"));
+                }
+            }
+        }
+        for (&object, x) in objects.iter().zip(nos) {
+            if x[0] || x[1] {
+                continue;
+            }
+            match object {
+                List(p) => {
+                    let raw = self.places[p].list.as_ref().and_then(|l| self.edited(access::raw_list(l), p, 0, lent::HEAD));
+                    let Some(raw) = raw else { continue };
+                    self.count_seams(p, 0, &raw.needs(false), x[2]);
+                }
+                Records(p) => {
+                    let raw = self.raw_recorder(p).and_then(|r| self.edited(r, p, lent::RECORDS, lent::BLOCK));
+                    let Some(raw) = raw else { continue };
+                    self.count_seams(p, lent::RECORDS, &raw.needs(true), x[2]);
+                }
+                Hints => self.count_seams(0, lent::SEEN, &[lent::rooms(sizes())[lent::SEEN] as u64], x[2]),
+            }
+        }
+    }
+
+    /// Counts lent tables that are exactly long enough, or a byte or a record short.
+    fn count_seams(&mut self, p: usize, first: usize, needs: &[u64], short: bool) {
+        for (q, t, n, _) in self.pending.lent.clone() {
+            let Some(&need) = t.checked_sub(first).and_then(|i| needs.get(i)) else { continue };
+            let width = lent::WIDTHS[t] as u64;
+            let how = match (n == need, n + 1 == need, n + width == need) {
+                (true, ..) if !short => "exactly long enough",
+                (_, true, _) => "one byte short",
+                (.., true) => "one record short",
+                _ => continue,
+            };
+            if (q == p || t == lent::SEEN) && (n != need || need > 0) {
+                self.count_lent(format!("{}: {how}", lent::NAMES[t]));
+            }
+        }
+    }
+
+    /// Question 3 of a list that `new` or `load` makes in a place.
+    fn too_large(&mut self, p: usize, ix: &AreaIndex) -> bool {
+        let (boundaries, budget, most) = access::sizes(ix);
+        let needs = lent::needs(boundaries as u64, budget as u64, most as u64);
+        let short = !lent::long_enough(&needs, &self.lengths(p, 0, lent::RECORDS));
+        if self.count && !self.pending.lent.is_empty() {
+            self.count_seams(p, 0, &needs, short);
+        }
+        short
+    }
+
+    /// Counts a `new` or `load` that was refused before 3, where the tables are too short for any list.
+    fn count_before(&mut self, call: &str, p: usize, n: u32) {
+        if self.count && !lent::long_enough(&lent::needs(0, 0, 0), &self.lengths(p, 0, lent::RECORDS)) {
+            self.count_lent(format!("{call}: {n} before 3"));
+        }
+    }
+
     /// One call. None: the line is malformed.
     fn call(
         &mut self,
@@ -432,6 +699,12 @@ impl Oracle {
             }
             b"plan" => {
                 let (p, frame) = (w.place()?, w.u32()?);
+                if self.places[p].list.is_none() {
+                    return Some(Nothing);
+                }
+                if let Some(no) = self.refused("plan", &[List(p)]) {
+                    return Some(no);
+                }
                 let Some(ix) = &self.places[p].list else { return Some(Nothing) };
                 let mut values = Vec::new();
                 // Fault 8: a threshold equal to the frame does not serve.
@@ -454,6 +727,12 @@ impl Oracle {
             b"fingerprint" => {
                 let (p, v) = (w.place()?, w.u64()?);
                 lists.push(p);
+                if self.places[p].list.is_none() {
+                    return Some(Nothing);
+                }
+                if let Some(no) = self.refused("fingerprint", &[List(p)]) {
+                    return Some(no);
+                }
                 let Some(ix) = &mut self.places[p].list else { return Some(Nothing) };
                 Some(Number(ix.bind_fingerprint(v).map_or_else(|e| number(&e), |()| 0), Vec::new()))
             }
@@ -464,11 +743,23 @@ impl Oracle {
                     list.push((w.u32()?, w.u32()?));
                 }
                 lists.push(p);
+                if self.places[p].list.is_none() {
+                    return Some(Nothing);
+                }
+                if let Some(no) = self.refused("add_hints", &[List(p)]) {
+                    return Some(no);
+                }
                 Some(self.add_hints(p, list))
             }
             b"confirm" => {
                 let (p, lsn, u, digest) = (w.place()?, w.u64()?, w.u32()?, w.u64()?);
                 lists.push(p);
+                if self.places[p].list.is_none() {
+                    return Some(Nothing);
+                }
+                if let Some(no) = self.refused("confirm", &[List(p)]) {
+                    return Some(no);
+                }
                 let Some(ix) = &mut self.places[p].list else { return Some(Nothing) };
                 let mut values = Vec::new();
                 let branch = self.count.then(|| access::confirm_branch(ix, lsn, u, digest));
@@ -483,6 +774,12 @@ impl Oracle {
             }
             b"hint" => {
                 let (p, first, end, playtime) = (w.place()?, w.u32()?, w.u32()?, w.u32()?);
+                if self.places[p].list.is_none() {
+                    return Some(Nothing);
+                }
+                if let Some(no) = self.refused("hint", &[List(p)]) {
+                    return Some(no);
+                }
                 let Some(ix) = &self.places[p].list else { return Some(Nothing) };
                 if end < first {
                     return Some(Number(16, Vec::new()));
@@ -505,8 +802,15 @@ impl Oracle {
             b"recorder" => {
                 let (p, from) = (w.place()?, w.u64()?);
                 *recorder = Some(p);
+                if self.places[p].list.is_none() {
+                    return Some(Nothing);
+                }
+                if let Some(no) = self.refused("recorder", &[List(p)]) {
+                    return Some(no);
+                }
                 let place = &mut self.places[p];
                 let Some(ix) = &place.list else { return Some(Nothing) };
+                place.stopped = Some(Box::new(access::stopped_recorder(ix, from)));
                 place.cursor = Some(AreaCursor { recorder: ix.recorder(from), ..AreaCursor::default() });
                 if self.count {
                     let stopped = place.cursor.as_ref().is_none_or(|c| c.recorder().is_none());
@@ -522,6 +826,12 @@ impl Oracle {
             b"finish" => {
                 let (p, thr, mal) = (w.place()?, w.u32()?, w.u64()?);
                 *recorder = Some(p);
+                if self.places[p].cursor.is_none() {
+                    return Some(Nothing);
+                }
+                if let Some(no) = self.refused("finish", &[Records(p)]) {
+                    return Some(no);
+                }
                 let Some(c) = &mut self.places[p].cursor else { return Some(Nothing) };
                 let Some(r) = c.recorder_mut() else { return Some(Number(5, Vec::new())) };
                 let n = access::refuses_finish(r, thr, mal);
@@ -559,6 +869,12 @@ impl Oracle {
             b"hint_recorder" => {
                 let p = w.place()?;
                 *hint_recorder = true;
+                if self.places[p].list.is_none() {
+                    return Some(Nothing);
+                }
+                if let Some(no) = self.refused("hint_recorder", &[List(p)]) {
+                    return Some(no);
+                }
                 let Some(ix) = &self.places[p].list else { return Some(Nothing) };
                 self.hints = ix.hint_recorder();
                 if self.count {
@@ -567,19 +883,30 @@ impl Oracle {
                 }
                 Some(accepted())
             }
-            b"see" => {
+            b"see" | b"see_bytes" => {
                 let (lsn, bytes) = (w.u64()?, w.hex()?);
                 *hint_recorder = true;
-                let Some(hr) = &mut self.hints else { return Some(Nothing) };
-                let mut sector = [0u8; SECTOR_SIZE];
-                sector.get_mut(..bytes.len())?.copy_from_slice(&bytes);
-                let branch = self.count.then(|| access::see_branch(hr, lsn, &sector));
-                hr.see(lsn, &sector);
-                self.branch("see", branch);
-                Some(accepted())
+                if command == b"see" && bytes.len() > SECTOR_SIZE {
+                    return None;
+                }
+                self.see(command, lsn, &bytes)
+            }
+            b"see_many" => {
+                let (n, lsn, step, t, rise) = (w.u32().filter(|&n| n > 0)?, w.u64()?, w.u64()?, w.u32()?, w.u32()?);
+                *hint_recorder = true;
+                if t >= access::LIM || rise >= access::LIM {
+                    return None;
+                }
+                self.see_many(n, lsn, step, t, rise)
             }
             b"flush" => {
                 *hint_recorder = true;
+                if self.hints.is_none() {
+                    return Some(Nothing);
+                }
+                if let Some(no) = self.refused("flush", &[Hints]) {
+                    return Some(no);
+                }
                 let Some(hr) = &mut self.hints else { return Some(Nothing) };
                 access::wrong_flush(self.wrong, hr);
                 let branch = self.count.then(|| access::flush_branch(hr));
@@ -591,12 +918,23 @@ impl Oracle {
                 let p = w.place()?;
                 lists.push(p);
                 *hint_recorder = true;
+                if self.hints.is_none() || self.places[p].list.is_none() {
+                    return Some(Nothing);
+                }
+                if let Some(no) = self.refused("take", &[Hints]) {
+                    return Some(no);
+                }
+                let no = self.refused("take", &[List(p)]);
                 let Some(hr) = &mut self.hints else { return Some(Nothing) };
                 let Some(ix) = &self.places[p].list else { return Some(Nothing) };
-                if access::hints_clash(ix, &hr.list) {
+                if no.is_none() && access::hints_clash(ix, &hr.list) {
                     return Some(Outside);
                 }
                 let list = hr.take();
+                // The hints are taken, and the list does not take them.
+                if no.is_some() {
+                    return no;
+                }
                 let mut values = Vec::new();
                 access::put_pairs(&mut values, &list);
                 match self.add_hints(p, list) {
@@ -631,16 +969,21 @@ impl Oracle {
         let (interval, budget, spacing, most) = (w.u32()?, w.u64()?, w.u32()?, w.u64()?);
         let Some(a) = self.places[p].area else { return Some(Nothing) };
         if a.refused() {
+            self.count_before("new", p, 1);
             return Some(Number(1, Vec::new()));
         }
         let options = IndexOptions::new()
             .with_interval(interval)
             .with_inline_budget(usize::try_from(budget).ok()?)
             .with_hints(spacing, usize::try_from(most).ok()?);
-        Some(match AreaIndex::new(&a.area(), a.image, options) {
+        let made = AreaIndex::new(&a.area(), a.image, options);
+        if made.is_err() || budget > u64::from(u32::MAX) {
+            self.count_before("new", p, 2);
+        }
+        Some(match made {
             Err(e) => Number(number(&e), Vec::new()),
             Ok(_) if budget > u64::from(u32::MAX) => Number(2, Vec::new()),
-            Ok(ix) if too_large(&ix) => Number(3, Vec::new()),
+            Ok(ix) if self.too_large(p, &ix) => Number(3, Vec::new()),
             Ok(ix) => {
                 self.places[p].list = Some(ix);
                 accepted()
@@ -653,6 +996,7 @@ impl Oracle {
         let Some(a) = self.places[p].area else { return Some(Nothing) };
         self.stats.loads += 1;
         if a.refused() {
+            self.count_before("load", p, 1);
             return Some(Number(1, Vec::new()));
         }
         let found = AreaIndex::from_bytes(&a.area(), a.image, &bytes, usize::try_from(limit).ok()?);
@@ -665,6 +1009,7 @@ impl Oracle {
                 if self.count && (n == 20 || n == 28) {
                     *self.stats.places.entry(place_of(n, &bytes)).or_default() += 1;
                 }
+                self.count_before("load", p, n);
                 Number(n, Vec::new())
             }
             Ok(mut ix) => {
@@ -674,7 +1019,7 @@ impl Oracle {
                 if self.wrong != 0 && access::wrong_load(self.wrong, &mut ix, &sections(&bytes), &bytes) {
                     return Some(Number(32, Vec::new()));
                 }
-                if too_large(&ix) {
+                if self.too_large(p, &ix) {
                     return Some(Number(3, Vec::new()));
                 }
                 self.places[p].list = Some(ix);
@@ -716,11 +1061,19 @@ impl Oracle {
 
     fn save(&mut self, w: &mut Words<'_>) -> Option<Answer> {
         let (p, len) = (w.place()?, usize::try_from(w.u64()?).ok().filter(|&n| n <= sizes().output)?);
+        if self.places[p].list.is_none() {
+            return Some(Nothing);
+        }
+        let no = self.refused("save", &[List(p)]);
         let Some(ix) = &self.places[p].list else { return Some(Nothing) };
         let bytes = ix.to_bytes();
         let mut output = vec![0xa5u8; len];
         let mut values = Vec::new();
-        let n = if bytes.len() > len { 40 } else { 0 };
+        let n = match no {
+            Some(Number(n, _)) => n,
+            _ if bytes.len() > len => 40,
+            _ => 0,
+        };
         if n == 0 {
             output[..bytes.len()].copy_from_slice(&bytes);
             if self.wrong == 10 {
@@ -740,6 +1093,12 @@ impl Oracle {
 
     /// A save into the longest output, and a load of exactly these bytes in the same place.
     fn reload(&mut self, p: usize, limit: u64) -> Option<Answer> {
+        if self.places[p].list.is_none() {
+            return Some(Nothing);
+        }
+        if let Some(no) = self.refused("reload", &[List(p)]) {
+            return Some(no);
+        }
         let Some(ix) = &self.places[p].list else { return Some(Nothing) };
         let a = self.places[p].area?;
         let bytes = ix.to_bytes();
@@ -754,6 +1113,12 @@ impl Oracle {
     }
 
     fn merge(&mut self, p: usize, q: usize) -> Answer {
+        if self.places[p].list.is_none() || self.places[q].list.is_none() {
+            return Nothing;
+        }
+        if let Some(no) = self.refused("merge", &[List(p), List(q)]) {
+            return no;
+        }
         let (Some(own), Some(other)) = (&self.places[p].list, &self.places[q].list) else { return Nothing };
         let mut new = own.clone();
         match new.merge(other) {
@@ -788,6 +1153,57 @@ impl Oracle {
         accepted()
     }
 
+    /// A sector of 2,048 bytes that begins with these, or of these alone: where the original takes no such sector, its
+    /// first record says whether it is seen.
+    fn see(&mut self, command: &[u8], lsn: u64, bytes: &[u8]) -> Option<Answer> {
+        if self.hints.is_none() {
+            return Some(Nothing);
+        }
+        let call = if command == b"see" { "see" } else { "see_bytes" };
+        if let Some(no) = self.refused(call, &[Hints]) {
+            return Some(no);
+        }
+        let Some(hr) = &mut self.hints else { return Some(Nothing) };
+        let mut sector = [0u8; SECTOR_SIZE];
+        let n = bytes.len().min(SECTOR_SIZE);
+        sector[..n].copy_from_slice(&bytes[..n]);
+        if command == b"see_bytes" && first_record(bytes).is_none() {
+            self.branch("see_bytes", [if bytes.len() < 3 { "no number, few bytes" } else { "no number" }]);
+            return Some(accepted());
+        }
+        let branch = self.count.then(|| access::see_branch(hr, lsn, &sector));
+        hr.see(lsn, &sector);
+        self.branch(call, branch);
+        Some(accepted())
+    }
+
+    /// Sectors of rising LSNs and numbers, one after the other.
+    fn see_many(&mut self, n: u32, lsn: u64, step: u64, t: u32, rise: u32) -> Option<Answer> {
+        if self.hints.is_none() {
+            return Some(Nothing);
+        }
+        if let Some(no) = self.refused("see_many", &[Hints]) {
+            return Some(no);
+        }
+        let Some(hr) = &mut self.hints else { return Some(Nothing) };
+        let (mut lsn, mut t, mut branches) = (lsn, u64::from(t), Vec::new());
+        for _ in 0..n {
+            let a = (t / 4500).min(255);
+            let b = ((t - 4500 * a) / 75).min(255);
+            let mut sector = [0u8; SECTOR_SIZE];
+            sector[..4].copy_from_slice(&[4, a as u8, b as u8, (t - 4500 * a - 75 * b) as u8]);
+            let branch = access::see_branch(hr, lsn, &sector);
+            if self.count && !branches.contains(&branch) {
+                branches.push(branch);
+            }
+            hr.see(lsn, &sector);
+            lsn = lsn.wrapping_add(step);
+            t = (t + u64::from(rise)) % u64::from(access::LIM);
+        }
+        self.branch("see_many", branches);
+        Some(accepted())
+    }
+
     fn record(&mut self, p: usize, w: &mut Words<'_>) -> Option<Answer> {
         let (lsn, thr, mal) = (w.u64()?, w.u32()?, w.u64()?);
         let (len, fill) = (usize::try_from(w.u64()?).ok().filter(|&n| n <= 4096)?, w.u8()?);
@@ -798,6 +1214,12 @@ impl Oracle {
         } else {
             None
         };
+        if self.places[p].cursor.is_none() {
+            return Some(Nothing);
+        }
+        if let Some(no) = self.refused("record", &[Records(p)]) {
+            return Some(no);
+        }
         let Some(c) = &mut self.places[p].cursor else { return Some(Nothing) };
         let Some(r) = c.recorder_mut() else { return Some(Number(5, Vec::new())) };
         let n = access::refuses_record(self.wrong, r, lsn, thr, mal, frame.as_ref().map(|f| (f.0, f.1)), len);
@@ -819,6 +1241,12 @@ impl Oracle {
     }
 
     fn absorb(&mut self, p: usize, q: usize, image: Option<u64>, list: Vec<u32>) -> Answer {
+        if self.places[p].list.is_none() || self.places[q].cursor.is_none() {
+            return Nothing;
+        }
+        if let Some(no) = self.refused("absorb", &[List(p), Records(q)]) {
+            return no;
+        }
         let Some(cursor) = &self.places[q].cursor else { return Nothing };
         let Some(old) = &self.places[p].list else { return Nothing };
         let warnings = list.iter().map(|&lsn| Warning { lsn: Some(lsn) }).collect();
@@ -845,14 +1273,13 @@ impl Oracle {
         }
         cursor.image_id = None;
         cursor.warnings = Vec::new();
+        if let (Some(r), None) = (recorder.recorder(), cursor.recorder()) {
+            // Stopped: by 8 as it was, by an accepted absorb emptied.
+            let left = if matches!(answer, Number(0, _)) { access::drained(r) } else { r.clone() };
+            self.places[q].stopped = Some(Box::new(left));
+        }
         self.places[p].list = Some(new);
         self.places[q].cursor = Some(cursor);
         answer
     }
-}
-
-/// Question 3, for a place's tables.
-fn too_large(ix: &AreaIndex) -> bool {
-    let (boundaries, budget, most) = access::sizes(ix);
-    boundaries > sizes().boundaries || budget > sizes().store || most > sizes().most
 }
