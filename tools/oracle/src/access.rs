@@ -319,6 +319,33 @@ pub fn put_pairs(out: &mut Vec<u8>, list: &[(u32, u32)]) {
     put_sum(out, list.len(), &sum);
 }
 
+/// What is large about a list, for the counts only.
+pub fn large(ix: &AreaIndex) -> Vec<&'static str> {
+    let list = [
+        ("more than 1,024 checkpoints", ix.checkpoints.len() > 1024),
+        ("65,536 checkpoints", ix.checkpoints.len() == 65_536),
+        ("more than 131,072 frame bytes", ix.stored.used > 131_072),
+        ("a malformed list of 4,096", ix.malformed.len() == MAX_MALFORMED_WARNINGS),
+        ("65,536 hints", ix.samples.len() == 65_536),
+        ("49,152 hints", ix.samples.len() == 49_152),
+        ("65,536 confirmations", ix.confirmed.len() == 65_536),
+    ];
+    list.iter().filter(|k| k.1).map(|k| k.0).collect()
+}
+
+/// A list of hints that is large, or is thinned by an M.
+pub fn large_hints(ix: &AreaIndex, list: &[(u32, u32)], branch: Option<&str>) -> Vec<String> {
+    let mut out = Vec::new();
+    if list.len() == 65_536 {
+        let rising = list.windows(2).all(|w| w[0].0 < w[1].0);
+        out.push(format!("65,536 at once, {}", if rising { "rising" } else { "not rising" }));
+    }
+    if list.len() > 1024 && matches!(branch, Some("thinned" | "no hints kept")) {
+        out.push(format!("more than 1,024 at once, M {}", ix.max_hints));
+    }
+    out
+}
+
 // ---- lists and recorders in lent tables
 
 fn key_words(words: &mut [u64; 24], key: &AreaKey, range: (u64, u64)) {

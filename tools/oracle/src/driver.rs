@@ -110,6 +110,9 @@ fn report(stats: &Stats, a: &Arguments) -> Result<(), String> {
     for (name, count) in &stats.accepted {
         eprintln!("  {name} x{count}");
     }
+    for (what, count) in &stats.large {
+        eprintln!("  {what} x{count}");
+    }
     if !stats.lent.is_empty() {
         eprintln!("lent:");
         for (name, count) in &stats.lent {
@@ -295,6 +298,49 @@ const LATER: [(&str, &[u64]); 9] = [
     ("hint", &[16]),
 ];
 
+/// What scripts of kind large reach.
+const LARGE: [&str; 22] = [
+    "add_hints: 65,536 at once, not rising",
+    "add_hints: 65,536 at once, rising",
+    "add_hints: 65,536 hints",
+    "add_hints: 49,152 hints",
+    "add_hints: more than 1,024 at once, M 0",
+    "add_hints: more than 1,024 at once, M 1",
+    "add_hints: more than 1,024 at once, M 2",
+    "add_hints: more than 1,024 at once, M 3",
+    "add_hints: more than 1,024 at once, M 4",
+    "add_hints: more than 1,024 at once, M 2048",
+    "add_hints: more than 1,024 at once, M 65536",
+    "absorb: more than 1,024 checkpoints",
+    "load: 65,536 checkpoints",
+    "load: 65,536 confirmations",
+    "load: 65,536 hints",
+    "load: more than 131,072 frame bytes",
+    "merge: 65,536 checkpoints",
+    "merge: 65,536 confirmations",
+    "merge: a malformed list of 4,096",
+    "merge: more than 131,072 frame bytes",
+    "reload: more than 1,024 checkpoints",
+    "take: 65,536 hints",
+];
+/// Branches and answers that only scripts of kind large reach.
+const LARGE_BRANCHES: [(&str, &str); 5] = [
+    ("see", "the tail, list full"),
+    ("see_bytes", "the tail, list full"),
+    ("see_many", "the tail, list full"),
+    ("flush", "the tail lost, list full"),
+    ("hint", "saturated"),
+];
+const LARGE_ANSWERS: [(&str, &[u64]); 7] = [
+    ("add_hints", &[0, 3, 4, 13]),
+    ("confirm", &[0, 3, 4]),
+    ("load", &[0, 3]),
+    ("merge", &[0, 3, 4]),
+    ("new", &[0, 3]),
+    ("save", &[0, 3, 4]),
+    ("take", &[0]),
+];
+
 /// What lines of kind lent are to lend and edit, as the oracle counts it.
 fn lent_names() -> Vec<String> {
     let mut out = Vec::new();
@@ -314,6 +360,20 @@ fn lent_names() -> Vec<String> {
     out.extend((1..=2).map(|n| format!("new: {n} before 3")));
     for (call, list) in LATER {
         out.extend(list.iter().flat_map(|n| (3..=4).map(move |first| format!("{call}: {first} before {n}"))));
+    }
+    out
+}
+
+/// What never occurred of what scripts of kinds large and lent are made for.
+fn missing_names(stats: &Stats, a: &Arguments) -> Vec<String> {
+    let mut out = Vec::new();
+    if a.kinds.contains(&generate::Kind::Large) {
+        out.extend(LARGE.iter().filter(|w| !stats.large.contains_key(**w)).map(|w| w.to_string()));
+        let never = LARGE_BRANCHES.iter().filter(|b| !stats.branches.contains_key(b));
+        out.extend(never.map(|(call, what)| format!("{call}: {what}")));
+    }
+    if a.kinds.contains(&generate::Kind::Lent) {
+        out.extend(lent_names().into_iter().filter(|n| !stats.lent.contains_key(n)));
     }
     out
 }
@@ -355,6 +415,11 @@ fn missing(stats: &Stats, a: &Arguments) -> Vec<String> {
             }
         }
     }
+    if a.kinds.contains(&generate::Kind::Large) {
+        for (call, list) in LARGE_ANSWERS {
+            list.iter().for_each(|&n| need(call, n));
+        }
+    }
     if a.kinds.contains(&generate::Kind::Lent) {
         for call in OF_ONE_LIST {
             (0..=4).for_each(|n| need(call, n));
@@ -362,7 +427,9 @@ fn missing(stats: &Stats, a: &Arguments) -> Vec<String> {
         for (call, list) in LENT {
             list.iter().for_each(|&n| need(call, n));
         }
-        missing.extend(lent_names().into_iter().filter(|n| a.only.is_empty() && !stats.lent.contains_key(n)));
+    }
+    if a.only.is_empty() {
+        missing.extend(missing_names(stats, a));
     }
     if a.kinds.contains(&generate::Kind::Load) {
         for name in [
@@ -436,6 +503,12 @@ fn tables(stats: &Stats) -> String {
     out += "\n| accepted call | what it did | times |\n|---|---|---:|\n";
     for ((call, what), count) in &stats.branches {
         out += &format!("| `{call}` | {what} | {count} |\n");
+    }
+    if !stats.large.is_empty() {
+        out += "\n| large | times |\n|---|---:|\n";
+        for (what, count) in &stats.large {
+            out += &format!("| {what} | {count} |\n");
+        }
     }
     if !stats.lent.is_empty() {
         out += "\n| lent or edited | times |\n|---|---:|\n";

@@ -770,6 +770,13 @@ fn fresh(s: &mut Script<'_>, p: usize, a: &AreaNumbers, numbers: (u64, u64, u64,
     say!(s, "new {p} {interval} {budget} {spacing} {most}");
 }
 
+/// `count` hints of the area, as far as it has sectors: each LSN once, rising.
+fn even_hints(a: &AreaNumbers, k: u64, count: u64) -> Vec<(u64, u32)> {
+    let len = a.end - a.start;
+    let step = (len / count.max(1)).max(1);
+    (0..count.min(len)).map(|i| a.start + i * step).map(|l| (l, number_at(l, a.start, k))).collect()
+}
+
 /// About `count` hints of the area: rising, falling here and there, or in no order.
 fn many_hints(rng: &mut Rng, a: &AreaNumbers, k: u64, count: u64) -> Vec<(u64, u32)> {
     let len = a.end - a.start;
@@ -781,13 +788,7 @@ fn many_hints(rng: &mut Rng, a: &AreaNumbers, k: u64, count: u64) -> Vec<(u64, u
         .collect();
     match rng.below(4) {
         0 => {}
-        1 => {
-            // As many as asked for, each LSN once.
-            out = (0..count.min(len))
-                .map(|i| a.start + i * (len / count.max(1)).max(1))
-                .map(|l| (l, number_at(l, a.start, k)))
-                .collect();
-        }
+        1 => out = even_hints(a, k, count),
         2 => {
             out.sort_unstable();
             for _ in 0..rng.range(1, 5) {
@@ -805,10 +806,13 @@ fn large_hints(s: &mut Script<'_>, rng: &mut Rng) {
     let a = AreaNumbers::new(0, 1000, 1000 + rng.range(200_000, 400_000) as u32, 2, 1 << 21);
     let k = rng.below(7);
     for p in 0..2 {
-        let most = *rng.pick(&[65_536, 65_536, 65_535, 49_152, 2048, 4, 3, 2, 1]);
+        let most = *rng.pick(&[65_536, 65_536, 65_536, 65_535, 49_152, 2048, 4, 3, 2, 1, 0]);
         fresh(s, p, &a, (65_536, 0, 8, most));
         say!(s, "fingerprint {p} 5");
-        for _ in 0..rng.range(1, 3) {
+        if rng.chance(1, 3) {
+            say_hints(s, p, &even_hints(&a, k, 65_536));
+        }
+        for _ in 0..rng.range(1, 2) {
             let count = *rng.pick(&[65_537, 65_536, 65_536, 65_535, 40_000, 20_000, 3000]);
             let list = many_hints(rng, &a, k, count);
             say_hints(s, p, &list);
@@ -817,7 +821,7 @@ fn large_hints(s: &mut Script<'_>, rng: &mut Rng) {
         hint_calls(s, rng, p, &a, k, 6);
     }
     say!(s, "merge 0 1");
-    say!(s, "save 0 4194304");
+    say!(s, "save 0 {}", *rng.pick(&[1_600_000, 8_388_608]));
     say!(s, "reload 0 {}", *rng.pick(&[1u64 << 20, 524_288, 524_287, 131_072, 16]));
     say!(s, "merge 1 0");
     hint_calls(s, rng, 1, &a, k, 6);
@@ -834,14 +838,16 @@ fn large_files(s: &mut Script<'_>, rng: &mut Rng) {
         let mut l = reading.cut(rng, n, false, 8);
         l.most = *rng.pick(&[65_536, 65_536, 40_000, 20_000]);
         let count = *rng.pick(&[65_536, 30_000, 1000]);
-        let mut hints: Vec<(u32, u32)> =
-            many_hints(rng, &a, reading.k, count).into_iter().map(|h| (h.0 as u32, h.1)).collect();
+        let even = rng.chance(1, 2);
+        let hints = if even { even_hints(&a, reading.k, count) } else { many_hints(rng, &a, reading.k, count) };
+        let mut hints: Vec<(u32, u32)> = hints.into_iter().map(|h| (h.0 as u32, h.1)).collect();
         hints.sort_unstable();
         hints.dedup();
         hints.truncate(l.most as usize);
         l.hints = hints;
         l.fingerprint = Some(5);
-        let count = *rng.pick(&[200_000, 30_000, 100]);
+        // The original takes its time where many are merged into many.
+        let count = if p == 0 { *rng.pick(&[200_000, 200_000, 30_000]) } else { *rng.pick(&[100, 1000, 1000, 6000, 60_000]) };
         let mut lsns = l.lsns(rng, count);
         lsns.truncate(l.most as usize);
         l.confirmations = lsns.iter().map(|&x| (x, rng.below(100) as u32, rng.below(3))).collect();
@@ -855,7 +861,7 @@ fn large_files(s: &mut Script<'_>, rng: &mut Rng) {
     confirmations(s, rng, p, &a, 4);
     hint_calls(s, rng, p, &a, reading.k, 6);
     say!(s, "merge {q} {p}");
-    say!(s, "save {q} 4194304");
+    say!(s, "save {q} {}", *rng.pick(&[1_600_000, 8_388_608]));
     say!(s, "reload {q} {}", *rng.pick(&[1u64 << 21, 1 << 20, 300_000]));
 }
 
@@ -867,12 +873,13 @@ fn large_lists(s: &mut Script<'_>, rng: &mut Rng, shape: Shape) {
     let places = rng.range(2, 4) as usize;
     for p in 0..places {
         let complete = rng.chance(1, 3);
-        let n = if complete { b } else { rng.below(b as u64 + 1) as usize };
+        let n = if complete || rng.chance(1, 4) { b } else { rng.below(b as u64 + 1) as usize };
         let keep = *rng.pick(&[4, 8, 8]);
         let mut l = reading.cut(rng, n, complete, keep);
-        l.budget = (l.used() + *rng.pick(&[0, 1, 70_000, 200_000, 1_000_000])).min(1_048_576);
+        let most = *rng.pick(&[1_048_576, 1_048_576, 1_048_577]);
+        l.budget = (l.used() + *rng.pick(&[0, 1, 70_000, 200_000, 1_000_000])).min(most);
         say!(s, "area {p} {}", l.area.words());
-        let limit = *rng.pick(&[1 << 21, 1 << 20, 131_073, 200_000]);
+        let limit = *rng.pick(&[1 << 21, 1 << 21, 1 << 20, 131_073, 200_000]);
         s.load("large", p, limit, &l.encode().bytes);
         if n < b && rng.chance(1, 2) {
             // A recorder from the frontier, or from a little before it.
@@ -896,20 +903,100 @@ fn large_lists(s: &mut Script<'_>, rng: &mut Rng, shape: Shape) {
         let whole = reading.cut(rng, b, true, 0);
         plans(s, rng, p, &whole, 3);
     }
-    say!(s, "save 0 4194304");
+    say!(s, "save 0 {}", *rng.pick(&[1_000_000, 8_388_608]));
+}
+
+/// An area whose length is nearly 2^32, and ends of ranges at which the end of the read reaches 2^64.
+fn large_saturates(s: &mut Script<'_>, rng: &mut Rng) {
+    let start = rng.below(3) as u32;
+    let a = AreaNumbers::new(1, start, u32::MAX - 1 - rng.below(3) as u32, 6, 1 << 33);
+    let len = u128::from(a.end - a.start);
+    fresh(s, 0, &a, (65_536, 0, 8, *rng.pick(&[1, 4, 2048])));
+    let hints: Vec<(u64, u32)> = (0..3).map(|i| (a.start + rng.below(1 << 30) + (i << 30), 3 * i as u32)).collect();
+    say_hints(s, 0, &hints);
+    let most = u32::try_from((1u128 << 64) * 4 / 5 / len).unwrap_or(u32::MAX);
+    for _ in 0..8 {
+        let t = rng.pick(&hints).1;
+        let end = match rng.below(3) {
+            0 => u32::MAX - rng.below(3) as u32,
+            _ => (most + t + rng.below(7) as u32).saturating_sub(3),
+        };
+        say!(s, "hint 0 {} {end} {}", t + rng.range(1, 60) as u32, *rng.pick(&[0, 1, 1, 2]));
+    }
+    // More boundaries than the tables hold.
+    say!(s, "new 0 {} 0 8 4", *rng.pick(&[65_536, 65_535]));
+}
+
+/// A hint recorder up to its bound and past it.
+fn large_seen(s: &mut Script<'_>, rng: &mut Rng) {
+    let a = AreaNumbers::new(0, 1000, 1000 + rng.range(140_000, 400_000) as u32, 2, 1 << 21);
+    let (spacing, rise) = *rng.pick(&[(1, 1), (8, 8), (8, 40), (1, 1_166_880), (75, 0), (u32::MAX, 1)]);
+    fresh(s, 0, &a, (65_536, 0, u64::from(spacing), *rng.pick(&[65_536, 65_536, 65_535, 2048, 3])));
+    say!(s, "hint_recorder 0");
+    let first = rng.range(65_530, 65_536);
+    say!(s, "see_many {first} {} 1 {} {rise}", a.start, rng.below(1000));
+    for _ in 0..rng.range(2, 8) {
+        let lsn = a.start + rng.range(65_536, 130_000);
+        match rng.below(5) {
+            0 => say!(s, "flush"),
+            1 => say!(s, "see_many {} {lsn} {} {} {rise}", rng.range(1, 20), rng.below(3), rng.below(1_166_881)),
+            2 => say!(s, "see_bytes {lsn} 04{:02x}0000", rng.below(200)),
+            _ => say!(s, "see {lsn} 04{:02x}{:02x}07", rng.below(200), rng.below(60)),
+        }
+    }
+    say!(s, "flush");
+    say!(s, "take 0");
+    say!(s, "see {} 0400000{}", a.start + 3, rng.below(9));
+    say!(s, "flush");
+    say!(s, "take 0");
+}
+
+/// An M at and above its bound, in tables that are long enough for it and not.
+fn large_broken(s: &mut Script<'_>, rng: &mut Rng) {
+    let shape = Shape { boundaries: rng.range(2, 5), k: 65_536, under: 4, frame_bytes: 100, malformed: 3 };
+    let mut reading = Reading::random(rng, shape);
+    reading.sector_digests();
+    let mut l = reading.cut(rng, 2, false, 8);
+    l.most = 65_536;
+    l.fingerprint = Some(5);
+    l.confirmations = l.lsns(rng, 9).iter().map(|&x| (x, 7, 1)).collect();
+    for p in 0..2 {
+        say!(s, "area {p} {}", l.area.words());
+        s.load("large", p, 1 << 21, &l.encode().bytes);
+    }
+    for _ in 0..12 {
+        let most = *rng.pick(&[65_536, 65_537, 65_537, 66_000, 66_001]);
+        if most > 65_536 {
+            say!(s, "edit 0 12 10 {most}");
+        }
+        let short = *rng.pick(&[0, 0, 1, 8, 16]);
+        let (t, need) = *rng.pick(&[(5, 8 * (most + 65_536)), (6, 16 * (most + 1))]);
+        if most < 66_001 {
+            say!(s, "lend 0 {t} {}", need - short);
+        }
+        match rng.below(5) {
+            0 | 1 => say!(s, "merge {}", *rng.pick(&["0 1", "1 0"])),
+            2 => say!(s, "confirm 0 {} 5 6", l.area.start),
+            3 => say!(s, "add_hints 0 1 {} 6", l.area.start),
+            _ => say!(s, "save 0 10000"),
+        }
+    }
 }
 
 fn large(s: &mut Script<'_>, rng: &mut Rng) {
     let usual = Shape { boundaries: 5, k: 64, under: 6, frame_bytes: 100, malformed: 3 };
-    match rng.below(5) {
-        0 => large_hints(s, rng),
-        1 => large_files(s, rng),
-        2 => {
-            let boundaries = *rng.pick(&[1024, 1025, 2000, 7400, 16_383, 16_384, 16_385]);
+    match rng.below(16) {
+        0..=2 => large_hints(s, rng),
+        3 => large_files(s, rng),
+        4 | 5 => {
+            let boundaries = *rng.pick(&[1024, 1025, 2000, 7400, 16_384, 65_535, 65_536, 65_537]);
             let (k, under) = (*rng.pick(&[1, 2, 33, 64]), rng.below(4));
             large_lists(s, rng, Shape { boundaries, k, under, frame_bytes: 30, ..usual });
         }
-        3 => {
+        6..=8 => large_seen(s, rng),
+        9 | 10 => large_saturates(s, rng),
+        11..=13 => large_broken(s, rng),
+        14 => {
             let (boundaries, frame_bytes) = (rng.range(20, 60), *rng.pick(&[20_000, 65_536]));
             large_lists(s, rng, Shape { boundaries, k: 100, under: 7, frame_bytes, malformed: 0 });
         }

@@ -167,6 +167,8 @@ pub struct Stats {
     pub places: BTreeMap<&'static str, u64>,
     /// Calls over what lines lent or edited, by what that was.
     pub lent: BTreeMap<String, u64>,
+    /// Accepted calls by what is large about their list afterwards.
+    pub large: BTreeMap<String, u64>,
     pub loads: u64,
 }
 
@@ -314,6 +316,10 @@ enum Answer {
 
 use Answer::{None as Nothing, Number, Outside};
 
+fn name_of(command: &[u8]) -> String {
+    String::from_utf8_lossy(command).into_owned()
+}
+
 fn accepted() -> Answer {
     Number(0, Vec::new())
 }
@@ -363,6 +369,9 @@ impl Oracle {
                 if self.count {
                     let name = String::from_utf8_lossy(command).into_owned();
                     *self.stats.answers.entry((name, u64::from(n))).or_default() += 1;
+                    if n == 0 && sizes().boundaries > USUAL.boundaries {
+                        self.count_large(&name_of(command), lists.first().copied());
+                    }
                     if command == b"load" {
                         *self.stats.notes.entry((self.note.clone(), u64::from(n))).or_default() += 1;
                     }
@@ -582,6 +591,14 @@ impl Oracle {
         }
         let n = (0..4).find(|&i| nos.iter().any(|x| x[i]))?;
         Some(Number(n as u32 + 1, Vec::new()))
+    }
+
+    /// Counts what is large about a list behind a call.
+    fn count_large(&mut self, call: &str, p: Option<usize>) {
+        let list = p.and_then(|p| self.places[p].list.as_ref());
+        for what in list.map_or(Vec::new(), access::large) {
+            *self.stats.large.entry(format!("{call}: {what}")).or_default() += 1;
+        }
     }
 
     fn count_lent(&mut self, what: String) {
@@ -1148,6 +1165,9 @@ impl Oracle {
             return Outside;
         }
         let branch = if self.count { access::hint_list_branch(ix, &list).or(Some("no hint")) } else { None };
+        for what in if self.count { access::large_hints(ix, &list, branch) } else { Vec::new() } {
+            *self.stats.large.entry(format!("add_hints: {what}")).or_default() += 1;
+        }
         ix.add_hints(list);
         self.branch("add_hints", branch);
         accepted()
