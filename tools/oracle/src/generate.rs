@@ -806,7 +806,7 @@ fn large_hints(s: &mut Script<'_>, rng: &mut Rng) {
     let a = AreaNumbers::new(0, 1000, 1000 + rng.range(200_000, 400_000) as u32, 2, 1 << 21);
     let k = rng.below(7);
     for p in 0..2 {
-        let most = *rng.pick(&[65_536, 65_536, 65_536, 65_535, 49_152, 2048, 4, 3, 2, 1, 0]);
+        let most = *rng.pick(&[65_537, 65_536, 65_536, 65_535, 49_152, 2048, 4, 3, 2, 1, 0]);
         fresh(s, p, &a, (65_536, 0, 8, most));
         say!(s, "fingerprint {p} 5");
         if rng.chance(1, 3) {
