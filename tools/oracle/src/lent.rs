@@ -32,6 +32,17 @@ pub const HEAD: usize = 12;
 pub const BLOCK: usize = 13;
 pub const HINT_BLOCK: usize = 14;
 
+/// What an edit of a table's byte or a block's word changes.
+pub fn edited_name(t: usize, at: u64) -> String {
+    match t {
+        3 | 10 if at % 24 >= 20 => format!("{}, kind", NAMES[t]),
+        0..HEAD => NAMES[t].to_string(),
+        HEAD => format!("word {at} of a list's head"),
+        BLOCK => format!("word {at} of a recorder's block"),
+        _ => format!("word {at} of a hint recorder's block"),
+    }
+}
+
 const MALFORMED: u64 = 4096;
 const HINTS: u64 = 65_536;
 

@@ -506,10 +506,13 @@ impl Oracle {
             return Some(Nothing);
         }
         self.pending.edits.push((p, t, at, v));
-        let nos = self.nos(object, true);
-        if nos.is_none_or(|nos| !nos[0] && !nos[1] && !nos[3]) {
+        let no = self.nos(object, true).and_then(|nos| [0, 1, 3].into_iter().find(|&i| nos[i]));
+        let Some(no) = no else {
             self.pending.edits.pop();
             return Some(Outside);
+        };
+        if self.count {
+            self.count_lent(format!("edit: {} by {}", no + 1, lent::edited_name(t, at)));
         }
         Some(accepted())
     }

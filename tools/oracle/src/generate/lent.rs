@@ -324,8 +324,12 @@ pub fn lent(s: &mut Script<'_>, rng: &mut Rng) {
         }
         let (n, b) = (l.checkpoints.len(), own.checkpoints.len());
         say!(s, "recorder {p} {}", own.lsn(n.saturating_sub(1)));
-        for j in n..(n + rng.below(4) as usize).min(b) {
+        let end = (n + rng.below(4) as usize).min(b);
+        for j in n..end {
             record(s, rng, p, &own, j, false);
+        }
+        if end == b && rng.chance(1, 2) {
+            say!(s, "finish {p} {} {}", own.end.0, own.end.1);
         }
         lists.push(l);
     }
