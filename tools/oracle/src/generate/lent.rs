@@ -223,15 +223,15 @@ fn list_call(s: &mut Script<'_>, rng: &mut Rng, p: usize, l: &List, k: u64) {
     }
 }
 
-fn record_call(s: &mut Script<'_>, rng: &mut Rng, p: usize, l: &List, r: &Reading) {
+/// `record` or `finish`; the recorder was at checkpoint `due` when the script began.
+fn record_call(s: &mut Script<'_>, rng: &mut Rng, p: usize, l: &List, r: &Reading, due: usize) {
     let b = r.checkpoints.len();
     trouble(s, rng, &Asked::Recorder(p, l));
     if rng.chance(1, 3) || b == 0 {
         say!(s, "finish {p} {} {}", r.end.0 + u32::from(rng.chance(1, 3)) * LIM, r.end.1);
     } else {
-        // The checkpoint that is due, or another one.
-        let j = (l.checkpoints.len() + rng.below(3) as usize).min(b - 1);
-        let wrong = rng.chance(1, 4);
+        let j = (due + *rng.pick(&[0, 0, 0, 1, 2])).min(b - 1);
+        let wrong = rng.chance(1, 2);
         record(s, rng, p, r, j, wrong);
     }
 }
@@ -303,7 +303,7 @@ pub fn lent(s: &mut Script<'_>, rng: &mut Rng) {
     let mut reading = Reading::random(rng, shape);
     reading.sector_digests();
     let most = sizes().most.min(65_536) as u64;
-    let mut lists = Vec::new();
+    let (mut lists, mut dues) = (Vec::new(), Vec::new());
     for p in 0..3 {
         let mut own = reading.clone();
         if p == 2 {
@@ -332,6 +332,7 @@ pub fn lent(s: &mut Script<'_>, rng: &mut Rng) {
             say!(s, "finish {p} {} {}", own.end.0, own.end.1);
         }
         lists.push(l);
+        dues.push(end);
     }
     say!(s, "area 3 {}", reading.area.words());
     say!(s, "hint_recorder {}", rng.below(3));
@@ -341,7 +342,7 @@ pub fn lent(s: &mut Script<'_>, rng: &mut Rng) {
         let q = (p + 1 + rng.below(2) as usize) % 3;
         match rng.below(12) {
             0..=3 => list_call(s, rng, p, &lists[p], reading.k),
-            4 | 5 => record_call(s, rng, p, &lists[p], &reading),
+            4 | 5 => record_call(s, rng, p, &lists[p], &reading, dues[p]),
             6 => hint_recorder_call(s, rng, p, &lists[p], &reading),
             7 => fresh_call(s, rng, &lists[p]),
             8 | 9 => {
