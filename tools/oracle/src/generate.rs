@@ -847,7 +847,8 @@ fn large_files(s: &mut Script<'_>, rng: &mut Rng) {
         l.hints = hints;
         l.fingerprint = Some(5);
         // The original takes its time where many are merged into many.
-        let count = if p == 0 { *rng.pick(&[200_000, 200_000, 30_000]) } else { *rng.pick(&[100, 1000, 1000, 6000, 60_000]) };
+        let count =
+            if p == 0 { *rng.pick(&[200_000, 200_000, 30_000]) } else { *rng.pick(&[100, 1000, 1000, 6000, 60_000]) };
         let mut lsns = l.lsns(rng, count);
         lsns.truncate(l.most as usize);
         l.confirmations = lsns.iter().map(|&x| (x, rng.below(100) as u32, rng.below(3))).collect();

@@ -196,7 +196,13 @@ impl Raw {
         }
         let last = n.checked_sub(1).map_or(0, |i| 24 * i + 8);
         let counted = u64::from(word(&self.tables[0], last)) | u64::from(word(&self.tables[0], last + 4)) << 32;
-        let counted = if w[14] == 1 { w[16] } else if n == 0 { 0 } else { counted };
+        let counted = if w[14] == 1 {
+            w[16]
+        } else if n == 0 {
+            0
+        } else {
+            counted
+        };
         let malformed = counted.min(MALFORMED);
         let mut words = *w;
         (words[9], words[10], words[11], words[14], words[15], words[16]) = (8, 2048, all, malformed, 0, 0);

@@ -635,7 +635,8 @@ impl Oracle {
             }
             match object {
                 List(p) => {
-                    let raw = self.places[p].list.as_ref().and_then(|l| self.edited(access::raw_list(l), p, 0, lent::HEAD));
+                    let raw =
+                        self.places[p].list.as_ref().and_then(|l| self.edited(access::raw_list(l), p, 0, lent::HEAD));
                     let Some(raw) = raw else { continue };
                     self.count_seams(p, 0, &raw.needs(false), x[2]);
                 }

@@ -78,14 +78,8 @@ fn one_off(rng: &mut Rng, n: usize) -> u64 {
 }
 
 fn edit_list(s: &mut Script<'_>, rng: &mut Rng, p: usize, l: &List) {
-    let counts = [
-        l.checkpoints.len(),
-        l.frames.len(),
-        l.parts.len(),
-        l.malformed.len(),
-        l.hints.len(),
-        l.confirmations.len(),
-    ];
+    let counts =
+        [l.checkpoints.len(), l.frames.len(), l.parts.len(), l.malformed.len(), l.hints.len(), l.confirmations.len()];
     match rng.below(14) {
         0..=2 => edit_numbers(s, rng, p, HEAD, l),
         3 => edit_record(s, rng, p, 0, counts[0], 16),
@@ -140,7 +134,8 @@ fn edit_recorder(s: &mut Script<'_>, rng: &mut Rng, p: usize, l: &List) {
 
 /// What is lent and edited of an object.
 fn trouble(s: &mut Script<'_>, rng: &mut Rng, asked: &Asked<'_>) {
-    let (lends, edits) = *rng.pick(&[(true, false), (true, false), (false, true), (false, true), (true, true), (false, false)]);
+    let (lends, edits) =
+        *rng.pick(&[(true, false), (true, false), (false, true), (false, true), (true, true), (false, false)]);
     match asked {
         Asked::List(p, l) | Asked::Tables(p, l) => {
             if lends {
@@ -248,7 +243,15 @@ fn hint_recorder_call(s: &mut Script<'_>, rng: &mut Rng, p: usize, l: &List, r: 
             bytes[..m].copy_from_slice(&head[..m]);
             say!(s, "see_bytes {} {}", r.area.start + rng.below(50), hex(&bytes));
         }
-        2 => say!(s, "see_many {} {} {} {} {}", rng.range(1, 20), r.area.start, rng.below(3), rng.below(1000), rng.below(20)),
+        2 => say!(
+            s,
+            "see_many {} {} {} {} {}",
+            rng.range(1, 20),
+            r.area.start,
+            rng.below(3),
+            rng.below(1000),
+            rng.below(20)
+        ),
         3 => say!(s, "flush"),
         _ => {
             trouble(s, rng, &Asked::List(p, l));
@@ -283,7 +286,8 @@ fn fresh_call(s: &mut Script<'_>, rng: &mut Rng, l: &List) {
         say!(s, "new 3 {k} {budget} {} {}", l.spacing, l.most);
     } else {
         let file = l.encode();
-        let (bytes, note) = if rng.chance(1, 3) { (file.bytes.clone(), "valid".to_string()) } else { damage::damaged(&file, rng) };
+        let (bytes, note) =
+            if rng.chance(1, 3) { (file.bytes.clone(), "valid".to_string()) } else { damage::damaged(&file, rng) };
         let limit = if rng.chance(1, 4) { limit(rng, l) } else { 1 << 21 };
         s.load(&note, 3, limit, &bytes);
     }
