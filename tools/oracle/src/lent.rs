@@ -113,32 +113,29 @@ impl Raw {
         Area::new(slot, self.words[2] as u32, self.words[3] as u32, self.words[1] as u8)
     }
 
-    /// Question 4 of a list that passes 1 and 2; None where it cannot be told: a range that the key does not give, or
-    /// records that are not there.
+    /// Question 4 of a list that passes 1 and 2, by the original's loader. A count of more records than there are is judged
+    /// here, where it breaks a rule; None where it breaks none, and where the key does not give the range.
     pub fn list_holds(&self) -> Option<bool> {
         let w = &self.words;
         let [n, f, h, m, s, c] = [11, 12, 13, 14, 15, 16].map(|i| self.count(i));
         let (most, b) = (self.count(10), self.boundaries() as usize);
-        let counts = n <= b && h <= n && f <= h && m <= 4096 && s <= most && c <= most && most <= 65_536;
-        if !counts || (w[17] != 0 && n != b) || (c > 0 && w[20] == 0) {
+        if c > 0 && w[20] == 0 {
             return Some(false);
         }
-        let known = self.known(&[(0, n), (1, f), (3, h), (4, m), (5, s), (6, c)]);
-        if !known || audio_sector_range(&self.area(), w[4]) != (w[5], w[6]) {
+        if !self.known(&[(0, n), (1, f), (3, h), (4, m), (5, s), (6, c)]) {
+            let counts = n <= b && h <= n && f <= h && m <= 4096 && s <= most && c <= most;
+            return if counts { None } else { Some(false) };
+        }
+        if audio_sector_range(&self.area(), w[4]) != (w[5], w[6]) {
             return None;
         }
-        let lengths: Vec<usize> = (0..f).map(|i| word(&self.tables[1], 8 * i + 4) as usize).collect();
-        if lengths.iter().any(|&l| l > 65_536) {
-            return Some(false);
-        }
-        let file = self.file(&lengths);
-        Some(AreaIndex::from_bytes(&self.area(), w[4], &file, usize::MAX).is_ok())
+        Some(AreaIndex::from_bytes(&self.area(), w[4], &self.file(), usize::MAX).is_ok())
     }
 
-    /// The file of its numbers and bytes, whose frames have these lengths. Frame bytes that are not there are 0.
-    fn file(&self, lengths: &[usize]) -> Vec<u8> {
+    /// The file of its numbers and bytes. Frame bytes that are not there are 0; a frame longer than any has none.
+    fn file(&self) -> Vec<u8> {
         let w = &self.words;
-        let [n, h, m, s, c] = [11, 13, 14, 15, 16].map(|i| self.count(i));
+        let [n, f, h, m, s, c] = [11, 12, 13, 14, 15, 16].map(|i| self.count(i));
         let plain = s == 0 && w[20] == 0 && (w[9] as u32, w[10] as u32) == (8, 2048);
         let version: u32 = if c > 0 { 3 } else { 2 - u32::from(plain) };
         let mut b = b"SBSEEKIX".to_vec();
@@ -158,7 +155,8 @@ impl Raw {
         b.extend_from_slice(&end.1.to_le_bytes());
         b.extend_from_slice(&self.tables[0][..24 * n]);
         let mut at = 0;
-        for (i, &l) in lengths.iter().enumerate() {
+        for i in 0..f {
+            let l = Some(word(&self.tables[1], 8 * i + 4) as usize).filter(|&l| l <= 65_536).unwrap_or(0);
             b.extend_from_slice(&self.tables[1][8 * i..8 * i + 8]);
             b.extend((at..at + l).map(|j| self.tables[2].get(j).copied().unwrap_or(0)));
             at += l;
@@ -188,11 +186,11 @@ impl Raw {
         let w = &self.words;
         let [first, n, f, h] = [9, 11, 12, 13].map(|i| self.count(i));
         let all = first as u64 + n as u64;
-        if all > self.boundaries() || f > h || h > n || (w[14] == 1 && all != self.boundaries()) {
+        if all > self.boundaries() {
             return Some(false);
         }
         if !self.known(&[(0, n), (1, f), (3, h)]) {
-            return None;
+            return if f <= h && h <= n { None } else { Some(false) };
         }
         let last = n.checked_sub(1).map_or(0, |i| 24 * i + 8);
         let counted = u64::from(word(&self.tables[0], last)) | u64::from(word(&self.tables[0], last + 4)) << 32;
