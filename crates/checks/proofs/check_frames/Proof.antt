@@ -23,13 +23,30 @@ loop-holds : tie.Need-loop-holds Inv-loop μ-loop
 loop-holds c = (rw (frames-by _ _ _ _) (walk-start _ _ _ _ _ _ _), search needs, zero-add _)
 
 returns : tie.Need-returns Inv-loop μ-loop
-returns c = λ store. checked-no _ _ _ store _ (walk-stop (c .before .before .before .before .loop .inv .0) (c .before .before .before .loop-test .taken) (c .before .before .read-header .ensures) (sym (c .before .header-ok .ensures) ∙ not-true _ (c .if1 .taken)))
+returns c =
+    let asked : tie.After-header-ok Inv-loop μ-loop = search in
+    let read : tie.After-read-header Inv-loop μ-loop = search in
+    let turn : tie.In-loop Inv-loop μ-loop = search in
+    let head : tie.At-loop Inv-loop μ-loop = search in
+    λ store. checked-no _ _ _ store _ (walk-stop (head .loop .inv .0) (turn .loop-test .taken) (read .read-header .ensures) (sym (asked .header-ok .ensures) ∙ not-true _ (c .if1 .taken)))
 
 add-used : tie.Need-add-used Inv-loop μ-loop
-add-used c = let g = header-fits _ _ _ _ _ (c .before .before .before .before .before .before .loop .inv .1) (sym (c .before .before .before .header-ok .ensures) ∙ not-false _ (c .before .before .if1 .left)) in search needs
+add-used c =
+    let passed : tie.Else1 Inv-loop μ-loop = search in
+    let asked : tie.After-header-ok Inv-loop μ-loop = search in
+    let head : tie.At-loop Inv-loop μ-loop = search in
+    let fits = header-fits _ _ _ _ _ (head .loop .inv .1) (sym (asked .header-ok .ensures) ∙ not-false _ (passed .if1 .left)) in
+    search needs
 
 loop-again : tie.Need-loop-again Inv-loop μ-loop
-loop-again c = (walk-on (c .before .before .before .before .before .before .loop .inv .0) (c .before .before .before .before .before .loop-test .taken) (c .before .before .before .before .read-header .ensures) (sym (c .before .before .before .header-ok .ensures) ∙ not-false _ (c .before .before .if1 .left)) (rw add-one), header-fits _ _ _ _ _ (c .before .before .before .before .before .before .loop .inv .1) (sym (c .before .before .before .header-ok .ensures) ∙ not-false _ (c .before .before .if1 .left)), weight-on _ _ _ _ (c .before .before .before .before .before .loop-test .taken) (c .before .before .before .before .read-header .ensures) (c .before .before .before .before .before .before .loop .inv .2))
+loop-again c =
+    let passed : tie.Else1 Inv-loop μ-loop = search in
+    let asked : tie.After-header-ok Inv-loop μ-loop = search in
+    let read : tie.After-read-header Inv-loop μ-loop = search in
+    let turn : tie.In-loop Inv-loop μ-loop = search in
+    let head : tie.At-loop Inv-loop μ-loop = search in
+    let ok = sym (asked .header-ok .ensures) ∙ not-false _ (passed .if1 .left) in
+    (walk-on (head .loop .inv .0) (turn .loop-test .taken) (read .read-header .ensures) ok (rw add-one), header-fits _ _ _ _ _ (head .loop .inv .1) ok, weight-on _ _ _ _ (turn .loop-test .taken) (read .read-header .ensures) (head .loop .inv .2))
 
 returns-2 : tie.Need-returns-2 Inv-loop μ-loop
 returns-2 c = λ store. checked-yes _ _ _ store (walk-end (c .before .loop .inv .0) (c .loop-test .left)) (weight-end _ _ _ _ (c .loop-test .left) (c .before .loop .inv .2))

@@ -24,16 +24,36 @@ unfolding hintsOk rising
 loop-holds c = walk-start _ _ _ _ _ _ _
 
 mul-hint-at : tie.Need-mul-hint-at Inv-loop μ-loop
-mul-hint-at c = record { fits = let g = record-room _ _ _ _ (c .loop-test .taken) (c .before .before .before .pre .0) in omega arith }
+mul-hint-at c =
+    let start : tie.Start Inv-loop μ-loop = search in
+    let room = record-room _ _ _ _ (c .loop-test .taken) (start .pre .0) in
+    record { fits = omega arith }
 
 hint-at-requires : tie.Need-hint-at-requires Inv-loop μ-loop
-hint-at-requires c κs = let g = record-room _ _ _ _ (c .loop-test .taken) (c .before .before .before .pre .0) in omega (arith, c .before .before .before .pre .1)
+hint-at-requires c κs =
+    let turn : tie.In-loop Inv-loop μ-loop = search in
+    let start : tie.Start Inv-loop μ-loop = search in
+    let room = record-room _ _ _ _ (turn .loop-test .taken) (start .pre .0) in
+    omega (arith, start .pre .1)
 
 returns : tie.Need-returns Inv-loop μ-loop
-returns c = walk-stop (c .before .before .before .before .before .before .loop .inv) (c .before .before .before .before .before .loop-test .taken) (c .before .before .before .before .hint-at .ensures ∙ hint-take _ _ (c .before .before .before .before .before .before .before .before .pre .1)) (rising-is hintLsn hintOk _ _ _ ∙ sym (c .before .rising-ok .ensures) ∙ not-true _ (c .if1 .taken))
+returns c =
+    let asked : tie.After-rising-ok Inv-loop μ-loop = search in
+    let read : tie.After-hint-at Inv-loop μ-loop = search in
+    let turn : tie.In-loop Inv-loop μ-loop = search in
+    let head : tie.At-loop Inv-loop μ-loop = search in
+    let start : tie.Start Inv-loop μ-loop = search in
+    walk-stop (head .loop .inv) (turn .loop-test .taken) (read .hint-at .ensures ∙ hint-take _ _ (start .pre .1)) (rising-is hintLsn hintOk _ _ _ ∙ sym (asked .rising-ok .ensures) ∙ not-true _ (c .if1 .taken))
 
 loop-again : tie.Need-loop-again Inv-loop μ-loop
-loop-again c = walk-on (c .before .before .before .before .before .before .before .loop .inv) (c .before .before .before .before .before .before .loop-test .taken) (c .before .before .before .before .before .hint-at .ensures ∙ hint-take _ _ (c .before .before .before .before .before .before .before .before .before .pre .1)) (rising-is hintLsn hintOk _ _ _ ∙ sym (c .before .before .rising-ok .ensures) ∙ not-false _ (c .before .if1 .left)) (rw add-one)
+loop-again c =
+    let passed : tie.Else1 Inv-loop μ-loop = search in
+    let asked : tie.After-rising-ok Inv-loop μ-loop = search in
+    let read : tie.After-hint-at Inv-loop μ-loop = search in
+    let turn : tie.In-loop Inv-loop μ-loop = search in
+    let head : tie.At-loop Inv-loop μ-loop = search in
+    let start : tie.Start Inv-loop μ-loop = search in
+    walk-on (head .loop .inv) (turn .loop-test .taken) (read .hint-at .ensures ∙ hint-take _ _ (start .pre .1)) (rising-is hintLsn hintOk _ _ _ ∙ sym (asked .rising-ok .ensures) ∙ not-false _ (passed .if1 .left)) (rw add-one)
 
 returns-2 : tie.Need-returns-2 Inv-loop μ-loop
 returns-2 c = walk-end (c .before .loop .inv) (c .loop-test .left)

@@ -5,10 +5,21 @@ use Rattle.confirm.proofs.keep_last.Statement.{statement}
 use Rattle.confirm.proofs.keep_last.Tie as tie
 
 merge-down-requires : tie.Need-merge-down-requires
-merge-down-requires c κs = let here = c .before .before .before .before .before .before .before .before .before in let a = here .before .before .before .before .args in let s = here .count-last .ensures in keep-fits (a .most) (a .c) (a .d) (a .t .now) _ (a .o .now) _ _ _ (here .before .before .before .before .pre) s (omega (arith, c .before .before .before .before .move-up .kept)) (c .before .before .before .before .move-up .ensures)
+merge-down-requires c κs =
+    let moved : tie.After-move-up = search in
+    let split : tie.After-count-last = search in
+    let start : tie.Start = search in
+    let a = start .args in
+    keep-fits (a .most) (a .c) (a .d) (a .t .now) _ (a .o .now) _ _ _ (start .pre) (split .count-last .ensures) (omega (arith, moved .move-up .kept)) (moved .move-up .ensures)
 
 returns : tie.Need-returns
-returns c = let here = c .before .before .before .before .before .before .before in let a = here .before .before .before .before .before .before .before .before .before .args in let s = here .before .before .before .before .before .count-last .ensures in keep-keeps (a .most) (a .c) (a .d) (a .t .now) _ (a .o .now) _ _ _ (here .before .before .before .before .before .before .before .before .before .pre) s (omega (arith, here .move-up .kept)) (here .move-up .ensures) (c .before .before .merge-down .ensures)
+returns c =
+    let merged : tie.After-merge-down = search in
+    let moved : tie.After-move-up = search in
+    let split : tie.After-count-last = search in
+    let start : tie.Start = search in
+    let a = start .args in
+    keep-keeps (a .most) (a .c) (a .d) (a .t .now) _ (a .o .now) _ _ _ (start .pre) (split .count-last .ensures) (omega (arith, moved .move-up .kept)) (moved .move-up .ensures) (merged .merge-down .ensures)
 
 pub keep-last-spec : {M : Type 1} → statement M
 keep-last-spec =
