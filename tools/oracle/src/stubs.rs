@@ -196,7 +196,7 @@ pub mod toc {
 pub mod audio {
     use crate::error::{Error, Slot};
     use crate::image::{Image, SECTOR_SIZE};
-    use crate::seek::{AreaIndex, Claim, Provisional, Recorder, ResumedFrom};
+    use crate::seek::{AreaIndex, Claim, HintRecorder, Provisional, Recorder, ResumedFrom};
     use crate::toc::Area;
 
     include!(concat!(env!("OUT_DIR"), "/audio_cuts.rs"));
@@ -211,6 +211,8 @@ pub mod audio {
         pub(crate) recorder: Option<Box<Recorder>>,
         pub(crate) image_id: Option<u64>,
         pub(crate) warnings: Vec<Warning>,
+        /// None in scripts, which have a hint recorder of their own, and `add_hints`.
+        pub(crate) hints: Option<Box<HintRecorder>>,
     }
 
     impl AreaCursor {
@@ -236,11 +238,11 @@ pub mod audio {
 
         pub(crate) fn has_news(&self) -> bool {
             self.recorder.as_deref().is_some_and(Recorder::has_news)
+                || self.hints.as_deref().is_some_and(HintRecorder::has_news)
         }
 
-        /// The hints go another way here: a hint recorder of its own, and `add_hints`.
         pub(crate) fn take_hints(&mut self) -> Vec<(u32, u32)> {
-            Vec::new()
+            self.hints.as_mut().map(|h| h.take()).unwrap_or_default()
         }
 
         pub(crate) fn hints_stale(&mut self) -> bool {
