@@ -5,6 +5,8 @@ use super::*;
 use crate::lent::Raw;
 use crate::text::{Sum, put, put_sum};
 
+pub mod differences;
+
 include!(concat!(env!("OUT_DIR"), "/persist_cuts.rs"));
 
 /// One more than the largest frame number: 01's LIM.

@@ -31,6 +31,7 @@ oracle run [--show] [--large]            answers the script on standard input; -
 oracle gen [options]                     writes scripts, and on standard error how often each answer occurred
 oracle fixed SCRIPT ANSWERS [options]    writes a list of scripts and the file of their answers
 oracle sources                           which texts of the original were built: length and FNV-1a
+oracle differences PAPER SCRIPT          runs the rows of docs/DIFFERENCES.md; PAPER is that text, SCRIPT names each row too
 oracle diff COUNT|SECONDSs REPLAY [options]  runs fresh scripts through both, until the first difference
 oracle disc COUNT|SECONDSs PROGRAM [options] runs fresh disc files through the model and PROGRAM (tools/disc), until the first difference
 options: --seed N  --kinds load,merge,calls,seams,hints,unrelated,large,lent|all  --scripts N  --files N  --small  --only CALL,CALL,..
@@ -139,6 +140,7 @@ pub fn command() -> ExitCode {
             println!("{}", env!("ORACLE_SOURCES"));
             Ok(())
         }
+        ("differences", 2) => seek::access::differences::run(&a.rest[0], &a.rest[1]),
         ("gen", 0) => driver::generate(&a),
         ("fixed", 2) => driver::fixed(&a),
         ("diff", 2) => driver::differences(&a),
