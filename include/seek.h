@@ -580,7 +580,7 @@ static inline uint32_t seek_hint(const seek_list *l, uint32_t first, uint32_t en
     return n;
 }
 
-/* Adds hints, 8 bytes each: sector and frame number, lowest byte first. */
+/* Adds hints, 8 bytes each: sector and frame number, lowest byte first. Sectors that do not rise are sorted, with about 52,000 bytes of the stack. */
 static inline uint32_t seek_add_hints(seek_list *l, const uint8_t *list, size_t length)
 {
     return seek_raw_add_hints(l->head, SEEK_BLOCK, list, length, SEEK_LENT_SEVEN_(l));
