@@ -1,4 +1,4 @@
-// absorb of one place's recorder into a place's list.
+// absorb of one place's recorder, whose tables are copied first, into a place's list.
 use absorb::Absorbed;
 use command::Absorbing;
 use given::least;
@@ -121,17 +121,13 @@ fn absorb_from(
     r: Recording,
     image: ImageId,
     given: &[u8],
-    checkpoints: &mut [Checkpoints; 4],
-    frames: &mut [Frames; 4],
-    store: &mut [Store; 4],
-    parts: &mut [Parts; 4],
+    checkpoints: &mut [Checkpoints; 8],
+    frames: &mut [Frames; 8],
+    store: &mut [Store; 8],
+    parts: &mut [Parts; 8],
     malformed: &mut [Malformed; 4],
     hints: &mut [Hints; 4],
     confirmed: &mut [Confirmed; 4],
-    recorder_checkpoints: &[Checkpoints; 4],
-    recorder_frames: &[Frames; 4],
-    recorder_store: &[Store; 4],
-    recorder_parts: &[Parts; 4],
 ) -> AbsorbStep
     requires { ⌜ k < 4 ⌝ }
     ensures { λ q. ⌜ Keeps (q .answer) (absorbingLists h r (lists (now (checkpoints .entry)) (now (frames .entry)) (now (store .entry)) (now (parts .entry)) (now (malformed .entry)) (now (hints .entry)) (now (confirmed .entry)))) (absorbingLists (q .held) (q .recording) (lists (now (checkpoints .exit)) (now (frames .exit)) (now (store .exit)) (now (parts .exit)) (now (malformed .exit)) (now (hints .exit)) (now (confirmed .exit)))) ⌝ }
@@ -143,6 +139,11 @@ fn absorb_from(
             recording: r,
         };
     }
+    let at = from + 4;
+    let new_checkpoints = checkpoints[at];
+    let new_frames = frames[at];
+    let new_store = store[at];
+    let new_parts = parts[at];
     absorb(
         h,
         r,
@@ -155,10 +156,10 @@ fn absorb_from(
         &mut malformed[k],
         &hints[k],
         &confirmed[k],
-        &recorder_checkpoints[from],
-        &recorder_frames[from],
-        &recorder_store[from],
-        &recorder_parts[from],
+        &new_checkpoints,
+        &new_frames,
+        &new_store,
+        &new_parts,
     )
 }
 
@@ -169,17 +170,13 @@ pub fn absorb_lists(
     places: Places,
     data: &[u8],
     n: usize,
-    checkpoints: &mut [Checkpoints; 4],
-    frames: &mut [Frames; 4],
-    store: &mut [Store; 4],
-    parts: &mut [Parts; 4],
+    checkpoints: &mut [Checkpoints; 8],
+    frames: &mut [Frames; 8],
+    store: &mut [Store; 8],
+    parts: &mut [Parts; 8],
     malformed: &mut [Malformed; 4],
     hints: &mut [Hints; 4],
     confirmed: &mut [Confirmed; 4],
-    recorder_checkpoints: &[Checkpoints; 4],
-    recorder_frames: &[Frames; 4],
-    recorder_store: &[Store; 4],
-    recorder_parts: &[Parts; 4],
 ) -> Step
     requires { ⌜ k < 4 ⌝ }
     ensures { λ r. ⌜ Keeps (r .answer) (placedLists places (lists (now (checkpoints .entry)) (now (frames .entry)) (now (store .entry)) (now (parts .entry)) (now (malformed .entry)) (now (hints .entry)) (now (confirmed .entry)))) (placedLists (r .places) (lists (now (checkpoints .exit)) (now (frames .exit)) (now (store .exit)) (now (parts .exit)) (now (malformed .exit)) (now (hints .exit)) (now (confirmed .exit)))) ⌝ }
@@ -203,10 +200,6 @@ pub fn absorb_lists(
         malformed,
         hints,
         confirmed,
-        recorder_checkpoints,
-        recorder_frames,
-        recorder_store,
-        recorder_parts,
     );
     let answer = a.answer;
     let held = a.held;

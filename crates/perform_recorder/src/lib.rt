@@ -131,24 +131,25 @@ pub fn change_recorder(
     places: Places,
     data: &[u8],
     n: usize,
-    checkpoints: &mut [Checkpoints; 4],
-    frames: &mut [Frames; 4],
-    store: &mut [Store; 4],
-    parts: &mut [Parts; 4],
+    checkpoints: &mut [Checkpoints; 8],
+    frames: &mut [Frames; 8],
+    store: &mut [Store; 8],
+    parts: &mut [Parts; 8],
 ) -> Step
     requires { ⌜ k < 4 ⌝ }
     ensures { λ r. ⌜ Keeps (r .answer) (placedRecorders places (recorders (now (checkpoints .entry)) (now (frames .entry)) (now (store .entry)) (now (parts .entry)))) (placedRecorders (r .places) (recorders (now (checkpoints .exit)) (now (frames .exit)) (now (store .exit)) (now (parts .exit)))) ⌝ }
 {
     let held = recording_at(places, k);
+    let at = k + 4;
     let c = change(
         command,
         held,
         data,
         n,
-        &mut checkpoints[k],
-        &mut frames[k],
-        &mut store[k],
-        &mut parts[k],
+        &mut checkpoints[at],
+        &mut frames[at],
+        &mut store[at],
+        &mut parts[at],
     );
     let answer = c.answer;
     let recording = c.recording;

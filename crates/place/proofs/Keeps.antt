@@ -50,10 +50,10 @@ put-list a p q k h x cs fs ss ps ms hs ks cs′ fs′ ss′ ps′ ms′ hs′ ks
     let places : q ≡ p = eq ∙ (ap (λ (y : Held). withHeld p k y) ex ∙ same-held p k) in
     rw (places, same-table cs k cs′ (ap (λ (o : Listed). o .tables .checkpoints) e), same-table fs k fs′ (ap (λ (o : Listed). o .tables .frames) e), same-table ss k ss′ (ap (λ (o : Listed). o .tables .store) e), same-table ps k ps′ (ap (λ (o : Listed). o .tables .parts) e), same-table ms k ms′ (ap (λ (o : Listed). o .tables .malformed) e), same-table hs k hs′ (ap (λ (o : Listed). o .tables .hints) e), same-table ks k ks′ (ap (λ (o : Listed). o .tables .confirmed) e)) refl
 
--- the same for all places, where one place's recorder and tables are put back
-pub put-recorder : (a : Answer) (p q : Places) (k : ℕ) (h x : Recording) (cs fs ss ps : List (List ℕ)) (cs′ fs′ ss′ ps′ : List ℕ) → h ≡ recordingAt p k → q ≡ withRecording p k x → Keeps a (recorded h (recorderTables (getD cs k []) (getD fs k []) (getD ss k []) (getD ps k []))) (recorded x (recorderTables cs′ fs′ ss′ ps′)) → Keeps a (placedRecorders p (recorders cs fs ss ps)) (placedRecorders q (recorders (set cs k cs′) (set fs k fs′) (set ss k ss′) (set ps k ps′)))
-put-recorder a p q k h x cs fs ss ps cs′ fs′ ss′ ps′ eh eq keeps s =
+-- the same for all places, where one place's recorder and its tables, number j of all, are put back
+pub put-recorder : (a : Answer) (p q : Places) (k j : ℕ) (h x : Recording) (cs fs ss ps : List (List ℕ)) (cs′ fs′ ss′ ps′ : List ℕ) → h ≡ recordingAt p k → q ≡ withRecording p k x → Keeps a (recorded h (recorderTables (getD cs j []) (getD fs j []) (getD ss j []) (getD ps j []))) (recorded x (recorderTables cs′ fs′ ss′ ps′)) → Keeps a (placedRecorders p (recorders cs fs ss ps)) (placedRecorders q (recorders (set cs j cs′) (set fs j fs′) (set ss j ss′) (set ps j ps′)))
+put-recorder a p q k j h x cs fs ss ps cs′ fs′ ss′ ps′ eh eq keeps s =
     let e = keeps s in
     let ex : x ≡ recordingAt p k = ap (λ (o : Recorded). o .recording) e ∙ eh in
     let places : q ≡ p = eq ∙ (ap (λ (y : Recording). withRecording p k y) ex ∙ same-recording p k) in
-    rw (places, same-table cs k cs′ (ap (λ (o : Recorded). o .tables .checkpoints) e), same-table fs k fs′ (ap (λ (o : Recorded). o .tables .frames) e), same-table ss k ss′ (ap (λ (o : Recorded). o .tables .store) e), same-table ps k ps′ (ap (λ (o : Recorded). o .tables .parts) e)) refl
+    rw (places, same-table cs j cs′ (ap (λ (o : Recorded). o .tables .checkpoints) e), same-table fs j fs′ (ap (λ (o : Recorded). o .tables .frames) e), same-table ss j ss′ (ap (λ (o : Recorded). o .tables .store) e), same-table ps j ps′ (ap (λ (o : Recorded). o .tables .parts) e)) refl

@@ -77,7 +77,7 @@ pub record Recorded : Type 0 where
 abbrev pub recorded : Recording → RecorderTables → Recorded
 recorded r t = record { recording = r; tables = t }
 
--- the tables of all four lists
+-- the tables of all four lists; those that recorders have too go on with the four recorders'
 pub record Lists : Type 0 where
   pub checkpoints : List (List ℕ)
   pub frames : List (List ℕ)
@@ -90,7 +90,7 @@ pub record Lists : Type 0 where
 abbrev pub lists : List (List ℕ) → List (List ℕ) → List (List ℕ) → List (List ℕ) → List (List ℕ) → List (List ℕ) → List (List ℕ) → Lists
 lists a b c d e f g = record { checkpoints = a; frames = b; store = c; parts = d; malformed = e; hints = f; confirmed = g }
 
--- the tables of all four recorders
+-- those of them that recorders have
 pub record Recorders : Type 0 where
   pub checkpoints : List (List ℕ)
   pub frames : List (List ℕ)
@@ -104,7 +104,6 @@ recorders a b c d = record { checkpoints = a; frames = b; store = c; parts = d }
 pub record World : Type 0 where
   pub places : Places
   pub lists : Lists
-  pub recorders : Recorders
   pub hintList : List ℕ
 
 pub record PlacedLists : Type 0 where
@@ -119,8 +118,8 @@ pub record PlacedList : Type 0 where
   pub places : Places
   pub list : List ℕ
 
-abbrev pub world : Places → Lists → Recorders → List ℕ → World
-world p l r h = record { places = p; lists = l; recorders = r; hintList = h }
+abbrev pub world : Places → Lists → List ℕ → World
+world p l h = record { places = p; lists = l; hintList = h }
 
 abbrev pub placedLists : Places → Lists → PlacedLists
 placedLists p l = record { places = p; lists = l }

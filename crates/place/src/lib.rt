@@ -26,6 +26,39 @@ pub type Confirmed = [u8; 262160];
 // The hint recorder's list.
 pub type HintList = [u8; 524288];
 
+// ---- the tables of four lists and four recorders, and the hint recorder's list, all bytes 0
+pub fn checkpoints_room() -> [Checkpoints; 8] {
+    [[0; 24576]; 8]
+}
+
+pub fn frames_room() -> [Frames; 8] {
+    [[0; 8192]; 8]
+}
+
+pub fn store_room() -> [Store; 8] {
+    [[0; 131072]; 8]
+}
+
+pub fn parts_room() -> [Parts; 8] {
+    [[0; 24576]; 8]
+}
+
+pub fn malformed_room() -> [Malformed; 4] {
+    [[0; 16384]; 4]
+}
+
+pub fn hints_room() -> [Hints; 4] {
+    [[0; 655360]; 4]
+}
+
+pub fn confirmed_room() -> [Confirmed; 4] {
+    [[0; 262160]; 4]
+}
+
+pub fn list_room() -> HintList {
+    [0; 524288]
+}
+
 // A place has no area, an area, or an area and a list.
 pub enum Held {
     Nothing,

@@ -167,7 +167,7 @@ fn put_first_line(
     asked: Line,
     answer: Answer,
     data: &[u8],
-    store: &[Store; 4],
+    store: &[Store; 8],
     list: &[u8],
 ) -> Position
     requires { ⌜ asked .place < 4 ⌝ }
@@ -189,10 +189,10 @@ fn put_list_at(
     p: Position,
     k: usize,
     x: AreaIndex,
-    checkpoints: &[Checkpoints; 4],
-    frames: &[Frames; 4],
-    store: &[Store; 4],
-    parts: &[Parts; 4],
+    checkpoints: &[Checkpoints; 8],
+    frames: &[Frames; 8],
+    store: &[Store; 8],
+    parts: &[Parts; 8],
     malformed: &[Malformed; 4],
     hints: &[Hints; 4],
     confirmed: &[Confirmed; 4],
@@ -218,10 +218,10 @@ fn put_shown_list(
     p: Position,
     k: usize,
     places: Places,
-    checkpoints: &[Checkpoints; 4],
-    frames: &[Frames; 4],
-    store: &[Store; 4],
-    parts: &[Parts; 4],
+    checkpoints: &[Checkpoints; 8],
+    frames: &[Frames; 8],
+    store: &[Store; 8],
+    parts: &[Parts; 8],
     malformed: &[Malformed; 4],
     hints: &[Hints; 4],
     confirmed: &[Confirmed; 4],
@@ -256,14 +256,23 @@ fn put_recorder_at(
     p: Position,
     k: usize,
     r: Recorder,
-    checkpoints: &[Checkpoints; 4],
-    frames: &[Frames; 4],
-    store: &[Store; 4],
-    parts: &[Parts; 4],
+    checkpoints: &[Checkpoints; 8],
+    frames: &[Frames; 8],
+    store: &[Store; 8],
+    parts: &[Parts; 8],
 ) -> Position
     requires { ⌜ k < 4 ⌝ }
 {
-    put_recorder(out, p, r, &checkpoints[k], &frames[k], &store[k], &parts[k])
+    let at = k + 4;
+    put_recorder(
+        out,
+        p,
+        r,
+        &checkpoints[at],
+        &frames[at],
+        &store[at],
+        &parts[at],
+    )
 }
 
 fn put_shown_recorder(
@@ -271,10 +280,10 @@ fn put_shown_recorder(
     p: Position,
     k: usize,
     places: Places,
-    checkpoints: &[Checkpoints; 4],
-    frames: &[Frames; 4],
-    store: &[Store; 4],
-    parts: &[Parts; 4],
+    checkpoints: &[Checkpoints; 8],
+    frames: &[Frames; 8],
+    store: &[Store; 8],
+    parts: &[Parts; 8],
 ) -> Position {
     if 3 < k {
         return p;
@@ -314,17 +323,13 @@ fn put_shown(
     asked: Line,
     places: Places,
     list: &[u8],
-    checkpoints: &[Checkpoints; 4],
-    frames: &[Frames; 4],
-    store: &[Store; 4],
-    parts: &[Parts; 4],
+    checkpoints: &[Checkpoints; 8],
+    frames: &[Frames; 8],
+    store: &[Store; 8],
+    parts: &[Parts; 8],
     malformed: &[Malformed; 4],
     hints: &[Hints; 4],
     confirmed: &[Confirmed; 4],
-    recorder_checkpoints: &[Checkpoints; 4],
-    recorder_frames: &[Frames; 4],
-    recorder_store: &[Store; 4],
-    recorder_parts: &[Parts; 4],
 ) -> Position {
     let command = asked.command;
     let s = shown_after(command, asked.place);
@@ -359,10 +364,10 @@ fn put_shown(
         q,
         s.recorder,
         places,
-        recorder_checkpoints,
-        recorder_frames,
-        recorder_store,
-        recorder_parts,
+        checkpoints,
+        frames,
+        store,
+        parts,
     );
     put_shown_hints(out, q, s.hints, places, list)
 }
@@ -377,17 +382,13 @@ pub fn put_line(
     places: Places,
     data: &[u8],
     list: &[u8],
-    checkpoints: &[Checkpoints; 4],
-    frames: &[Frames; 4],
-    store: &[Store; 4],
-    parts: &[Parts; 4],
+    checkpoints: &[Checkpoints; 8],
+    frames: &[Frames; 8],
+    store: &[Store; 8],
+    parts: &[Parts; 8],
     malformed: &[Malformed; 4],
     hints: &[Hints; 4],
     confirmed: &[Confirmed; 4],
-    recorder_checkpoints: &[Checkpoints; 4],
-    recorder_frames: &[Frames; 4],
-    recorder_store: &[Store; 4],
-    recorder_parts: &[Parts; 4],
 ) -> Position {
     if 3 < asked.place {
         return p;
@@ -406,9 +407,5 @@ pub fn put_line(
         malformed,
         hints,
         confirmed,
-        recorder_checkpoints,
-        recorder_frames,
-        recorder_store,
-        recorder_parts,
     )
 }

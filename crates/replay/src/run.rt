@@ -1,7 +1,9 @@
 // All lines of a script.
-use crate::input;
-use crate::output;
+use crate::answer::State;
+use crate::answer::answer_line;
 use given::least;
+use lines::input;
+use lines::output;
 use place::Checkpoints;
 use place::Confirmed;
 use place::Frames;
@@ -11,8 +13,6 @@ use place::Malformed;
 use place::Parts;
 use place::Store;
 use place::no_places;
-use run_line::State;
-use run_line::answer_line;
 use script::Position;
 
 // What was answered is written, where that is much.
@@ -31,17 +31,13 @@ pub fn replay(
     line: &mut [u8],
     out: &mut [u8; 65536],
     data: &mut [u8; 266240],
-    checkpoints: &mut [Checkpoints; 4],
-    frames: &mut [Frames; 4],
-    store: &mut [Store; 4],
-    parts: &mut [Parts; 4],
+    checkpoints: &mut [Checkpoints; 8],
+    frames: &mut [Frames; 8],
+    store: &mut [Store; 8],
+    parts: &mut [Parts; 8],
     malformed: &mut [Malformed; 4],
     hints: &mut [Hints; 4],
     confirmed: &mut [Confirmed; 4],
-    recorder_checkpoints: &mut [Checkpoints; 4],
-    recorder_frames: &mut [Frames; 4],
-    recorder_store: &mut [Store; 4],
-    recorder_parts: &mut [Parts; 4],
     list: &mut HintList,
 ) {
     let mut read = input::start();
@@ -74,10 +70,6 @@ pub fn replay(
                 malformed,
                 hints,
                 confirmed,
-                recorder_checkpoints,
-                recorder_frames,
-                recorder_store,
-                recorder_parts,
                 list,
             );
         }

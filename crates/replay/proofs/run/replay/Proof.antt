@@ -6,16 +6,16 @@ use Rattle.replay.proofs.run.replay.Statement.{statement}
 use Rattle.replay.proofs.run.replay.Tie as tie
 
 abbrev Inv-loop : tie.InvT-loop
-Inv-loop chunk₀ line₀ out₀ data₀ checkpoints₀ frames₀ store₀ parts₀ malformed₀ hints₀ confirmed₀ recorder-checkpoints₀ recorder-frames₀ recorder-store₀ recorder-parts₀ list₀ read₀ state₀ turns₀ chunk line out «data» checkpoints frames store parts malformed hints confirmed recorder-checkpoints recorder-frames recorder-store recorder-parts list read state turns =
+Inv-loop chunk₀ line₀ out₀ data₀ checkpoints₀ frames₀ store₀ parts₀ malformed₀ hints₀ confirmed₀ list₀ read₀ state₀ turns₀ chunk line out «data» checkpoints frames store parts malformed hints confirmed list read state turns =
     length line ≡ length line₀
 
 abbrev μ-loop : tie.MeasureT-loop
-μ-loop chunk₀ line₀ out₀ data₀ checkpoints₀ frames₀ store₀ parts₀ malformed₀ hints₀ confirmed₀ recorder-checkpoints₀ recorder-frames₀ recorder-store₀ recorder-parts₀ list₀ read₀ state₀ turns₀ chunk line out «data» checkpoints frames store parts malformed hints confirmed recorder-checkpoints recorder-frames recorder-store recorder-parts list read state turns =
+μ-loop chunk₀ line₀ out₀ data₀ checkpoints₀ frames₀ store₀ parts₀ malformed₀ hints₀ confirmed₀ list₀ read₀ state₀ turns₀ chunk line out «data» checkpoints frames store parts malformed hints confirmed list read state turns =
     turns
 
 -- from the line's call back to the turn
 abbrev cut : tie.After-answer-line Inv-loop μ-loop → tie.After-least Inv-loop μ-loop
-cut m = m .before .before .before .before .before .before .before .before .before .before .before .before .before .before .before .before .before
+cut m = m .before .before .before .before .before .before .before .before .before .before .before .before .before
 
 abbrev gathered : tie.After-least Inv-loop μ-loop → tie.After-line Inv-loop μ-loop
 gathered m = search

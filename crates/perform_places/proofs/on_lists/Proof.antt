@@ -1,7 +1,7 @@
-use Rattle.perform.proofs.Keeps.{places-alone}
+use Rattle.perform_places.proofs.Keeps.{places-alone}
 use borrow.Author.Needs.{needs}
-use Rattle.perform.proofs.on_lists.Statement.{statement}
-use Rattle.perform.proofs.on_lists.Tie as tie
+use Rattle.perform_places.proofs.on_lists.Statement.{statement}
+use Rattle.perform_places.proofs.on_lists.Tie as tie
 
 returns : tie.Need-returns
 returns c =

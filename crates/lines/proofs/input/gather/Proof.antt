@@ -2,8 +2,8 @@ use mathlib.Core.Path.{_≡_}
 use Prim.Native.Nat.{_-_, _≤_}
 use lib.ListN.{length}
 use borrow.Author.Needs.{needs}
-use Rattle.replay.proofs.input.gather.Statement.{statement}
-use Rattle.replay.proofs.input.gather.Tie as tie
+use Rattle.lines.proofs.input.gather.Statement.{statement}
+use Rattle.lines.proofs.input.gather.Tie as tie
 
 abbrev Inv-loop : tie.InvT-loop
 Inv-loop chunk line₀ n over len₀ i₀ line len i = (n ≤ length chunk) × ((i ≤ n) × (length line ≡ length line₀))

@@ -34,17 +34,13 @@ pub fn answer_line(
     state: State,
     out: &mut [u8; 65536],
     data: &mut [u8; 266240],
-    checkpoints: &mut [Checkpoints; 4],
-    frames: &mut [Frames; 4],
-    store: &mut [Store; 4],
-    parts: &mut [Parts; 4],
+    checkpoints: &mut [Checkpoints; 8],
+    frames: &mut [Frames; 8],
+    store: &mut [Store; 8],
+    parts: &mut [Parts; 8],
     malformed: &mut [Malformed; 4],
     hints: &mut [Hints; 4],
     confirmed: &mut [Confirmed; 4],
-    recorder_checkpoints: &mut [Checkpoints; 4],
-    recorder_frames: &mut [Frames; 4],
-    recorder_store: &mut [Store; 4],
-    recorder_parts: &mut [Parts; 4],
     list: &mut HintList,
 ) -> State {
     if is_silent(line) {
@@ -66,10 +62,6 @@ pub fn answer_line(
         malformed,
         hints,
         confirmed,
-        recorder_checkpoints,
-        recorder_frames,
-        recorder_store,
-        recorder_parts,
         list,
     );
     let answer = step.answer;
@@ -90,10 +82,6 @@ pub fn answer_line(
         malformed,
         hints,
         confirmed,
-        recorder_checkpoints,
-        recorder_frames,
-        recorder_store,
-        recorder_parts,
     );
     State { places: after, end }
 }
