@@ -6,9 +6,9 @@ use native.Mathlib.Omega.{arith}
 use lib.ListN.{length, take, drop}
 use Rattle.rules.specs.declared.Area.{Area}
 use Rattle.rules.specs.declared.AreaIndex.{AreaIndex}
-use Rattle.rules.specs.declared.Entry.{Entry}
+use Rattle.disc_rules.specs.declared.Entry.{Entry}
 use Rattle.rules.specs.Tests.{Accepted, bind}
-use Rattle.rules.specs.Disc.{bodyOf, loadBody}
+use Rattle.disc_rules.specs.Disc.{bodyOf, loadBody}
 use Rattle.rules.proofs.Tests.{→bind}
 use Rattle.disc_table.specs.declared.Place.{Place}
 use Rattle.disc_table.specs.declared.Place.the-variants as place

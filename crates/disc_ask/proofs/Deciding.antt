@@ -6,7 +6,7 @@ use Prim.Native.Nat.{ℕ}
 use native.Mathlib.Omega.{arith}
 use Rattle.rules.specs.declared.Area.{Area}
 use Rattle.rules.specs.Tests.{Refused, Accepted, firstNo, after, bind}
-use Rattle.rules.specs.Disc.{bodyOf, slotArea, loadBody, loadBodies, loadDisc}
+use Rattle.disc_rules.specs.Disc.{bodyOf, slotArea, loadBody, loadBodies, loadDisc}
 use Rattle.disc_table.specs.declared.Contents.the-variants.{Broken, Lists}
 use Rattle.disc_table.specs.declared.Place.{Place}
 use Rattle.disc_table.specs.Contents.{entryIn, contentsIn}

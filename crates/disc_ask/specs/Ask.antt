@@ -6,10 +6,10 @@ use mathlib.Core.List.{List}
 use mathlib.Core.Option.{Option, none, some}
 use lib.ListN.{length, take, drop}
 use Rattle.rules.specs.declared.Area.{Area}
-use Rattle.rules.specs.declared.Entry.{Entry}
+use Rattle.disc_rules.specs.declared.Entry.{Entry}
 use Rattle.rules.specs.Tests.{Refused}
 use Rattle.rules.specs.Values.{Index}
-use Rattle.rules.specs.Disc.{bodyOf, slotArea, loadBody, loadDisc}
+use Rattle.disc_rules.specs.Disc.{bodyOf, slotArea, loadBody, loadDisc}
 use Rattle.disc_table.specs.declared.Place.{Place}
 use Rattle.disc_table.specs.declared.Place.the-variants as place
 use Rattle.disc_table.specs.Contents.{entryIn}

@@ -9,7 +9,7 @@ use Rattle.rules.specs.declared.AreaIndex.{AreaIndex}
 use Rattle.rules.specs.Values.{Index, max32}
 use Rattle.rules.specs.File.{savedLength}
 use Rattle.rules.proofs.Tests.{test, all→}
-use Rattle.rules.specs.Disc.{entry, slotOf, listed, bySlot}
+use Rattle.disc_rules.specs.Disc.{entry, slotOf, listed, bySlot}
 use Rattle.index.specs.Index.{Tables, indexIn, refusal}
 use Rattle.index.specs.Needs.{lowest}
 use Rattle.join.proofs.Refusal.{lowest-zero}

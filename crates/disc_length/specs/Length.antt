@@ -5,7 +5,7 @@ use mathlib.Core.List.{List, [], _∷_}
 use lib.Dec.{eqb}
 use Rattle.rules.specs.declared.AreaIndex.{AreaIndex}
 use Rattle.rules.specs.Values.{Index}
-use Rattle.rules.specs.Disc.{contentsOf, listed, discLength, bySlot}
+use Rattle.disc_rules.specs.Disc.{contentsOf, listed, discLength, bySlot}
 use Rattle.index.specs.Index.{Tables, indexIn, refusal}
 use Rattle.index.specs.Needs.{lowest}
 

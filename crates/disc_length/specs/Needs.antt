@@ -3,7 +3,7 @@ use Prim.Native.Nat.{ℕ, _+_}
 use mathlib.Core.Bool.{cond}
 use mathlib.Core.List.{[], _∷_}
 use lib.Dec.{ltb}
-use Rattle.rules.specs.Disc.{entry, listed}
+use Rattle.disc_rules.specs.Disc.{entry, listed}
 
 unfoldable pub lengthOfTwo : ℕ → ℕ → ℕ → ℕ → ℕ
 lengthOfTwo s m t n = cond (listed 0 (entry s 28 m ∷ entry t (28 + m) n ∷ [])) (28 + m + n) 54

@@ -5,7 +5,7 @@ use Prim.Native.Nat.{ℕ}
 use Rattle.rules.specs.declared.Area.{Area}
 use Rattle.rules.specs.Tests.{Accepted}
 use Rattle.rules.proofs.Tests.{→bind}
-use Rattle.rules.specs.Disc.{loadDisc}
+use Rattle.disc_rules.specs.Disc.{loadDisc}
 use Rattle.index.specs.Index.{Tables, roomOf}
 use Rattle.disc_ask.specs.declared.Body.{Body}
 use Rattle.disc_ask.specs.declared.Decided.{Decided}

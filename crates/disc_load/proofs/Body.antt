@@ -6,7 +6,7 @@ use native.Mathlib.Omega.{arith}
 use lib.ListN.{length, take, drop}
 use Rattle.rules.specs.declared.Area.{Area}
 use Rattle.rules.specs.declared.AreaIndex.{AreaIndex}
-use Rattle.rules.specs.declared.Entry.{Entry}
+use Rattle.disc_rules.specs.declared.Entry.{Entry}
 use Rattle.index.specs.Index.{Tables, tablesFrom}
 use Rattle.inspect.specs.declared.Found.{Found}
 use Rattle.limit.specs.Limit.{limitedIn}

@@ -14,7 +14,7 @@ use Rattle.rules.specs.Questions.{Four, both, fourOf, askFour}
 use Rattle.rules.specs.Values.{Index, max32}
 use Rattle.rules.specs.File.{savedLength, over}
 use Rattle.rules.proofs.Tests.{test, all→}
-use Rattle.rules.specs.Disc.{entry, slotOf, contentsOf, entriesFrom, listed, bodiesLength, discLength, discBytes, saveLists, saveOne, bySlot, saveBoth}
+use Rattle.disc_rules.specs.Disc.{entry, slotOf, contentsOf, entriesFrom, listed, bodiesLength, discLength, discBytes, saveLists, saveOne, bySlot, saveBoth}
 use Rattle.index.specs.Index.{Tables, roomOf, indexIn, kindsIn, kindedNumber, kinded, refusal}
 use Rattle.index.specs.Needs.{lowest}
 use Rattle.index.proofs.Four.{Later, kinded-more, kinded-index, lowest-both}

@@ -11,7 +11,7 @@ use Rattle.rules.specs.declared.AreaIndex.{AreaIndex}
 use Rattle.rules.specs.Values.{Index}
 use Rattle.rules.specs.File.{saved, savedLength, over}
 use Rattle.filelaws.proofs.Length.{savedLength-is}
-use Rattle.rules.specs.Disc.{entry, encodeEntry, slotOf, entriesFrom, discBytes}
+use Rattle.disc_rules.specs.Disc.{entry, encodeEntry, slotOf, entriesFrom, discBytes}
 use Rattle.index.specs.Index.{Tables, indexIn, refusal}
 use Rattle.write.specs.Write.{Put}
 use Rattle.write.proofs.Sections.{lent, put-both, put-over}

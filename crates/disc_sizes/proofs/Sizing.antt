@@ -7,9 +7,9 @@ use Prim.Native.Nat.{ℕ, _+_, _-_}
 use native.Mathlib.Omega.{arith}
 use lib.ListN.{take, drop}
 use Rattle.rules.specs.declared.Area.{Area}
-use Rattle.rules.specs.declared.Entry.{Entry}
+use Rattle.disc_rules.specs.declared.Entry.{Entry}
 use Rattle.rules.specs.Tests.{Accepted, firstNo, after, bind}
-use Rattle.rules.specs.Disc.{bodyOf, slotArea}
+use Rattle.disc_rules.specs.Disc.{bodyOf, slotArea}
 use Rattle.disc_table.specs.declared.Contents.the-variants.{Broken, Lists}
 use Rattle.disc_table.specs.declared.Place.{Place}
 use Rattle.disc_table.specs.declared.Place.the-variants.{Absent, At}

@@ -5,7 +5,7 @@ use mathlib.Core.List.{List, [], _∷_}
 use mathlib.Core.Option.{Option, none, some}
 use Rattle.rules.specs.declared.Area.{Area}
 use Rattle.rules.specs.Tests.{ask, firstNo, Answer, Refused, Accepted, after, bind}
-use Rattle.rules.specs.Disc.{entriesIn, entryOf, contentsOk, bodyOf, slotArea}
+use Rattle.disc_rules.specs.Disc.{entriesIn, entryOf, contentsOk, bodyOf, slotArea}
 use Rattle.sizes.specs.declared.TableSizes.{TableSizes}
 use Rattle.sizes.specs.Sizes.{fileSizes}
 use Rattle.disc_sizes.specs.declared.SlotSizes.{SlotSizes}

@@ -10,7 +10,7 @@ use sizes::file_sizes;
 ghost use mathlib.Core.Path.{_≡_};
 ghost use mathlib.Core.Option.{some};
 ghost use Rattle.rules.specs.Tests.{Accepted, bind};
-ghost use Rattle.rules.specs.Disc.{bodyOf};
+ghost use Rattle.disc_rules.specs.Disc.{bodyOf};
 ghost use Rattle.disc_table.specs.Contents.{entryIn};
 ghost use Rattle.disc_table.specs.Inside.{Inside};
 ghost use Rattle.sizes.specs.Sizes.{sizedOf};

@@ -17,8 +17,8 @@ use Rattle.field.proofs.Number.{number-part}
 use Rattle.rules.specs.Tests.{all}
 use Rattle.rules.specs.Values.{max32}
 use Rattle.rules.proofs.Tests.{test, never, all→}
-use Rattle.rules.specs.declared.Entry.{Entry}
-use Rattle.rules.specs.Disc.{entry, encodeEntry, decodeEntry, laid, contentsOk, countIn, entriesIn, entryOf, listed, tableSize}
+use Rattle.disc_rules.specs.declared.Entry.{Entry}
+use Rattle.disc_rules.specs.Disc.{entry, encodeEntry, decodeEntry, laid, contentsOk, countIn, entriesIn, entryOf, listed, tableSize}
 use Rattle.write.specs.Write.{Put}
 use Rattle.write.proofs.Sections.{put-both, put-one}
 use Rattle.disc_table.specs.declared.Contents.{Contents}

@@ -4,7 +4,7 @@ use mathlib.Core.Bool.{true}
 use mathlib.Core.List.{List}
 use Prim.Native.Nat.{ℕ, _+_, _≤_}
 use lib.ListN.{length}
-use Rattle.rules.specs.Disc.{entriesIn, entryOf, contentsOk}
+use Rattle.disc_rules.specs.Disc.{entriesIn, entryOf, contentsOk}
 use Rattle.disc_table.specs.declared.Place.{Place}
 use Rattle.disc_table.specs.declared.Place.the-variants.{Absent, At}
 use Rattle.disc_table.specs.Contents.{entryIn}

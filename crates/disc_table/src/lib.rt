@@ -2,7 +2,7 @@
 use field::and;
 use field::read_u32;
 use field::write_u32;
-use rules::Entry;
+use disc_rules::Entry;
 use rules::MAX_U32;
 ghost use mathlib.Core.Path.{_≡_};
 ghost use mathlib.Core.Bool.{_&&_};
@@ -11,7 +11,7 @@ ghost use Prim.Native.Nat.{_+_, _≤_};
 ghost use lib.Dec.{eqb, leb};
 ghost use lib.ListN.{length, take, drop};
 ghost use Rattle.field.specs.Number.{encode};
-ghost use Rattle.rules.specs.Disc.{entry, encodeEntry, decodeEntry, laid, entryOf, listed};
+ghost use Rattle.disc_rules.specs.Disc.{entry, encodeEntry, decodeEntry, laid, entryOf, listed};
 ghost use Rattle.write.specs.Write.{Put};
 ghost use Rattle.disc_table.specs.Contents.{placeFrom, contentsFrom, contentsIn};
 

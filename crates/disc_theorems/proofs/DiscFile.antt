@@ -29,9 +29,9 @@ use Rattle.filelaws.proofs.Length.{savedLength-is}
 use Rattle.filelaws.proofs.Limit.{limited-load, large-limit}
 use Rattle.theorems.specs.Terms.{Valid, Ample}
 use Rattle.theorems.proofs.Accepts.{refuses-nothing}
-use Rattle.rules.specs.declared.Entry.{Entry}
-use Rattle.rules.specs.Disc.{Disc, entry, encodeEntry, slotOf, slotArea, entriesIn, entryOf, entriesFrom, contentsOf, contentsOk, listed, bodiesLength, discLength, discBytes, loadBody, loadBodies, loadDisc, saveLists, saveOne, bySlot, saveBoth}
-use Rattle.rules.specs.Disc as rules
+use Rattle.disc_rules.specs.declared.Entry.{Entry}
+use Rattle.disc_rules.specs.Disc.{Disc, entry, encodeEntry, slotOf, slotArea, entriesIn, entryOf, entriesFrom, contentsOf, contentsOk, listed, bodiesLength, discLength, discBytes, loadBody, loadBodies, loadDisc, saveLists, saveOne, bySlot, saveBoth}
+use Rattle.disc_rules.specs.Disc as rules
 use Rattle.disc_theorems.specs.DiscFile.{OneDiscFile, disc, BothLoad, OneLoads, DiscLoads, bodyIn, ListFile, SavedBodies, Loads, BodiesLoad}
 use Rattle.disc_theorems.proofs.Tables.{Fit, First, first→, savedOf, table-ok, body-is}
 

@@ -13,7 +13,7 @@ use Rattle.rules.specs.Tests.{Answer, Refused, Accepted}
 use Rattle.rules.specs.Values.{Index, Lengths}
 use Rattle.rules.specs.Questions.{question3}
 use Rattle.rules.specs.File.{over}
-use Rattle.rules.specs.Disc.{Disc, entriesIn, entryOf, slotOf, saveOne, saveBoth, loadDisc}
+use Rattle.disc_rules.specs.Disc.{Disc, entriesIn, entryOf, slotOf, saveOne, saveBoth, loadDisc}
 use Rattle.filelaws.specs.Statements.{Savable, stripped}
 use Rattle.filelaws.proofs.Facts.{facts}
 use Rattle.index.specs.Index.{Tables, roomOf, indexIn, numbersFrom, tablesFrom, kindsIn, kinded}

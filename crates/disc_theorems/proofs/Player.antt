@@ -9,7 +9,7 @@ use lib.Dec.{eqb, ltb}
 use lib.ListN.{length}
 use Rattle.rules.specs.Tests.{Refused, Accepted, ask, firstNo, after, numberOf}
 use Rattle.rules.specs.Values.{Index}
-use Rattle.rules.specs.Disc.{slotOf, contentsOf, listed, bodiesLength, discLength, discBytes, saveLists, saveOne, bySlot, saveBoth}
+use Rattle.disc_rules.specs.Disc.{slotOf, contentsOf, listed, bodiesLength, discLength, discBytes, saveLists, saveOne, bySlot, saveBoth}
 use Rattle.rules.proofs.Tests.{test}
 use Rattle.filelaws.proofs.Length.{savedLength-is}
 use Rattle.index.specs.Index.{Tables, indexIn, orFour, kinded, refusal}

@@ -33,8 +33,8 @@ use Rattle.filelaws.proofs.Parsed.{sections-forth}
 use Rattle.theorems.specs.Terms.{Ample}
 use Rattle.theorems.proofs.Closure.{load→}
 use Rattle.theorems.proofs.RoundTrip.{loaded-saves}
-use Rattle.rules.specs.declared.Entry.{Entry}
-use Rattle.rules.specs.Disc.{Disc, entry, encodeEntry, decodeEntry, tableSize, countIn, entriesIn, laid, contentsOk, entryOf, bodyOf, slotArea, slotOf, entriesFrom, contentsOf, discBytes, bodiesLength, discLength, listed, loadBody}
+use Rattle.disc_rules.specs.declared.Entry.{Entry}
+use Rattle.disc_rules.specs.Disc.{Disc, entry, encodeEntry, decodeEntry, tableSize, countIn, entriesIn, laid, contentsOk, entryOf, bodyOf, slotArea, slotOf, entriesFrom, contentsOf, discBytes, bodiesLength, discLength, listed, loadBody}
 use Rattle.disc_theorems.specs.DiscFile.{Whole, Loads}
 use Rattle.disc_theorems.proofs.Tables.{EntryFits, entry-layout}
 

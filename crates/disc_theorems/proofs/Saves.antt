@@ -18,8 +18,8 @@ use Rattle.rules.specs.Values.{Index, Lengths}
 use Rattle.rules.specs.Questions.{areaOk, Four, both, askFour, fourOf}
 use Rattle.rules.specs.File.{saved}
 use Rattle.rules.proofs.Tests.{all→, →asked, and-right, both as each-of}
-use Rattle.rules.specs.declared.Entry.{Entry}
-use Rattle.rules.specs.Disc.{Disc, decodeEntry, tableSize, countIn, entriesIn, laid, contentsOk, entryOf, bodyOf, slotArea, slotOf, contentsOf, discBytes, discLength, listed, saveLists, saveOne, bySlot, saveBoth, loadDisc}
+use Rattle.disc_rules.specs.declared.Entry.{Entry}
+use Rattle.disc_rules.specs.Disc.{Disc, decodeEntry, tableSize, countIn, entriesIn, laid, contentsOk, entryOf, bodyOf, slotArea, slotOf, contentsOf, discBytes, discLength, listed, saveLists, saveOne, bySlot, saveBoth, loadDisc}
 use Rattle.disc_theorems.specs.DiscFile.{disc, Whole, WholeDisc, DiscSaves}
 use Rattle.disc_theorems.proofs.Tables.{Fit, EntryFits, entry-layout, disc-length}
 use Rattle.disc_theorems.proofs.Rebuilt.{Bodies, no-more, body, rebuilt, own-file, Pair, pair, Single, single0, single1, no-slot, listed-of, Kept, kept, Named, named, unnamed}

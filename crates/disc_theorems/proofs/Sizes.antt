@@ -10,7 +10,7 @@ use Rattle.rules.specs.Tests.{Answer, Refused, Accepted, ask, firstNo, after, b
 use Rattle.rules.specs.Values.{Index}
 use Rattle.rules.specs.Questions.{areaOk}
 use Rattle.rules.specs.Load.{fromBytes, limited}
-use Rattle.rules.specs.Disc.{entriesIn, entryOf, contentsOk, bodyOf, slotArea, loadBody, loadBodies, loadDisc}
+use Rattle.disc_rules.specs.Disc.{entriesIn, entryOf, contentsOk, bodyOf, slotArea, loadBody, loadBodies, loadDisc}
 use Rattle.rules.proofs.Tests.{asked→, →asked, accepted-eq, bind→, →bind}
 use Rattle.index.specs.Index.{Tables, roomOf}
 use Rattle.sizes.specs.declared.TableSizes.{TableSizes}

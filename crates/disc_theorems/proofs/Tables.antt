@@ -21,8 +21,8 @@ use Rattle.rules.specs.Values.{Index, max32}
 use Rattle.rules.specs.File.{saved, savedLength}
 use Rattle.rules.proofs.Tests.{all→, →all, test}
 use Rattle.filelaws.proofs.Length.{savedLength-is}
-use Rattle.rules.specs.declared.Entry.{Entry}
-use Rattle.rules.specs.Disc.{entry, encodeEntry, decodeEntry, tableSize, countIn, entriesIn, laid, contentsOk, entryOf, bodyOf, slotOf, entriesFrom, contentsOf, discBytes, bodiesLength, discLength, listed}
+use Rattle.disc_rules.specs.declared.Entry.{Entry}
+use Rattle.disc_rules.specs.Disc.{entry, encodeEntry, decodeEntry, tableSize, countIn, entriesIn, laid, contentsOk, entryOf, bodyOf, slotOf, entriesFrom, contentsOf, discBytes, bodiesLength, discLength, listed}
 
 -- ---- entries in bytes
 abbrev pub EntryFits : Entry → Type 0

@@ -16,7 +16,7 @@ use Rattle.rules.specs.File.{saved, save}
 use Rattle.rules.specs.Load.{limited, fromBytes, load}
 use Rattle.filelaws.specs.Statements.{stripped}
 use Rattle.theorems.specs.Terms.{Valid, Ample}
-use Rattle.rules.specs.Disc.{Disc, slotOf, slotArea, entriesIn, entryOf, bodyOf, saveOne, saveBoth, loadDisc}
+use Rattle.disc_rules.specs.Disc.{Disc, slotOf, slotArea, entriesIn, entryOf, bodyOf, saveOne, saveBoth, loadDisc}
 
 -- "Pairs of lists with equal saved content have one disc file", whichever is given first: pairs that pass 1 to 4 are answered alike, number and bytes
 pub record OneDiscFile : Type 0 where

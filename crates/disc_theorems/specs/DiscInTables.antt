@@ -10,7 +10,7 @@ use Rattle.rules.specs.declared.AreaIndex.{AreaIndex}
 use Rattle.rules.specs.Values.{Index}
 use Rattle.rules.specs.Questions.{question3}
 use Rattle.rules.specs.File.{over}
-use Rattle.rules.specs.Disc.{slotArea}
+use Rattle.disc_rules.specs.Disc.{slotArea}
 use Rattle.index.specs.Index.{Tables, roomOf, indexIn}
 use Rattle.index.specs.Lent.{Typed, TableBytes}
 use Rattle.save.specs.declared.Saved.the-variants.{Length}

@@ -8,7 +8,7 @@ use lib.ListN.{length}
 use Rattle.rules.specs.declared.Area.{Area}
 use Rattle.rules.specs.declared.AreaIndex.{AreaIndex}
 use Rattle.rules.specs.Tests.{Refused, Accepted}
-use Rattle.rules.specs.Disc.{Disc, entriesIn, entryOf, bodyOf, loadDisc}
+use Rattle.disc_rules.specs.Disc.{Disc, entriesIn, entryOf, bodyOf, loadDisc}
 use Rattle.index.specs.Index.{Tables, roomOf}
 use Rattle.save.specs.declared.Saved.{Saved}
 use Rattle.save.specs.declared.Saved.the-variants as saved

@@ -2,4 +2,3 @@ pub mod Tests
 pub mod Walk
 pub mod Same
 pub mod Examples
-pub mod DiscExamples

@@ -3,7 +3,6 @@ use Prim.Native.Nat.{ℕ}
 use mathlib.Core.Bool.{cond}
 use mathlib.Core.List.{List, [], _∷_}
 use mathlib.Core.Option.{none}
-use lib.ListN.{replicate}
 use Rattle.rules.specs.declared.Confirmation.{Confirmation}
 use Rattle.rules.specs.declared.Fingerprint.{Fingerprint}
 use Rattle.rules.specs.declared.Fingerprint.the-variants.{Unknown, Checked}
@@ -11,7 +10,7 @@ use Rattle.rules.specs.declared.Fingerprint.the-variants as fingerprint
 use Rattle.rules.specs.declared.Hint.{Hint}
 use Rattle.rules.specs.Values.{Index}
 use Rattle.rules.specs.Create.{bindFingerprint}
-use Rattle.rules.specs.Hints.{thin, question13, addHints, keepConfirmation, hint}
+use Rattle.rules.specs.Hints.{thin, addHints, keepConfirmation, hint}
 use Rattle.rules.specs.Examples.{ample, area, hintAt, confirmedAt, indexOf, hintNumbers, keptNumbers, hintedNumbers, numbersOf, Example, example}
 
 -- ---- values
@@ -87,8 +86,7 @@ additions =
     -- 13: "at most 65,536, each number < LIM?", of those outside the area too
     ∷ example (added (hinting Unknown 2048 [] []) (hintAt 100 1166880 ∷ [])) (0 ∷ 100 ∷ 1166880 ∷ [])
     ∷ example (added (hinting Unknown 2048 [] []) (hintAt 100 1166881 ∷ [])) (13 ∷ [])
-    ∷ example (added (hinting Unknown 2048 [] []) (hintAt 1000 1166881 ∷ [])) (13 ∷ [])
-    ∷ example (cond (question13 (replicate 65536 (hintAt 100 1))) 0 13 ∷ cond (question13 (replicate 65537 (hintAt 100 1))) 0 13 ∷ []) (0 ∷ 13 ∷ []) ∷ []
+    ∷ example (added (hinting Unknown 2048 [] []) (hintAt 1000 1166881 ∷ [])) (13 ∷ []) ∷ []
 
 unfoldable pub confirmations : List Example
 confirmations =

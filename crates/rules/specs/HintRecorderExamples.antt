@@ -2,7 +2,6 @@
 use Prim.Native.Nat.{ℕ, _/_, _%_}
 use mathlib.Core.List.{List, [], _∷_, _++_}
 use mathlib.Core.Option.{Option, none, some}
-use lib.ListN.{length, replicate}
 use Rattle.rules.specs.declared.First.the-variants.{Number}
 use Rattle.rules.specs.declared.Hint.{Hint}
 use Rattle.rules.specs.Tests.{bind, numberOf}
@@ -24,10 +23,6 @@ after100 = seeing (some 100) none (hintAt 1000 100 ∷ [])
 abbrev pub tail174 : HintRecorder
 tail174 = seeing (some 100) (some (hintAt 1001 174)) (hintAt 1000 100 ∷ [])
 
--- with n hints listed, and the tail
-abbrev pub filledTo : ℕ → HintRecorder
-filledTo n = seeing (some 100) (some (hintAt 1001 174)) (replicate n (hintAt 1000 100))
-
 -- a sector whose first record has a number below 4,500
 abbrev pub sectorOf : ℕ → List ℕ
 sectorOf t = 4 ∷ 0 ∷ t / 75 ∷ t % 75 ∷ []
@@ -44,10 +39,6 @@ seenNumbers r = knownNumbers (r .last) ++ (tailNumbers (r .tail) ++ hintNumbers 
 -- the hint recorder after a taking, then the list
 unfoldable pub takenNumbers : Taken → List ℕ
 takenNumbers t = seenNumbers (t .recorder) ++ hintNumbers (t .list)
-
--- the length of the list, the number listed last and the tail
-unfoldable pub endNumbers : HintRecorder → List ℕ
-endNumbers r = length (r .list) ∷ (knownNumbers (r .last) ++ tailNumbers (r .tail))
 
 -- 1, the spacing and the rest of a hint recorder, 0 where there is none
 unfoldable pub spacingNumbers : Option HintRecorder → List ℕ
@@ -76,9 +67,6 @@ hintRecorders =
     -- "at least last + spacing (saturating)"
     ∷ example (seenNumbers (seenRecord (seeing (some 4294967290) none []) 1000 (Number 4294967295)))
     (1 ∷ 4294967295 ∷ 0 ∷ 1000 ∷ 4294967295 ∷ [])
-    -- "while the list has under 65,536; else it becomes the tail"
-    ∷ example (numbersOf endNumbers (see 65536 (filledTo 65535) 1002 (sectorOf 175))) (0 ∷ 65536 ∷ 1 ∷ 175 ∷ 0 ∷ [])
-    ∷ example (numbersOf endNumbers (see 65536 (filledTo 65536) 1002 (sectorOf 175))) (0 ∷ 65536 ∷ 1 ∷ 100 ∷ 1 ∷ 1002 ∷ 175 ∷ [])
     -- "A record whose LSN exceeds 4,294,967,295 is passed over"
     ∷ example (saw after100 4294967295 (sectorOf 175)) (0 ∷ 1 ∷ 175 ∷ 0 ∷ 1000 ∷ 100 ∷ 4294967295 ∷ 175 ∷ [])
     ∷ example (saw tail174 4294967296 (sectorOf 175)) (0 ∷ 1 ∷ 100 ∷ 1 ∷ 1001 ∷ 174 ∷ 1000 ∷ 100 ∷ [])
@@ -88,12 +76,10 @@ hintRecorders =
     -- "the tail, which flush lists under the same bound"; the number listed last stays, as in the source's flush
     ∷ example (numbersOf seenNumbers (flush 65536 tail174)) (0 ∷ 1 ∷ 100 ∷ 0 ∷ 1000 ∷ 100 ∷ 1001 ∷ 174 ∷ [])
     ∷ example (numbersOf seenNumbers (flush 65536 after100)) (0 ∷ 1 ∷ 100 ∷ 0 ∷ 1000 ∷ 100 ∷ [])
-    ∷ example (numbersOf endNumbers (flush 65536 (filledTo 65536))) (0 ∷ 65536 ∷ 1 ∷ 100 ∷ 0 ∷ [])
     -- "if none was ever listed, even before a taking": the number listed last outlasts the taking, and so does the tail
     ∷ example (numbersOf takenNumbers (takeList 65536 tail174)) (0 ∷ 1 ∷ 100 ∷ 1 ∷ 1001 ∷ 174 ∷ 1000 ∷ 100 ∷ [])
     ∷ example (numbersOf seenNumbers (bind (takeList 65536 after100) (λ t. see 65536 (t .recorder) 1001 (sectorOf 174))))
     (0 ∷ 1 ∷ 100 ∷ 1 ∷ 1001 ∷ 174 ∷ [])
-    -- 3: "a hint recorder's own list 65,536"; 4: "A hint recorder lists at most 65,536 hints"
+    -- 3: "a hint recorder's own list 65,536"
     ∷ example
-    (numberOf (see 65535 after100 1001 []) ∷ numberOf (flush 65535 after100) ∷ numberOf (takeList 65535 after100) ∷ []) (3 ∷ 3 ∷ 3 ∷ [])
-    ∷ example (numberOf (see 65537 (filledTo 65537) 1001 []) ∷ []) (4 ∷ []) ∷ []
+    (numberOf (see 65535 after100 1001 []) ∷ numberOf (flush 65535 after100) ∷ numberOf (takeList 65535 after100) ∷ []) (3 ∷ 3 ∷ 3 ∷ []) ∷ []

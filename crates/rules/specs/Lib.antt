@@ -19,5 +19,3 @@ pub mod RecorderExamples
 pub mod AbsorbExamples
 pub mod HintExamples
 pub mod MergeExamples
-pub mod Disc
-pub mod DiscExamples

@@ -43,21 +43,6 @@ after3 = recorderAt 0 (checkpoint 0 0 0 ∷ checkpoint 0 0 3 ∷ []) Running
 abbrev pub allPassed : Recorder
 allPassed = recorderAt 1 (checkpoint 0 0 0 ∷ checkpoint 75 0 3 ∷ []) Running
 
--- a budget of 100,000
-abbrev pub roomier : Recorder → Recorder
-roomier r =
-    record {
-      area = r .area;
-      interval = r .interval;
-      budget = 100000;
-      first = r .first;
-      from = r .from;
-      checkpoints = r .checkpoints;
-      frames = r .frames;
-      parts = r .parts;
-      mode = r .mode;
-    }
-
 -- a frame of n bytes under assembly
 abbrev pub frameOf : ℕ → ℕ → ℕ → Option Assembling
 frameOf start number n = some (record { start = start; number = number; kind = Dst; remaining = pos 0; bytes = replicate n 0 })
@@ -106,11 +91,9 @@ recorders =
     (5 ∷ 10 ∷ 1 ∷ 0xaf63dc4c8601ec8c ∷ [])
     -- "No frame under assembly: back 0"
     ∷ example (numbersOf partNumbers (recordAt ample recording 1100 0 0 none sector)) (0 ∷ 0 ∷ 0 ∷ 0 ∷ [])
-    -- "fits the budget": of 100 bytes, 100 are stored and 101 passed over; "at most 65,536 bytes"
+    -- "fits the budget": of 100 bytes, 100 are stored and 101 passed over
     ∷ example (numbersOf partNumbers (recordAt ample recording 1100 0 0 (frameOf 1067 5 100) sector)) (0 ∷ 33 ∷ 1 ∷ 100 ∷ [])
     ∷ example (numbersOf partNumbers (recordAt ample recording 1100 0 0 (frameOf 1067 5 101) sector)) (0 ∷ 33 ∷ 0 ∷ 0 ∷ [])
-    ∷ example (numbersOf partNumbers (recordAt ample (roomier recording) 1100 0 0 (frameOf 1067 5 65536) sector)) (0 ∷ 33 ∷ 1 ∷ 65536 ∷ [])
-    ∷ example (numbersOf partNumbers (recordAt ample (roomier recording) 1100 0 0 (frameOf 1067 5 65537) sector)) (0 ∷ 33 ∷ 0 ∷ 0 ∷ [])
     -- 5: "is it the due LSN", "inside the area", "not finished or stopped", "with a sector of 2,048 bytes?"
     ∷ example (recordedNumber recording 1100 0 0 ∷ recordedNumber recording 1200 0 0 ∷ recordedNumber allPassed 1300 75 3 ∷ []) (0 ∷ 5 ∷ 5 ∷ [])
     ∷ example (recordedNumber (withMode recording Stopped) 1100 0 0 ∷ recordedNumber (withMode allPassed (Finished (end 80 3))) 1300 75 3 ∷ []) (5 ∷ 5 ∷ [])

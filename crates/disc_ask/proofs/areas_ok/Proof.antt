@@ -1,4 +1,4 @@
-use Rattle.rules.specs.Disc.{slotArea}
+use Rattle.disc_rules.specs.Disc.{slotArea}
 use borrow.Author.Needs.{needs}
 use Rattle.disc_ask.proofs.areas_ok.Statement.{statement}
 use Rattle.disc_ask.proofs.areas_ok.Tie as tie

@@ -7,13 +7,13 @@ use lib.Dec.{eqb, leb, ltb}
 use lib.ListN.{length, take, drop}
 use Rattle.field.specs.Number.{encode, numberAt}
 use Rattle.field.specs.Records.{records, bytesOf}
-use Rattle.rules.specs.declared.Entry.{Entry}
+use Rattle.disc_rules.specs.declared.Entry.{Entry}
 use Rattle.rules.specs.declared.Area.{Area}
 use Rattle.rules.specs.Tests.{all, Answer, Accepted, after, bind, ask, firstNo}
 use Rattle.rules.specs.Values.{Index, Lengths, max32}
 use Rattle.rules.specs.Questions.{areaOk, Four, both, askFour, fourOf}
 use Rattle.rules.specs.File.{saved, savedLength}
 use Rattle.rules.specs.Load.{load}
 
 -- ---- the contents table: a count in four bytes, then the entries, each of three numbers of four bytes
 abbrev pub entry : ℕ → ℕ → ℕ → Entry

@@ -1,0 +1,1 @@
+// Examples with lists and frames of 65,536, evaluated.
