@@ -1,13 +1,13 @@
 // Saving one list, or both lists of a disc, as a disc file.
-use disc_table::one_fits;
-use disc_table::two_fit;
+use disc_questions::one_fits;
+use disc_questions::two_fit;
+use disc_rules::Entry;
 use disc_table::write_one;
 use disc_table::write_two;
 use index::lowest;
 use index::refuses;
 use layout::saved_length;
 use rules::AreaIndex;
-use disc_rules::Entry;
 use save::Saved;
 use save::to_bytes;
 ghost use mathlib.Core.Path.{_≡_};

@@ -1,24 +1,22 @@
 -- The contents table by its count. Assumes nothing.
 use mathlib.Core.Path.{_≡_, refl, sym, ap, _∙_}
-use mathlib.Core.Bool.{Bool, true, false, _&&_, cond, and-true}
+use mathlib.Core.Bool.{Bool, true, false, cond, and-true}
 use mathlib.Core.Logic.{_≢_}
 use mathlib.Core.List.{List, [], _∷_, _++_}
 use mathlib.Core.Option.{Option, none, some}
 use Prim.Native.Nat.{ℕ, _+_, _*_, _≤_, _<_}
 use native.Mathlib.Nat.{add-zero}
 use native.Mathlib.Omega.{arith}
-use borrow.Author.Tests.{leb-true, le-leb, lt-leb, eq-eqb, ne-eqb, ltb-true, ltb-false}
-use lib.Dec.{eqb, leb, ltb}
+use borrow.Author.Tests.{leb-true, le-leb, eq-eqb, ne-eqb}
 use lib.ListN.{length, take, drop}
 use lib.Seq.{drop-drop}
 use Rattle.field.specs.Number.{encode, numberAt, put}
 use Rattle.field.specs.Records.{records}
 use Rattle.field.proofs.Number.{number-part}
 use Rattle.rules.specs.Tests.{all}
-use Rattle.rules.specs.Values.{max32}
 use Rattle.rules.proofs.Tests.{test, never, all→}
 use Rattle.disc_rules.specs.declared.Entry.{Entry}
-use Rattle.disc_rules.specs.Disc.{entry, encodeEntry, decodeEntry, laid, contentsOk, countIn, entriesIn, entryOf, listed, tableSize}
+use Rattle.disc_rules.specs.Disc.{entry, encodeEntry, decodeEntry, laid, contentsOk, countIn, entriesIn, entryOf, tableSize}
 use Rattle.write.specs.Write.{Put}
 use Rattle.write.proofs.Sections.{put-both, put-one}
 use Rattle.disc_table.specs.declared.Contents.{Contents}
@@ -35,31 +33,6 @@ entry-here b at = rw (number-part 4 12 at 0 b refl, number-part 4 12 at 4 b refl
 pub entry-read : (b : List ℕ) (at : ℕ) {s o n : ℕ} → s ≡ numberAt 4 b at → o ≡ numberAt 4 b (at + 4) → n ≡ numberAt 4 b (at + 8)
     → entry s o n ≡ decodeEntry (take 12 (drop at b))
 entry-read b at p q r = rw (p, q, r) (entry-here b at)
-
--- ---- the rule of the entries
-begins : Entry → ℕ → ℕ → Bool
-begins e s at = leb s (e .slot) && (leb (e .slot) 1 && eqb (e .offset) at)
-
-bits : (a b c d : Bool) → ((a && (b && c)) && d) ≡ (a && (b && (c && (d && true))))
-bits true true true d = sym (and-true d)
-bits true true false d = refl
-bits true false c d = refl
-bits false b c d = refl
-
-pub one-laid : (e : Entry) (size : ℕ) {p r : Bool} → p ≡ (leb 0 (e .slot) && (leb (e .slot) 1 && eqb (e .offset) 16)) → r ≡ (p && eqb (16 + e .len) size)
-    → r ≡ laid size 0 16 (e ∷ [])
-unfolding laid all
-one-laid e size p r = r ∙ rw p (bits (leb 0 (e .slot)) (leb (e .slot) 1) (eqb (e .offset) 16) (eqb (16 + e .len) size))
-
-pub two-laid : (e f : Entry) (size : ℕ) {p q o r : Bool}
-    → q ≡ (leb (e .slot + 1) (f .slot) && (leb (f .slot) 1 && eqb (f .offset) (28 + e .len)))
-    → o ≡ (q && eqb (28 + e .len + f .len) size)
-    → p ≡ (leb 0 (e .slot) && (leb (e .slot) 1 && eqb (e .offset) 28))
-    → r ≡ (p && o) → r ≡ laid size 0 28 (e ∷ f ∷ [])
-unfolding laid all
-two-laid e f size q o p r =
-    r ∙ rw (p, o, q, bits (leb (e .slot + 1) (f .slot)) (leb (f .slot) 1) (eqb (f .offset) (28 + e .len)) (eqb (28 + e .len + f .len) size))
-    (bits (leb 0 (e .slot)) (leb (e .slot) 1) (eqb (e .offset) 28) _)
 
 -- ---- the entry of a slot
 module _ (e : Entry) {s : ℕ} where
@@ -84,29 +57,6 @@ module _ {ok : Bool} (es : List Entry) where
   pub contents-lists : {p q : Place} → ok ≡ true → p ≡ placeFrom (entryOf 0 es) → q ≡ placeFrom (entryOf 1 es) → Lists p q ≡ contentsFrom ok es
   unfolding contentsFrom
   contents-lists h p q = rw (h, p, q)
-
--- ---- 54 of lists to be saved
-from-zero : (s : ℕ) → leb 0 s ≡ true
-from-zero s = le-leb 0 s (omega arith)
-
-ltb-leb : (s t : ℕ) → ltb s t ≡ leb (s + 1) t
-ltb-leb s t =
-    test (ltb s t) (λ e. e ∙ sym (le-leb (s + 1) t (let l = ltb-true s t e in omega arith)))
-    (λ e. e ∙ sym (lt-leb (s + 1) t (let l = ltb-false s t e in omega arith)))
-
-pub one-listed : (s m : ℕ) → leb m max32 ≡ listed 0 (entry s 16 m ∷ [])
-unfolding listed all
-one-listed s m = rw (from-zero s) (sym (and-true (leb m max32)))
-
-module _ (s m t n : ℕ) where
-  pub two-refused : max32 < m → false ≡ listed 0 (entry s 28 m ∷ entry t (28 + m) n ∷ [])
-  unfolding listed all
-  two-refused h = rw (from-zero s, lt-leb m max32 h) refl
-
-  pub two-listed : {p r : Bool} → m ≤ max32 → p ≡ (leb (28 + m) max32 && leb n max32) → r ≡ (ltb s t && p)
-      → r ≡ listed 0 (entry s 28 m ∷ entry t (28 + m) n ∷ [])
-  unfolding listed all
-  two-listed h p r = r ∙ rw (p, from-zero s, le-leb m max32 h, and-true, ltb-leb s t, and-true (leb n max32)) refl
 
 -- ---- an entry written
 pub entry-put : {o1 o2 o3 : List ℕ} (e : Entry) (o : List ℕ) {at : ℕ} → o1 ≡ put 4 o at (e .slot) → o2 ≡ put 4 o1 (at + 4) (e .offset)

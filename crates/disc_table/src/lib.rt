@@ -1,17 +1,15 @@
-// The contents table of a disc file, read and written, and question 54.
-use field::and;
+// The contents table of a disc file, read and written.
+use disc_questions::one_ok;
+use disc_questions::two_ok;
+use disc_rules::Entry;
 use field::read_u32;
 use field::write_u32;
-use disc_rules::Entry;
-use rules::MAX_U32;
 ghost use mathlib.Core.Path.{_≡_};
-ghost use mathlib.Core.Bool.{_&&_};
 ghost use mathlib.Core.List.{[], _∷_, _++_};
 ghost use Prim.Native.Nat.{_+_, _≤_};
-ghost use lib.Dec.{eqb, leb};
 ghost use lib.ListN.{length, take, drop};
 ghost use Rattle.field.specs.Number.{encode};
-ghost use Rattle.disc_rules.specs.Disc.{entry, encodeEntry, decodeEntry, laid, entryOf, listed};
+ghost use Rattle.disc_rules.specs.Disc.{encodeEntry, decodeEntry, laid, entryOf};
 ghost use Rattle.write.specs.Write.{Put};
 ghost use Rattle.disc_table.specs.Contents.{placeFrom, contentsFrom, contentsIn};
 
@@ -38,33 +36,6 @@ fn read_entry(bytes: &[u8], at: usize) -> Entry
         offset: read_u32(bytes, at + 4),
         len: read_u32(bytes, at + 8),
     }
-}
-
-// Is the slot 0 or 1 and not below the given one, and does the body begin there?
-fn entry_ok(e: Entry, slot: u64, at: u64) -> bool
-    ensures { λ r. ⌜ r ≡ (leb slot (e .slot) && (leb (e .slot) 1 && eqb (e .offset) at)) ⌝ }
-{
-    let there = and(e.slot <= 1, e.offset as u64 == at);
-    and(slot <= e.slot as u64, there)
-}
-
-// One entry, in a file of so many bytes.
-fn one_ok(e: Entry, size: u64) -> bool
-    ensures { λ r. ⌜ r ≡ laid size 0 16 (e ∷ []) ⌝ }
-{
-    and(entry_ok(e, 0, 16), 16 + e.len as u64 == size)
-}
-
-// Two entries.
-fn two_ok(e: Entry, f: Entry, size: u64) -> bool
-    ensures { λ r. ⌜ r ≡ laid size 0 28 (e ∷ f ∷ []) ⌝ }
-{
-    let at = 28 + e.len as u64;
-    let second = and(
-        entry_ok(f, e.slot as u64 + 1, at),
-        at + f.len as u64 == size,
-    );
-    and(entry_ok(e, 0, 28), second)
 }
 
 // The entry of a slot among one, and among two.
@@ -126,24 +97,6 @@ pub fn read_contents(bytes: &[u8]) -> Contents
 }
 
 // ---- writing
-// 54 of one list whose file has m bytes.
-pub fn one_fits(slot: u8, m: u64) -> bool
-    ensures { λ r. ⌜ r ≡ listed 0 (entry slot 16 m ∷ []) ⌝ }
-{
-    m <= MAX_U32
-}
-
-// 54 of two lists whose files have m and n bytes, the first before the second.
-pub fn two_fit(slot: u8, m: u64, next: u8, n: u64) -> bool
-    ensures { λ r. ⌜ r ≡ listed 0 (entry slot 28 m ∷ entry next (28 + m) n ∷ []) ⌝ }
-{
-    if MAX_U32 < m {
-        return false;
-    }
-    let there = and(28 + m <= MAX_U32, n <= MAX_U32);
-    and(slot < next, there)
-}
-
 fn write_entry(out: &mut [u8], at: usize, e: Entry) -> usize
     requires { ⌜ at + 12 ≤ length (now out) ⌝ }
     ensures { λ r. ⌜ Put (encodeEntry e) 12 (now (out .entry)) at r (now (out .exit)) ⌝ }

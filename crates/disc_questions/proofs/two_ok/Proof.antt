@@ -1,7 +1,7 @@
-use Rattle.disc_table.proofs.Reading.{two-laid}
+use Rattle.disc_questions.proofs.Entries.{two-laid}
 use borrow.Author.Needs.{needs}
-use Rattle.disc_table.proofs.two_ok.Statement.{statement}
-use Rattle.disc_table.proofs.two_ok.Tie as tie
+use Rattle.disc_questions.proofs.two_ok.Statement.{statement}
+use Rattle.disc_questions.proofs.two_ok.Tie as tie
 
 returns : tie.Need-returns
 returns c =

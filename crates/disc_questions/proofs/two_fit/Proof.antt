@@ -1,7 +1,7 @@
-use Rattle.disc_table.proofs.Reading.{two-refused, two-listed}
+use Rattle.disc_questions.proofs.Entries.{two-refused, two-listed}
 use borrow.Author.Needs.{needs}
-use Rattle.disc_table.proofs.two_fit.Statement.{statement}
-use Rattle.disc_table.proofs.two_fit.Tie as tie
+use Rattle.disc_questions.proofs.two_fit.Statement.{statement}
+use Rattle.disc_questions.proofs.two_fit.Tie as tie
 
 returns : tie.Need-returns
 returns c = two-refused _ _ _ _ (c .if1 .taken)

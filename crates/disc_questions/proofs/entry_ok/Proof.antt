@@ -1,6 +1,6 @@
 use borrow.Author.Needs.{needs}
-use Rattle.disc_table.proofs.entry_ok.Statement.{statement}
-use Rattle.disc_table.proofs.entry_ok.Tie as tie
+use Rattle.disc_questions.proofs.entry_ok.Statement.{statement}
+use Rattle.disc_questions.proofs.entry_ok.Tie as tie
 
 returns : tie.Need-returns
 returns c = cc

@@ -1,7 +1,7 @@
-use Rattle.disc_table.proofs.Reading.{one-laid}
+use Rattle.disc_questions.proofs.Entries.{one-laid}
 use borrow.Author.Needs.{needs}
-use Rattle.disc_table.proofs.one_ok.Statement.{statement}
-use Rattle.disc_table.proofs.one_ok.Tie as tie
+use Rattle.disc_questions.proofs.one_ok.Statement.{statement}
+use Rattle.disc_questions.proofs.one_ok.Tie as tie
 
 returns : tie.Need-returns
 returns c =
