@@ -21,7 +21,7 @@ use Rattle.head.specs.Head.{wordsIn, blockOf, indexFrom, recorderFrom, hintReco
 use Rattle.save.specs.declared.Saved.{Saved}
 use Rattle.save.specs.declared.Saved.the-variants as saved
 use Rattle.save.specs.Save.{SaveOut}
-use Rattle.sizes.specs.declared.TableSizes.{TableSizes}
+use Rattle.table_sizes.specs.declared.TableSizes.{TableSizes}
 use Rattle.block.specs.declared.HeldWords.{HeldWords}
 
 -- ---- what a call answers in C: a number, and the block afterwards

@@ -23,7 +23,7 @@ use rules::Resume;
 use save::Saved;
 use sizes::FileArea;
 use sizes::Sized;
-use sizes::TableSizes;
+use table_sizes::TableSizes;
 ghost use mathlib.Core.Path.{_≡_};
 ghost use mathlib.Core.List.{_∷_, []};
 ghost use Prim.Native.Nat.{_≤_};

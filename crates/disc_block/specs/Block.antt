@@ -5,7 +5,7 @@ use mathlib.Core.Option.{Option, none, some}
 use Rattle.rules.specs.File.{over}
 use Rattle.head.specs.Head.{blockOf, indexWords}
 use Rattle.block.specs.Block.{Called, called, two}
-use Rattle.sizes.specs.declared.TableSizes.{TableSizes}
+use Rattle.table_sizes.specs.declared.TableSizes.{TableSizes}
 use Rattle.disc_table.specs.declared.Contents.{Contents}
 use Rattle.disc_table.specs.declared.Contents.the-variants.{Broken, Lists}
 use Rattle.disc_table.specs.declared.Place.{Place}

@@ -7,7 +7,7 @@ use disc_table::Contents;
 use disc_table::Place;
 use head::index_words;
 use head::write_words;
-use sizes::TableSizes;
+use table_sizes::TableSizes;
 ghost use mathlib.Core.Path.{_≡_};
 ghost use Prim.Native.Nat.{_≤_};
 ghost use lib.ListN.{length};

@@ -6,7 +6,7 @@ use mathlib.Core.Option.{Option, none, some}
 use Rattle.rules.specs.declared.Area.{Area}
 use Rattle.rules.specs.Tests.{ask, firstNo, Answer, Refused, Accepted, after, bind}
 use Rattle.disc_rules.specs.Disc.{entriesIn, entryOf, contentsOk, bodyOf, slotArea}
-use Rattle.sizes.specs.declared.TableSizes.{TableSizes}
+use Rattle.table_sizes.specs.declared.TableSizes.{TableSizes}
 use Rattle.sizes.specs.Sizes.{fileSizes}
 use Rattle.disc_sizes.specs.declared.SlotSizes.{SlotSizes}
 use Rattle.disc_sizes.specs.declared.SlotSizes.the-variants as slot

@@ -12,7 +12,7 @@ use Rattle.disc_rules.specs.Disc.{Disc, entriesIn, entryOf, bodyOf, loadDisc}
 use Rattle.index.specs.Index.{Tables, roomOf}
 use Rattle.save.specs.declared.Saved.{Saved}
 use Rattle.save.specs.declared.Saved.the-variants as saved
-use Rattle.sizes.specs.declared.TableSizes.{TableSizes}
+use Rattle.table_sizes.specs.declared.TableSizes.{TableSizes}
 use Rattle.sizes.specs.Sizes.{hasSizes}
 use Rattle.block.specs.Block.{savedNumber}
 use Rattle.disc_save.specs.Calls.{saveOneIn, saveBothIn}

@@ -21,11 +21,11 @@ use Rattle.index.specs.Index.{Tables, indexIn, refusal, numbersFrom}
 use Rattle.inspect.specs.declared.Found.{Found}
 use Rattle.inspect.specs.declared.Inspected.the-variants as inspected
 use Rattle.inspect.specs.Inspect.{foundIn, inspectionOf, inspection}
+use Rattle.table_sizes.specs.declared.TableSizes.{TableSizes}
+use Rattle.table_sizes.specs.Sizes.{limitedSizes, rangeOf}
 use Rattle.sizes.specs.declared.FileArea.the-variants as found
 use Rattle.sizes.specs.declared.Sized.the-variants as sized
-use Rattle.sizes.specs.declared.TableSizes.{TableSizes}
-use Rattle.sizes.specs.Sizes.{sizedOf, fileSizes, fileLength, rangeOf, fileArea, fileAreaOf}
-use Rattle.sizes.specs.Needs.{limitedSizes}
+use Rattle.sizes.specs.Sizes.{sizedOf, fileSizes, fileLength, fileArea, fileAreaOf}
 
 -- ---- what inspecting says of the file
 passed-is : (b : List ℕ) (found : Found) (r : Answer Index) → inspected.Passed found ≡ inspectionOf b r

@@ -1,2 +1,1 @@
-pub mod Boundaries
 pub mod Files

@@ -1,5 +1,5 @@
 -- How many bytes the tables of a list and its file take, and the area that a file is of.
-use Prim.Native.Nat.{ℕ, _+_, _*_, min, max}
+use Prim.Native.Nat.{ℕ, min}
 use mathlib.Core.Bool.{Bool, _&&_, cond}
 use mathlib.Core.List.{List, [], _∷_}
 use lib.Dec.{eqb, leb}
@@ -7,33 +7,20 @@ use lib.ListN.{length}
 use Rattle.field.specs.Number.{decode}
 use Rattle.rules.specs.declared.Area.{Area}
 use Rattle.rules.specs.declared.AreaIndex.{AreaIndex}
-use Rattle.rules.specs.declared.AreaKey.{AreaKey}
 use Rattle.rules.specs.Tests.{all, ask, firstNo, Answer, Refused, Accepted, after, bind}
-use Rattle.rules.specs.Values.{Index, boundaries, maxMalformed, maxHints, mergeRoom}
+use Rattle.rules.specs.Values.{Index, maxHints}
 use Rattle.rules.specs.Questions.{areaOk, numbersOk}
 use Rattle.rules.specs.File.{readHeader, magicBytes, savedLength}
 use Rattle.rules.specs.Load.{keyOf, bodyIn, fromBytes, limited}
 use Rattle.index.specs.Index.{Tables, indexIn, refusal}
-use Rattle.sizes.specs.declared.TableSizes.{TableSizes}
+use Rattle.table_sizes.specs.declared.TableSizes.{TableSizes}
+use Rattle.table_sizes.specs.Sizes.{sizesOf, rangeOf}
 use Rattle.sizes.specs.declared.Sized.{Sized}
 use Rattle.sizes.specs.declared.Sized.the-variants as sized
 use Rattle.sizes.specs.declared.FileArea.{FileArea}
 use Rattle.sizes.specs.declared.FileArea.the-variants as found
 
 -- ---- sizes
--- for area, interval, budget and M
-unfoldable pub sizesOf : Area → ℕ → ℕ → ℕ → TableSizes
-sizesOf a k budget most =
-    record {
-      checkpoints = boundaries a k * 24;
-      frames = boundaries a k * 8;
-      store = budget;
-      parts = boundaries a k * 24;
-      malformed = maxMalformed * 4;
-      hints = (most + mergeRoom) * 8;
-      confirmed = (most + 1) * 16;
-    }
-
 abbrev pub sizesFor : Index → TableSizes
 sizesFor x = sizesOf (x .scan .area) (x .scan .interval) (x .scan .budget) (x .hinting .most)
 
@@ -63,10 +50,6 @@ unfoldable pub fileLength : AreaIndex → Tables → ℕ
 fileLength x t = cond (eqb (refusal x t) 0) (savedLength (indexIn x t)) (refusal x t)
 
 -- ---- the area of a file
--- the range that the source's audio_sector_range gives for a key
-unfoldable pub rangeOf : AreaKey → Area
-rangeOf k = record { key = k; start = k .start; end = max (k .start) (min (k .end + 1) (k .sectors)) }
-
 -- 20 and 21
 unfoldable pub fileArea : List ℕ → Answer Area
 fileArea b =

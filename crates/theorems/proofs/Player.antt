@@ -22,7 +22,8 @@ use Rattle.hinting.specs.declared.Created.the-variants as created
 use Rattle.hinting.specs.Recorder.{createdOf, hintRecorderIn}
 use Rattle.save.specs.declared.Saved.the-variants as told
 use Rattle.save.specs.Save.{saveOut, saveIn}
-use Rattle.sizes.specs.Sizes.{sizesOf, fileLength}
+use Rattle.table_sizes.specs.Sizes.{sizesOf}
+use Rattle.sizes.specs.Sizes.{fileLength}
 use Rattle.block.specs.Block.{savedNumber}
 use Rattle.theorems.specs.Player.{Told, SaveNumber, LengthIsSaved, hasFour, RecorderRoomIsSizes, HintListIsSize, MadeHasSpacing}
 use Rattle.theorems.proofs.Sizes.{fits24, fits8}

@@ -20,8 +20,9 @@ use Rattle.hinting.specs.Recorder.{hintRecorderIn}
 use Rattle.save.specs.declared.Saved.{Saved}
 use Rattle.save.specs.declared.Saved.the-variants as saved
 use Rattle.save.specs.Save.{saveIn}
-use Rattle.sizes.specs.declared.TableSizes.{TableSizes}
-use Rattle.sizes.specs.Sizes.{sizesOf, sizesFor, hasSizes, fileSizes, fileLength}
+use Rattle.table_sizes.specs.declared.TableSizes.{TableSizes}
+use Rattle.table_sizes.specs.Sizes.{sizesOf}
+use Rattle.sizes.specs.Sizes.{sizesFor, hasSizes, fileSizes, fileLength}
 use Rattle.block.specs.Block.{savedNumber}
 
 -- ---- saving

@@ -1,7 +1,7 @@
-use Rattle.sizes.specs.Sizes.{rangeOf}
+use Rattle.table_sizes.specs.Sizes.{rangeOf}
 use borrow.Author.Needs.{needs}
-use Rattle.sizes.proofs.area_of.Statement.{statement}
-use Rattle.sizes.proofs.area_of.Tie as tie
+use Rattle.table_sizes.proofs.area_of.Statement.{statement}
+use Rattle.table_sizes.proofs.area_of.Tie as tie
 
 returns : tie.Need-returns
 unfolding rangeOf

@@ -1,9 +1,9 @@
 use native.Mathlib.Omega.{arith}
-use Rattle.sizes.specs.Sizes.{sizesOf}
-use Rattle.sizes.proofs.Boundaries.{boundaries-small}
+use Rattle.table_sizes.specs.Sizes.{sizesOf}
+use Rattle.table_sizes.proofs.Boundaries.{boundaries-small}
 use borrow.Author.Needs.{needs}
-use Rattle.sizes.proofs.table_sizes.Statement.{statement}
-use Rattle.sizes.proofs.table_sizes.Tie as tie
+use Rattle.table_sizes.proofs.table_sizes.Statement.{statement}
+use Rattle.table_sizes.proofs.table_sizes.Tie as tie
 
 mul-t6 : tie.Need-mul-t6
 mul-t6 c = let s = boundaries-small _ (c .before .args .interval) (c .before .pre) in omega (arith, c .area-boundaries .ensures, s)

@@ -1,7 +1,7 @@
-use Rattle.sizes.specs.Needs.{limitedSizes}
+use Rattle.table_sizes.specs.Sizes.{limitedSizes}
 use borrow.Author.Needs.{needs}
-use Rattle.sizes.proofs.limited_sizes.Statement.{statement}
-use Rattle.sizes.proofs.limited_sizes.Tie as tie
+use Rattle.table_sizes.proofs.limited_sizes.Statement.{statement}
+use Rattle.table_sizes.proofs.limited_sizes.Tie as tie
 
 returns : tie.Need-returns
 unfolding limitedSizes
