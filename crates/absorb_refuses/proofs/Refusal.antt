@@ -20,7 +20,8 @@ use Rattle.absorblaws.specs.Twelve.{listOk, joinedOk}
 use Rattle.absorblaws.proofs.Twelve.{twelve-is}
 use Rattle.sections.specs.Numbers.{idIn}
 use Rattle.index.specs.Index.{Tables, roomOf, indexIn, kindsIn, kindedNumber, refusal}
-use Rattle.index.specs.Needs.{heldQuestion4, lowest}
+use Rattle.index.specs.Needs.{heldQuestion4}
+use Rattle.index_questions.specs.Lowest.{lowest}
 use Rattle.index.proofs.Four.{Later, number-more, lowest-both}
 use Rattle.index.proofs.Questions.{passes, passes-long}
 use Rattle.join.proofs.Refusal.{lowest-zero}

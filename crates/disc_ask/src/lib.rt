@@ -1,14 +1,14 @@
 // The questions of a disc file and of the list files in it, asked before anything is written.
+use disc_rules::Entry;
 use disc_table::Contents;
 use disc_table::Place;
 use disc_table::read_contents;
 use field::and;
-use index::question1;
+use index_questions::question1;
 use inspect::Found;
 use load::Decided as Said;
 use rules::Area;
 use rules::AreaIndex;
-use disc_rules::Entry;
 ghost use mathlib.Core.Path.{_≡_};
 ghost use mathlib.Core.Bool.{_&&_};
 ghost use Rattle.disc_rules.specs.Disc.{slotArea};

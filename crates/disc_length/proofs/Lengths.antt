@@ -11,7 +11,7 @@ use Rattle.rules.specs.File.{savedLength}
 use Rattle.rules.proofs.Tests.{test, all→}
 use Rattle.disc_rules.specs.Disc.{entry, slotOf, listed, bySlot}
 use Rattle.index.specs.Index.{Tables, indexIn, refusal}
-use Rattle.index.specs.Needs.{lowest}
+use Rattle.index_questions.specs.Lowest.{lowest}
 use Rattle.join.proofs.Refusal.{lowest-zero}
 use Rattle.disc_save.proofs.Answers.{one-length, two-length, one-contents, two-contents, one-small}
 use Rattle.disc_length.specs.Length.{lengthOf, lengthAfter, oneLength, bothLength}

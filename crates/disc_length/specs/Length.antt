@@ -7,7 +7,7 @@ use Rattle.rules.specs.declared.AreaIndex.{AreaIndex}
 use Rattle.rules.specs.Values.{Index}
 use Rattle.disc_rules.specs.Disc.{contentsOf, listed, discLength, bySlot}
 use Rattle.index.specs.Index.{Tables, indexIn, refusal}
-use Rattle.index.specs.Needs.{lowest}
+use Rattle.index_questions.specs.Lowest.{lowest}
 
 -- of lists in the order of their slots that pass 1 to 4
 unfoldable pub lengthOf : List Index → ℕ

@@ -16,7 +16,7 @@ use Rattle.rules.specs.File.{savedLength, over}
 use Rattle.rules.proofs.Tests.{test, all→}
 use Rattle.disc_rules.specs.Disc.{entry, slotOf, contentsOf, entriesFrom, listed, bodiesLength, discLength, discBytes, saveLists, saveOne, bySlot, saveBoth}
 use Rattle.index.specs.Index.{Tables, roomOf, indexIn, kindsIn, kindedNumber, kinded, refusal}
-use Rattle.index.specs.Needs.{lowest}
+use Rattle.index_questions.specs.Lowest.{lowest}
 use Rattle.index.proofs.Four.{Later, kinded-more, kinded-index, lowest-both}
 use Rattle.join.proofs.Refusal.{lowest-zero}
 use Rattle.save.specs.declared.Saved.the-variants as answer

@@ -13,7 +13,7 @@ use Rattle.disc_rules.specs.Disc.{slotOf, contentsOf, listed, bodiesLength, dis
 use Rattle.rules.proofs.Tests.{test}
 use Rattle.filelaws.proofs.Length.{savedLength-is}
 use Rattle.index.specs.Index.{Tables, indexIn, orFour, kinded, refusal}
-use Rattle.index.specs.Needs.{lowest}
+use Rattle.index_questions.specs.Lowest.{lowest}
 use Rattle.save.specs.declared.Saved.{Saved}
 use Rattle.save.specs.declared.Saved.the-variants as told
 use Rattle.save.specs.Save.{SaveOut, made, saveOut}

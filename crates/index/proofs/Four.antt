@@ -2,7 +2,7 @@
 use mathlib.Core.Path.{_≡_, refl, sym, _∙_}
 use mathlib.Core.Bool.{Bool, true, false, _&&_, cond}
 use mathlib.Core.List.{List, [], _∷_}
-use Prim.Native.Nat.{ℕ, _<_, min}
+use Prim.Native.Nat.{ℕ, _<_}
 use native.Mathlib.Omega.{arith}
 use borrow.Author.Tests.{eqb-true, ltb-true, lt-leb, ne-eqb}
 use lib.Dec.{eqb, leb, ltb}
@@ -11,7 +11,7 @@ use Rattle.rules.specs.Tests.{each, Ask, ask, firstNo, Refused, Accepted, after
 use Rattle.rules.specs.Questions.{Four, both, askFour, four}
 use Rattle.rules.proofs.Tests.{test, never, choose, and-left, and-right}
 use Rattle.index.specs.Index.{Tables, roomOf, indexIn, kindsIn, orFour, kindedNumber, kinded, refusal}
-use Rattle.index.specs.Needs.{lowest}
+use Rattle.index_questions.specs.Lowest.{lowest}
 
 -- ---- what the number 4 covers
 -- the questions that follow have higher numbers than 3
@@ -150,18 +150,3 @@ lowest-both ok ok' p q =
       one-bits ok (p .one) (p .two) (p .three) (p .four),
       one-bits ok' (q .one) (q .two) (q .three) (q .four),
     ) (both-bits (p .one) (p .two) (p .three) (p .four && ok) (q .one) (q .two) (q .three) (q .four && ok'))
-
--- the lower of two numbers, by cases
-module _ (m n : ℕ) where
-  pub lowest-right : m ≡ 0 → n ≡ lowest m n
-  unfolding lowest
-  lowest-right e = rw e
-
-  module _ (h : m ≡ 0 → ⊥) where
-    pub lowest-left : n ≡ 0 → m ≡ lowest m n
-    unfolding lowest
-    lowest-left e = rw (ne-eqb m 0 h, e)
-
-    pub lowest-of : (n ≡ 0 → ⊥) → {r : ℕ} → r ≡ min m n → r ≡ lowest m n
-    unfolding lowest
-    lowest-of g e = e ∙ sym (rw (ne-eqb m 0 h, ne-eqb n 0 g))

@@ -1,7 +1,6 @@
 pub mod Numbers
 pub mod Four
 pub mod Questions
-pub mod Each
 pub mod Back
 pub mod Store
 pub mod Standing

@@ -21,7 +21,8 @@ use Rattle.table.specs.Tables.{decodeHeader, headersIn, framesIn, hintsIn, conf
 use Rattle.table.proofs.Frames.{frames-length}
 use Rattle.index.specs.Index.{Tables, tables, roomOf, indexIn, kindsOk, kindsIn, kindedNumber, refusal, three, roomIn, frontierIn}
 use Rattle.sections.specs.Numbers.{endIn}
-use Rattle.index.specs.Needs.{Roomy, Long, Passes, heldQuestion4, scanSpace, hintRoom, sectionsIn, scanIn, hintingIn, sectionsOk, hintCounts}
+use Rattle.index.specs.Needs.{Roomy, Long, Passes, heldQuestion4, scanSpace, sectionsIn, scanIn, hintingIn, sectionsOk, hintCounts}
+use Rattle.index_questions.specs.Room.{hintRoom}
 use Rattle.index.proofs.Four.{one-bits}
 use Rattle.index.proofs.Numbers.{within24, within8, within4, within16, test, first, second}
 

@@ -1,48 +1,23 @@
 -- How the numbers of an index and its seven lent tables stand for its value.
-use Prim.Native.Nat.{ℕ, _-_, _*_, _/_}
+use Prim.Native.Nat.{ℕ, _-_, _*_}
 use mathlib.Core.Bool.{Bool, _&&_, cond}
 use mathlib.Core.List.{List, [], _∷_, _++_}
 use mathlib.Core.Option.{none}
 use lib.Dec.{leb, ltb}
 use lib.ListN.{length, drop, replicate}
-use Rattle.field.specs.Number.{numberAt}
-use Rattle.field.specs.Records.{records, bytesOf}
+use Rattle.field.specs.Records.{bytesOf}
 use Rattle.rules.specs.declared.AreaIndex.{AreaIndex}
-use Rattle.rules.specs.Tests.{each, Answer, Refused, Accepted, numberOf, ask, firstNo}
-use Rattle.rules.specs.Values.{Frame, Index, Lengths, frontierOf}
+use Rattle.rules.specs.Tests.{Answer, Refused, Accepted, numberOf, ask, firstNo}
+use Rattle.rules.specs.Values.{Frame, Index, frontierOf}
 use Rattle.rules.specs.Questions.{areaOk, question1, question2, question3, four}
 use Rattle.rules.specs.File.{encodeCheckpoint, encodeFrameHeader, encodeHeld, encodeLsn, encodeHint, encodeConfirmation, over}
 use Rattle.index.specs.declared.Made.{Made}
 use Rattle.index.specs.declared.Made.the-variants as made
 unfoldable pub use Rattle.sections.specs.Numbers.{endIn, idIn, endFrom, idFrom}
 pub use Rattle.sections.specs.Numbers.{numbersFrom}
+pub use Rattle.index_questions.specs.Room.{Tables, tables, roomOf}
+unfoldable pub use Rattle.kinds.specs.Kinds.{kindsOk}
 use Rattle.table.specs.Tables.{checkpointsIn, framesIn, partsIn, lsnsIn, hintsIn, confirmationsIn}
-
--- the bytes of the seven tables
-pub record Tables : Type 0 where
-  pub checkpoints : List ℕ
-  pub frames : List ℕ
-  pub store : List ℕ
-  pub parts : List ℕ
-  pub malformed : List ℕ
-  pub hints : List ℕ
-  pub confirmed : List ℕ
-
-abbrev pub tables : List ℕ → List ℕ → List ℕ → List ℕ → List ℕ → List ℕ → List ℕ → Tables
-tables a b c d e f g = record { checkpoints = a; frames = b; store = c; parts = d; malformed = e; hints = f; confirmed = g }
-
--- how many records each has space for
-abbrev pub roomOf : Tables → Lengths
-roomOf t =
-    record {
-      checkpoints = length (t .checkpoints) / 24;
-      frames = length (t .frames) / 8;
-      store = length (t .store);
-      parts = length (t .parts) / 24;
-      malformed = length (t .malformed) / 4;
-      hints = length (t .hints) / 8;
-      confirmed = length (t .confirmed) / 16;
-    }
 
 -- ---- the value that numbers and tables stand for
 abbrev pub indexIn : AreaIndex → Tables → Index
@@ -71,10 +46,6 @@ indexIn x t =
     }
 
 -- ---- kind bytes, which a value cannot hold
--- is the kind of each of the first h parts 0 or 1, as loading asks?
-unfoldable pub kindsOk : ℕ → List ℕ → Bool
-kindsOk h t = each (λ b. leb (numberAt 4 b 20) 1) (records 24 (λ b. b) h t)
-
 abbrev pub kindsIn : AreaIndex → Tables → Bool
 kindsIn x t = kindsOk (x .parts) (t .parts)
 

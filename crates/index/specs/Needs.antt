@@ -1,25 +1,21 @@
 -- What functions need of each other, and names that only proofs use.
 use mathlib.Core.Path.{_≡_}
-use Prim.Native.Nat.{ℕ, _*_, _≤_, min}
-use mathlib.Core.Bool.{Bool, true, _&&_, cond}
+use Prim.Native.Nat.{ℕ, _*_, _≤_}
+use mathlib.Core.Bool.{Bool, true, _&&_}
 use mathlib.Core.List.{List, [], _∷_}
 use mathlib.Core.Option.{none, some}
-use lib.Dec.{eqb, leb}
+use lib.Dec.{leb}
 use lib.ListN.{length}
 use Rattle.rules.specs.declared.AreaIndex.{AreaIndex}
 use Rattle.rules.specs.Tests.{all}
 use Rattle.rules.specs.Values.{Scan, frontier, counted, maxHints}
 use Rattle.rules.specs.Sections.{checkpointsOk, endingOk, malformedOk}
-use Rattle.rules.specs.Questions.{areaOk, numbersOk, question4, heldOk, scanOk, hintingOk, scanRoom, hintingRoom}
+use Rattle.rules.specs.Questions.{areaOk, numbersOk, question4, heldOk, scanOk, hintingOk, scanRoom}
 use Rattle.index.specs.Index.{Tables, tables, roomOf, indexIn, kindsIn, roomIn}
 
 -- ---- 4 with the kind bytes
 unfoldable pub heldQuestion4 : AreaIndex → Tables → Bool
 heldQuestion4 x t = question4 (indexIn x t) && kindsIn x t
-
--- the lower of two numbers, where 0 is none
-unfoldable pub lowest : ℕ → ℕ → ℕ
-lowest m n = cond (eqb m 0) n (cond (eqb n 0) m (min m n))
 
 -- ---- what functions need of each other
 -- 1 to 3 hold of an index in its tables
@@ -41,9 +37,6 @@ pub record Long (x : AreaIndex) (cs fs ps ms : List ℕ) : Type 0 where
   pub malformed : x .malformed * 4 ≤ length ms
 
 -- 3 of some of the tables
-unfoldable pub hintRoom : ℕ → List ℕ → List ℕ → Bool
-hintRoom most s c = hintingRoom (roomOf (tables [] [] [] [] [] s c)) most
-
 unfoldable pub scanSpace : ℕ → ℕ → List ℕ → List ℕ → List ℕ → List ℕ → Bool
 scanSpace b budget cs fs store ps = scanRoom (roomOf (tables cs fs store ps [] [] [])) b budget
 

@@ -4,15 +4,15 @@ use checks::check_confirmations;
 use checks::check_hints;
 use field::and;
 use field::or;
-use field::read_u32;
-use rules::Area;
+use index_questions::fits;
+use index_questions::hinting_room;
+use index_questions::question1;
+use index_questions::question2;
+use kinds::check_kinds;
 use rules::AreaIndex;
 use rules::Fingerprint;
 use rules::MAX_HINTS;
-use rules::MAX_INTERVAL;
 use rules::MAX_MALFORMED_WARNINGS;
-use rules::MAX_U32;
-use rules::MERGE_ROOM;
 use sections::area_boundaries;
 use sections::counts_ok;
 use sections::ends_ok;
@@ -22,15 +22,14 @@ use sections::is_complete_end;
 ghost use mathlib.Core.Path.{_≡_};
 ghost use mathlib.Core.Bool.{true};
 ghost use mathlib.Core.List.{List};
-ghost use Prim.Native.Nat.{ℕ, _*_, _/_, _≤_, _<_};
-ghost use lib.Dec.{leb};
-ghost use lib.ListN.{length};
+ghost use Prim.Native.Nat.{ℕ};
 ghost use Rattle.rules.specs.Tests.{isSome};
 ghost use Rattle.rules.specs.Values.{stated, isChecked};
-ghost use Rattle.rules.specs.Questions.{areaOk, numbersOk};
-ghost use Rattle.index.specs.Index.{tables, kindsOk, roomIn, three, refusal, frontierIn};
+ghost use Rattle.rules.specs.Questions.{areaOk};
+ghost use Rattle.index.specs.Index.{tables, roomIn, three, refusal, frontierIn};
 ghost use Rattle.sections.specs.Numbers.{endIn};
-ghost use Rattle.index.specs.Needs.{Long, Roomy, heldQuestion4, lowest, scanSpace, hintRoom, sectionsIn, scanIn, hintingIn, hintCounts};
+ghost use Rattle.index_questions.specs.Room.{hintRoom};
+ghost use Rattle.index.specs.Needs.{Long, Roomy, heldQuestion4, scanSpace, sectionsIn, scanIn, hintingIn, hintCounts};
 
 // What a call answers that gives an index: a refusal number, or the numbers of the list that the tables then hold.
 pub enum Made {
@@ -38,33 +37,7 @@ pub enum Made {
     Index(AreaIndex),
 }
 
-// ---- 1 and 2
-pub fn question1(area: Area) -> bool
-    ensures { λ r. ⌜ r ≡ areaOk area ⌝ }
-{
-    let key = area.key;
-    let range = and(area.start <= area.end, area.end <= MAX_U32);
-    and(key.slot <= 1, range)
-}
-
-pub fn question2(interval: u32, budget: u64) -> bool
-    ensures { λ r. ⌜ r ≡ numbersOk interval budget ⌝ }
-{
-    and(
-        1 <= interval,
-        and(interval <= MAX_INTERVAL, budget <= MAX_U32),
-    )
-}
-
 // ---- 3
-// Has t space for count records of width bytes?
-fn fits(count: u64, t: &[u8], width: usize) -> bool
-    requires { ⌜ 0 < width ⌝ }
-    ensures { λ r. ⌜ r ≡ leb count (length (now (t .entry)) / width) ⌝ }
-{
-    count <= (t.len() / width) as u64
-}
-
 // The tables that a recorder has too; count is the number of boundaries.
 pub fn scan_room(
     count: u64,
@@ -80,15 +53,6 @@ pub fn scan_room(
     and(
         fits(count, checkpoints, 24),
         and(fits(count, frames, 8), rest),
-    )
-}
-
-pub fn hinting_room(most: u32, hints: &[u8], confirmed: &[u8]) -> bool
-    ensures { λ r. ⌜ r ≡ hintRoom most (now (hints .entry)) (now (confirmed .entry)) ⌝ }
-{
-    and(
-        fits(most as u64 + MERGE_ROOM, hints, 8),
-        fits(most as u64 + 1, confirmed, 16),
     )
 }
 
@@ -139,20 +103,6 @@ pub fn is_checked(f: Fingerprint) -> bool
         Fingerprint::Held(_) => false,
         Fingerprint::Checked(_) => true,
     }
-}
-
-pub fn check_kinds(parts: &[u8], h: usize) -> bool
-    requires { ⌜ h * 24 ≤ length (now parts) ⌝ }
-    ensures { λ r. ⌜ r ≡ kindsOk h (now (parts .entry)) ⌝ }
-{
-    let mut j = 0;
-    while j < h {
-        if 1 < read_u32(parts, j * 24 + 20) {
-            return false;
-        }
-        j += 1;
-    }
-    true
 }
 
 // Checkpoints, frames, parts, end state and malformed LSNs, their counts apart.
@@ -350,19 +300,6 @@ pub fn refuses(
         return 4;
     }
     0
-}
-
-// The lower of two refusal numbers, where 0 is none.
-pub fn lowest(m: u32, n: u32) -> u32
-    ensures { λ r. ⌜ r ≡ lowest m n ⌝ }
-{
-    if m == 0 {
-        return n;
-    }
-    if n == 0 {
-        return m;
-    }
-    if m <= n { m } else { n }
 }
 
 // ---- readers

@@ -16,7 +16,8 @@ use Rattle.rules.specs.File.{decodeCheckpoint}
 use Rattle.rules.specs.Merge.{question41, question42, question43, further, mergeNumber, merged, merge}
 use Rattle.rules.proofs.Tests.{test, asked}
 use Rattle.index.specs.Index.{Tables, roomOf, indexIn, kindsIn, kindedNumber, kinded, refusal}
-use Rattle.index.specs.Needs.{Passes, lowest}
+use Rattle.index.specs.Needs.{Passes}
+use Rattle.index_questions.specs.Lowest.{lowest}
 use Rattle.index.proofs.Four.{Later, number-more, kinded-more, lowest-both}
 use Rattle.index.proofs.Questions.{passes, passes-long}
 use Rattle.join.specs.Join.{mergeRefusal}

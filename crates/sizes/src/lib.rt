@@ -1,9 +1,9 @@
 // How long the tables of a list have to be, how long its file is, and the area that a file is of.
 use field::min_u64;
 use header::read_header;
-use index::question1;
-use index::question2;
 use index::refuses;
+use index_questions::question1;
+use index_questions::question2;
 use inspect::Inspected;
 use inspect::inspect;
 use layout::saved_length;

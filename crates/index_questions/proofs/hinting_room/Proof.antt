@@ -1,10 +1,10 @@
-use Rattle.index.specs.Needs.{hintRoom}
+use Rattle.index_questions.specs.Room.{hintRoom}
 use Rattle.rules.specs.Questions.{hintingRoom}
 use Rattle.rules.specs.Tests.{all}
 use mathlib.Core.Bool.{and-true}
 use borrow.Author.Needs.{needs}
-use Rattle.index.proofs.hinting_room.Statement.{statement}
-use Rattle.index.proofs.hinting_room.Tie as tie
+use Rattle.index_questions.proofs.hinting_room.Statement.{statement}
+use Rattle.index_questions.proofs.hinting_room.Tie as tie
 
 returns : tie.Need-returns
 unfolding hintRoom hintingRoom all

@@ -1,8 +1,8 @@
 use native.Mathlib.Omega.{arith}
-use Rattle.index.proofs.Four.{lowest-right, lowest-left, lowest-of}
+use Rattle.index_questions.proofs.Lower.{lowest-right, lowest-left, lowest-of}
 use borrow.Author.Needs.{needs}
-use Rattle.index.proofs.lowest.Statement.{statement}
-use Rattle.index.proofs.lowest.Tie as tie
+use Rattle.index_questions.proofs.lowest.Statement.{statement}
+use Rattle.index_questions.proofs.lowest.Tie as tie
 
 returns : tie.Need-returns
 returns c = lowest-right _ _ (c .if1 .taken)

@@ -1,12 +1,12 @@
-use Rattle.index.proofs.Each.{still, same, kindOk, itself, kinds-are, kind-no, kind-yes}
-use Rattle.index.specs.Index.{kindsOk}
+use Rattle.kinds.proofs.Each.{still, same, kindOk, itself, kinds-are, kind-no, kind-yes}
+use Rattle.kinds.specs.Kinds.{kindsOk}
 use Rattle.table.proofs.Walk.{Walk, walk-start, walk-on, walk-stop, walk-end}
 use native.Mathlib.Omega.{arith}
 use Prim.Native.Nat.{_-_}
 use mathlib.Core.Path.{refl}
 use borrow.Author.Needs.{needs}
-use Rattle.index.proofs.check_kinds.Statement.{statement}
-use Rattle.index.proofs.check_kinds.Tie as tie
+use Rattle.kinds.proofs.check_kinds.Statement.{statement}
+use Rattle.kinds.proofs.check_kinds.Tie as tie
 
 abbrev Inv-loop : tie.InvT-loop
 Inv-loop parts h j₀ j = Walk 24 itself (still kindOk) same h parts (kindsOk h parts) j 0

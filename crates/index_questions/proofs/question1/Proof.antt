@@ -2,8 +2,8 @@ use Rattle.rules.specs.Questions.{areaOk}
 use Rattle.rules.specs.Tests.{all}
 use mathlib.Core.Bool.{and-true}
 use borrow.Author.Needs.{needs}
-use Rattle.index.proofs.question1.Statement.{statement}
-use Rattle.index.proofs.question1.Tie as tie
+use Rattle.index_questions.proofs.question1.Statement.{statement}
+use Rattle.index_questions.proofs.question1.Tie as tie
 
 returns : tie.Need-returns
 unfolding areaOk all

@@ -2,8 +2,8 @@ use Rattle.rules.specs.Questions.{numbersOk}
 use Rattle.rules.specs.Tests.{all}
 use mathlib.Core.Bool.{and-true}
 use borrow.Author.Needs.{needs}
-use Rattle.index.proofs.question2.Statement.{statement}
-use Rattle.index.proofs.question2.Tie as tie
+use Rattle.index_questions.proofs.question2.Statement.{statement}
+use Rattle.index_questions.proofs.question2.Tie as tie
 
 returns : tie.Need-returns
 unfolding numbersOk all
