@@ -1,9 +1,9 @@
 -- The hint recorder in its table. Assumes nothing.
 use mathlib.Core.Path.{_≡_, refl, sym, ap, _∙_}
-use mathlib.Core.Bool.{Bool, true, false, _&&_, _||_, not, cond}
+use mathlib.Core.Bool.{Bool, true, false, _&&_, not, cond}
 use mathlib.Core.List.{List, [], _∷_, _++_, append-assoc}
 use mathlib.Core.Option.{Option, none, some}
-use Prim.Native.Nat.{ℕ, _+_, _*_, _/_, _<_, _≤_, min}
+use Prim.Native.Nat.{ℕ, _+_, _*_, _/_, _<_, _≤_}
 use native.Mathlib.Omega.{arith}
 use borrow.Author.Tests.{not-true, not-false, leb-true, le-leb, lt-leb, lt-ltb, le-ltb, ltb-true, ne-eqb, eq-eqb}
 use lib.Dec.{eqb, leb, ltb}
@@ -33,11 +33,12 @@ use Rattle.filelaws.proofs.Layouts.{hint-layout}
 use Rattle.table.specs.Tables.{hintsIn}
 use Rattle.index.specs.Index.{Tables, indexIn, refusal}
 use Rattle.index.proofs.Four.{Later, kinded-index}
+use Rattle.hint_spacing.specs.Numbers.{lastIn, tailless, emptied}
 use Rattle.hinting.specs.declared.Seen.the-variants as seen
 use Rattle.hinting.specs.declared.Taken.the-variants as taken
 use Rattle.hinting.specs.declared.Created.the-variants as created
-use Rattle.hinting.specs.Recorder.{lastIn, tailIn, lastFrom, tailFrom, recorderIn, numbersFrom, out, outOf, seeIn, flushIn, takenOf, takeIn, createdOf, hintRecorderIn}
-use Rattle.hinting.specs.Needs.{Roomy, Steps, refusalOf, flushedRecord, tailless, emptied, hintSeen}
+use Rattle.hinting.specs.Recorder.{tailIn, lastFrom, tailFrom, recorderIn, numbersFrom, out, outOf, seeIn, flushIn, takenOf, takeIn, createdOf, hintRecorderIn}
+use Rattle.hinting.specs.Needs.{Roomy, Steps, refusalOf, flushedRecord, hintSeen}
 
 last-back : (l : LastListed) → lastFrom (lastIn l) ≡ l
 unfolding lastFrom lastIn
@@ -109,14 +110,6 @@ module _ (r : HintRecorder) (t : List ℕ) (p : Roomy r t) (b : Bytes t) where
       }
 
 -- ---- see
-pub never-spaced : {l : LastListed} (spacing t : ℕ) → l ≡ Never → true ≡ spaced (lastIn l) spacing t
-unfolding spaced lastIn
-never-spaced spacing t e = rw e
-
-pub is-spaced : {l : LastListed} {n m : ℕ} {b : Bool} (spacing t : ℕ) → l ≡ Number n → m ≡ min (n + spacing) 4294967295 → b ≡ (leb m t || ltb t n) → b ≡ spaced (lastIn l) spacing t
-unfolding spaced lastIn
-is-spaced spacing t e q f = rw (e, ← q) f
-
 -- the list has room, or is full
 pub has-room : {q : Bool} (n : ℕ) → q ≡ ltb n 65536 → not q ≡ false → n < 65536
 has-room {q} n e h = ltb-true n 65536 (sym e ∙ not-false q h)

@@ -9,8 +9,6 @@ use lib.ListN.{length}
 use Rattle.field.specs.Records.{bytesOf}
 use Rattle.rules.specs.declared.Hint.{Hint}
 use Rattle.rules.specs.declared.HintRecorder.{HintRecorder}
-use Rattle.rules.specs.declared.LastListed.{LastListed}
-use Rattle.rules.specs.declared.Tail.the-variants as tail
 use Rattle.rules.specs.Tests.{firstNo}
 use Rattle.rules.specs.Values as values
 use Rattle.rules.specs.Values.{maxList}
@@ -36,13 +34,6 @@ pub record Steps (r : HintRecorder) (v : values.HintRecorder) (old new : List �
 -- the tail listed under the bound, and cleared
 abbrev pub flushedRecord : values.HintRecorder → values.HintRecorder
 flushedRecord r = record { spacing = r .spacing; last = r .last; tail = none; list = flushedList (r .tail) (r .list) }
-
-abbrev pub tailless : ℕ → LastListed → ℕ → HintRecorder
-tailless spacing last count = record { spacing = spacing; last = last; tail = tail.Empty; count = count }
-
--- without the list
-abbrev pub emptied : HintRecorder → HintRecorder
-emptied r = record { spacing = r .spacing; last = r .last; tail = r .tail; count = 0 }
 
 -- a record listed, under the bound, or made the tail
 abbrev pub hintSeen : values.HintRecorder → Hint → values.HintRecorder

@@ -19,6 +19,7 @@ use Rattle.rules.specs.Hints.{see, flush, takeList}
 use Rattle.rules.specs.Hints as rules
 use Rattle.table.specs.Tables.{hintsIn}
 use Rattle.index.specs.Index.{Tables, roomOf, indexIn, kindsIn, kinded}
+use Rattle.hint_spacing.specs.Numbers.{lastIn}
 use Rattle.hinting.specs.declared.Seen.{Seen}
 use Rattle.hinting.specs.declared.Seen.the-variants as seen
 use Rattle.hinting.specs.declared.Taken.{Taken}
@@ -27,10 +28,6 @@ use Rattle.hinting.specs.declared.Created.{Created}
 use Rattle.hinting.specs.declared.Created.the-variants as created
 
 -- ---- the value that numbers and the table stand for
-unfoldable pub lastIn : LastListed → Option ℕ
-lastIn Never = none
-lastIn (Number n) = some n
-
 unfoldable pub tailIn : Tail → Option Hint
 tailIn tail.Empty = none
 tailIn (tail.Hint h) = some h

@@ -1,8 +1,10 @@
 // The hint recorder: its numbers by value, and its list in a lent table.
 use field::and;
-use field::min_u64;
-use field::or;
 use first_record::first_record;
+use hint_spacing::cleared;
+use hint_spacing::emptied;
+use hint_spacing::has_room;
+use hint_spacing::is_spaced;
 use hints::write_hint;
 use rules::AreaIndex;
 use rules::First;
@@ -13,12 +15,10 @@ use rules::MAX_LIST;
 use rules::MAX_U32;
 use rules::Tail;
 ghost use mathlib.Core.Path.{_≡_};
-ghost use lib.Dec.{ltb};
-ghost use Rattle.rules.specs.Values.{maxList};
-ghost use Rattle.rules.specs.Hints.{spaced, seenRecord};
+ghost use Rattle.rules.specs.Hints.{seenRecord};
 ghost use Rattle.index.specs.Index.{tables};
-ghost use Rattle.hinting.specs.Recorder.{lastIn, recorderIn, out, seeIn, flushIn, takeIn, hintRecorderIn};
-ghost use Rattle.hinting.specs.Needs.{refusalOf, Roomy, Steps, flushedRecord, tailless, emptied, hintSeen};
+ghost use Rattle.hinting.specs.Recorder.{recorderIn, out, seeIn, flushIn, takeIn, hintRecorderIn};
+ghost use Rattle.hinting.specs.Needs.{refusalOf, Roomy, Steps, flushedRecord, hintSeen};
 
 // A hint recorder after a call, or the number that refuses.
 pub enum Seen {
@@ -55,36 +55,6 @@ fn refuses(r: HintRecorder, list: &[u8]) -> u32
         return 4;
     }
     0
-}
-
-// None was ever listed, or it is at least last + spacing, or below last.
-fn is_spaced(last: LastListed, spacing: u32, t: u32) -> bool
-    ensures { λ r. ⌜ r ≡ spaced (lastIn last) spacing t ⌝ }
-{
-    let LastListed::Number(l) = last else {
-        return true;
-    };
-    let next = min_u64(l as u64 + spacing as u64, MAX_U32);
-    or(next <= t as u64, t < l)
-}
-
-// Has the list under 65,536?
-fn has_room(count: u32) -> bool
-    ensures { λ r. ⌜ r ≡ ltb count maxList ⌝ }
-{
-    count < MAX_LIST
-}
-
-// A recorder without a tail.
-fn cleared(spacing: u32, last: LastListed, count: u32) -> HintRecorder
-    ensures { λ r. ⌜ r ≡ tailless spacing last count ⌝ }
-{
-    HintRecorder {
-        spacing,
-        last,
-        tail: Tail::Empty,
-        count,
-    }
 }
 
 // A hint listed, under the bound, or made the tail.
@@ -172,20 +142,6 @@ pub fn flush(r: HintRecorder, list: &mut [u8]) -> Seen
         return Seen::Refused(number);
     }
     Seen::Recorder(flushed(r, list))
-}
-
-// A recorder without its list; last and tail stay.
-fn emptied(r: HintRecorder) -> HintRecorder
-    ensures { λ q. ⌜ q ≡ emptied r ⌝ }
-{
-    let l = r.last;
-    let t = r.tail;
-    HintRecorder {
-        spacing: r.spacing,
-        last: l,
-        tail: t,
-        count: 0,
-    }
 }
 
 // The list taken: its hints are the first of the table, and the recorder has none then.

@@ -1,7 +1,7 @@
-use Rattle.hinting.proofs.Recorder.{never-spaced, is-spaced}
+use Rattle.hint_spacing.proofs.Spaced.{never-spaced, is-spaced}
 use borrow.Author.Needs.{needs}
-use Rattle.hinting.proofs.is_spaced.Statement.{statement}
-use Rattle.hinting.proofs.is_spaced.Tie as tie
+use Rattle.hint_spacing.proofs.is_spaced.Statement.{statement}
+use Rattle.hint_spacing.proofs.is_spaced.Tie as tie
 
 returns : tie.Need-returns
 returns c = let a = c .before .before .args in never-spaced (a .spacing) (a .t) (c .enum-told .given .1)
