@@ -9,6 +9,8 @@ use index_questions::question1;
 use index_questions::question2;
 use kinds::check_kinds;
 use part_checks::check_parts;
+use recorder_modes::at_end;
+use recorder_modes::mode_of;
 use rules::AreaIndex;
 use rules::End;
 use rules::EndState;
@@ -18,15 +20,10 @@ use sections::area_boundaries;
 use sections::ending_ok;
 use sections::last_checkpoint;
 ghost use mathlib.Core.Path.{_≡_};
-ghost use mathlib.Core.Bool.{true, cond, _&&_};
-ghost use lib.Dec.{eqb};
 ghost use mathlib.Core.List.{List};
-ghost use Prim.Native.Nat.{ℕ, _+_, _≤_};
+ghost use Prim.Native.Nat.{ℕ};
 ghost use Rattle.rules.specs.Tests.{isSome};
-ghost use Rattle.rules.specs.Values.{boundaries};
-ghost use Rattle.rules.specs.Questions.{areaOk, endOf};
-ghost use Rattle.rules.specs.declared.Mode.the-variants.{Running, Stopped};
-ghost use Rattle.rules.specs.Record.{isRunning};
+ghost use Rattle.rules.specs.Questions.{endOf};
 ghost use Rattle.index.specs.Index.{tables};
 ghost use Rattle.sections.specs.Numbers.{endIn};
 ghost use Rattle.recorder.specs.Recorder.{recorderTables, recorderRefusal, startedIn, finishedIn};
@@ -38,7 +35,7 @@ pub enum Recorded {
     Recorder(Recorder),
 }
 
-// ---- the mode
+// ---- the end state
 // The end state that a recorder has.
 pub fn end_of(mode: Mode) -> End
     ensures { λ r. ⌜ endIn r ≡ endOf mode ⌝ }
@@ -56,16 +53,6 @@ fn is_finished(mode: Mode) -> bool
     match mode {
         Mode::Running => false,
         Mode::Finished(_) => true,
-        Mode::Stopped => false,
-    }
-}
-
-pub fn is_running(mode: Mode) -> bool
-    ensures { λ r. ⌜ r ≡ isRunning mode ⌝ }
-{
-    match mode {
-        Mode::Running => true,
-        Mode::Finished(_) => false,
         Mode::Stopped => false,
     }
 }
@@ -151,15 +138,6 @@ pub fn recorder_refuses(
 }
 
 // ---- the recorder of an index
-fn mode_of(ending: End) -> Mode
-    ensures { λ r. ⌜ r ≡ cond (isSome (endIn ending)) Stopped Running ⌝ }
-{
-    match ending {
-        End::Open => Mode::Running,
-        End::Closed(_) => Mode::Stopped,
-    }
-}
-
 fn empty(x: AreaIndex, from: u64) -> Recorder
     ensures { λ r. ⌜ r ≡ emptyOf x from ⌝ }
 {
@@ -225,18 +203,6 @@ pub fn with_mode(r: Recorder, mode: Mode) -> Recorder
         parts: r.parts,
         mode,
     }
-}
-
-// 5: is every boundary passed, and the recorder not finished or stopped?
-fn at_end(r: Recorder) -> bool
-    requires { ⌜ areaOk (r .area) ≡ true ⌝ }
-    ensures { λ q. ⌜ q ≡ (isRunning (r .mode) && eqb (r .first + r .checkpoints) (boundaries (r .area) (r .interval))) ⌝ }
-{
-    let area = r.area;
-    let mode = r.mode;
-    let b = area_boundaries(area, r.interval);
-    let passed = r.first as u64 + r.checkpoints as u64;
-    and(is_running(mode), passed == b)
 }
 
 pub fn finish(

@@ -1,8 +1,8 @@
 use Rattle.sections.specs.Numbers.{endIn}
 use Rattle.rules.specs.Tests.{isSome}
 use borrow.Author.Needs.{needs}
-use Rattle.recorder.proofs.mode_of.Statement.{statement}
-use Rattle.recorder.proofs.mode_of.Tie as tie
+use Rattle.recorder_modes.proofs.mode_of.Statement.{statement}
+use Rattle.recorder_modes.proofs.mode_of.Tie as tie
 
 returns : tie.Need-returns
 unfolding isSome endIn

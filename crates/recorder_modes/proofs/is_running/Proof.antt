@@ -1,7 +1,7 @@
 use Rattle.rules.specs.Record.{isRunning}
 use borrow.Author.Needs.{needs}
-use Rattle.recorder.proofs.is_running.Statement.{statement}
-use Rattle.recorder.proofs.is_running.Tie as tie
+use Rattle.recorder_modes.proofs.is_running.Statement.{statement}
+use Rattle.recorder_modes.proofs.is_running.Tie as tie
 
 returns : tie.Need-returns
 unfolding isRunning

@@ -1,6 +1,6 @@
 use borrow.Author.Needs.{needs}
-use Rattle.recorder.proofs.at_end.Statement.{statement}
-use Rattle.recorder.proofs.at_end.Tie as tie
+use Rattle.recorder_modes.proofs.at_end.Statement.{statement}
+use Rattle.recorder_modes.proofs.at_end.Tie as tie
 
 returns : tie.Need-returns
 returns c = cc
