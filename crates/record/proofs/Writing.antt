@@ -1,8 +1,11 @@
 -- What record writes: a checkpoint, and the part of a frame under assembly. Assumes nothing.
-use mathlib.Core.Path.{_≡_, _∙_}
+use mathlib.Core.Path.{_≡_, sym, _∙_}
+use mathlib.Core.Bool.{Bool, true, false}
 use mathlib.Core.List.{List, [], _∷_, append-nil}
 use Prim.Native.Nat.{ℕ, _+_, _-_, _<_, _≤_}
-use borrow.Author.Tests.{le-ltb, lt-ltb}
+use native.Mathlib.Omega.{arith}
+use borrow.Author.Tests.{leb-true, leb-false, le-ltb, lt-ltb}
+use lib.Dec.{leb}
 use lib.IntN.{ℤ}
 use lib.Seq.{sets}
 use Rattle.field.specs.Number.{put}
@@ -25,6 +28,13 @@ pub checkpoint-put : {t1 t2 t3 t4 : List ℕ} (t : List ℕ) (k : ℕ) (c : Chec
     → t4 ≡ put 8 t3 (k + 16) (c .digest) → t4 ≡ sets t k (encodeCheckpoint c)
 unfolding encodeCheckpoint
 checkpoint-put t k c e f g h = h ∙ rw (g, f, e) (fields-put 4 (4 ∷ 8 ∷ 8 ∷ []) t k (c .threshold) (c .back ∷ c .malformed ∷ c .digest ∷ []) ∙ simp append-nil)
+
+-- ---- back, by its test
+pub back-near : (back : ℕ) {d : ℕ} {g : Bool} → back ≡ d → g ≡ leb back 32 → g ≡ true → d ≤ 32
+back-near back e n t = omega (arith, e, leb-true back 32 (sym n ∙ t))
+
+pub back-far : (back : ℕ) {d : ℕ} {g : Bool} → back ≡ d → g ≡ leb back 32 → g ≡ false → 32 < d
+back-far back e n t = omega (arith, e, leb-false back 32 (sym n ∙ t))
 
 -- ---- the part
 module _ {budget : ℕ} {c : Counts} {t : PartTables} (r : Room 1 budget c t) (bf : Bytes (t .frames)) (bp : Bytes (t .parts)) (j lsn : ℕ) {frame : UnderAssembly} (b : List ℕ) where

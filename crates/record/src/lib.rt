@@ -8,25 +8,23 @@ use parts::Counts;
 use parts::Piece;
 use parts::add_part;
 use parts::used_bytes;
+use record_questions::in_order;
+use record_questions::near;
 use recorder::Recorded;
 use recorder::recorder_refuses;
 use recorder_modes::is_running;
 use rules::Area;
 use rules::Checkpoint;
 use rules::MAX_NEXT_ACCEPTABLE;
-use rules::REPLAY_SECTORS;
 use rules::Recorder;
 use rules::SECTOR_BYTES;
 use rules::UnderAssembly;
-use sections::ask;
 use sections::last_checkpoint;
 ghost use mathlib.Core.Path.{_≡_};
-ghost use mathlib.Core.Bool.{true};
 ghost use mathlib.Core.List.{List};
 ghost use Prim.Native.Nat.{ℕ, _+_, _*_, _≤_, _<_};
 ghost use lib.ListN.{length};
 ghost use lib.Seq.{sets};
-ghost use Rattle.rules.specs.Tests.{ask};
 ghost use Rattle.rules.specs.Record.{backOf};
 ghost use Rattle.rules.specs.File.{encodeCheckpoint};
 ghost use Rattle.parts.specs.Parts.{partTables, storedIn, held, heldFrom};
@@ -116,7 +114,7 @@ fn assemble(
         return c;
     };
     let back = less(lsn, a.start);
-    if back <= REPLAY_SECTORS {
+    if near(back) {
         return c;
     }
     let kind = a.kind;
@@ -156,7 +154,7 @@ fn record_number(
     let five = due(r, lsn, len);
     let six = rises(last, j, r.interval, threshold, malformed);
     let seven = starts(area, lsn, frame);
-    ask(ask(ask(0, five, 5), six, 6), seven, 7)
+    in_order(five, six, seven)
 }
 
 // One checkpoint more.

@@ -2,7 +2,7 @@ use mir.Syntax.{w32}
 use mir.Val.{SFits}
 use mir.ValLaws.{toZ-ofZ}
 use native.Mathlib.Omega.{arith}
-use Rattle.record.proofs.Writing.{assembled-none, assembled-near, assembled-far}
+use Rattle.record.proofs.Writing.{back-near, back-far, assembled-none, assembled-near, assembled-far}
 use borrow.Author.Needs.{needs}
 use Rattle.record.proofs.assemble.Statement.{statement}
 use Rattle.record.proofs.assemble.Tie as tie
@@ -16,13 +16,24 @@ returns c =
 
 returns-2 : tie.Need-returns-2
 returns-2 c =
+    let close : tie.After-near = search in
     let back : tie.After-less = search in
     let found : tie.After-frame = search in
     let ps : tie.After-slice-known3 = search in
     let fs : tie.After-slice-known = search in
     let start : tie.Start = search in
     assembled-near (start .pre .0) (λ i. fs .slice-known .given i .fits) (λ i. ps .slice-known3 .given i .fits) _ _ _ _ (found .frame .given .1)
-    (omega (arith, back .less .ensures, c .if1 .taken))
+    (back-near _ (back .less .ensures) (close .near .ensures) (c .if1 .taken))
+
+cast-t15 : tie.Need-cast-t15
+cast-t15 c =
+    let far : tie.Else1 = search in
+    let close : tie.After-near = far .before in
+    let back : tie.After-less = close .before in
+    let start : tie.Start = search in
+    let l = back-far _ (back .less .ensures) (close .near .ensures) (far .if1 .left) in
+    let h = start .pre .1 in
+    record { fits = omega arith }
 
 abbrev kept : tie.After-add-part → tie.Else1
 kept p = search
@@ -38,12 +49,13 @@ returns-3 : tie.Need-returns-3
 returns-3 c =
     let done : tie.After-add-part = search in
     let far = kept done in
-    let back : tie.After-less = far .before in
+    let close : tie.After-near = far .before in
+    let back : tie.After-less = close .before in
     let ps : tie.After-slice-known3 = search in
     let fs : tie.After-slice-known = search in
     let start : tie.Start = search in
     assembled-far (start .pre .0) (λ i. fs .slice-known .given i .fits) (λ i. ps .slice-known3 .given i .fits) _ _ _ _ (found far .frame .given .1)
-    (omega (arith, back .less .ensures, far .if1 .left)) (toZ-ofZ w32 _ (sized done)) (done .add-part .ensures)
+    (back-far _ (back .less .ensures) (close .near .ensures) (far .if1 .left)) (toZ-ofZ w32 _ (sized done)) (done .add-part .ensures)
 
 pub assemble-spec : {M : Type 1} → statement M
 assemble-spec =
@@ -53,8 +65,9 @@ assemble-spec =
     (λ c. search needs)
     returns
     (λ c κs. search needs)
+    (λ c κs. search needs)
     returns-2
-    (λ c. search needs)
+    cast-t15
     (λ c κs. search needs)
     (λ c. search needs)
     (λ c. search needs)

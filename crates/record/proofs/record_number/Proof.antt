@@ -1,6 +1,4 @@
-use mathlib.Core.Path.{refl}
 use native.Mathlib.Omega.{arith}
-use Rattle.sections.proofs.Questions.{asked-all}
 use Rattle.index.proofs.Questions.{range}
 use Rattle.recorder.proofs.Calls.{passes-roomy, passes-long}
 use Rattle.record.proofs.Recording.{number-no, number-then}
@@ -32,16 +30,13 @@ rises-requires c κs =
 
 returns-2 : tie.Need-returns-2
 returns-2 c =
-    let three : tie.After-ask3 = search in
-    let two : tie.After-ask2 = search in
-    let one : tie.After-ask = search in
     let seven : tie.After-starts = search in
     let six : tie.After-rises = search in
     let five : tie.After-due = search in
     let last : tie.After-last-checkpoint = search in
     let passed : tie.Else1 = search in
     number-then _ _ _ _ _ _ _ (asked passed .recorder-refuses .ensures) (passed .if1 .left) (last .last-checkpoint .ensures) (five .due .ensures) (six .rises .ensures)
-    (seven .starts .ensures) (asked-all _ refl (rw (three .ask3 .ensures, two .ask2 .ensures, one .ask .ensures)))
+    (seven .starts .ensures) (c .in-order .ensures)
 
 pub record-number-spec : {M : Type 1} → statement M
 record-number-spec =
@@ -56,8 +51,6 @@ record-number-spec =
     last-checkpoint-requires
     due-requires
     rises-requires
-    (λ c κs. search needs)
-    (λ c κs. search needs)
     (λ c κs. search needs)
     (λ c κs. search needs)
     returns-2)
