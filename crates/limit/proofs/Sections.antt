@@ -36,7 +36,8 @@ use Rattle.table.specs.Files.{placeAt, behindEach, frameFollows, frameNext, fra
 use Rattle.table.proofs.Files.{place-first, place-shift}
 use Rattle.table.proofs.Reading.{read-each, steady-frame}
 use Rattle.index.proofs.Standing.{frames-fits, held-records, parts-fits, hints-fits}
-use Rattle.limit.specs.Limit.{lengthHere, framesAt, partsAt, malformedAt, confirmedSize, hintsAt, confirmedAt}
+use Rattle.file_places.specs.Places.{confirmedSize}
+use Rattle.limit.specs.Limit.{lengthHere, framesAt, partsAt, malformedAt, hintsAt, confirmedAt}
 use Rattle.limit.proofs.Frames.{follows-on}
 
 -- ---- stretches

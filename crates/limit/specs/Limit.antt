@@ -1,8 +1,7 @@
 -- What a limit leaves of an accepted file, and where that lies in the file.
 use mathlib.Core.Path.{_≡_}
-use mathlib.Core.Bool.{true, cond}
+use mathlib.Core.Bool.{true}
 use Prim.Native.Nat.{ℕ, _+_, _-_, _*_, _≤_}
-use lib.Dec.{eqb}
 use mathlib.Core.List.{List, _++_}
 use lib.ListN.{length, take, drop}
 use Rattle.field.specs.Number.{numberAt}
@@ -14,7 +13,7 @@ use Rattle.rules.specs.Create.{emptyIndex}
 use Rattle.rules.specs.Load.{fromBytes, limited}
 use Rattle.inspect.specs.declared.Found.{Found}
 use Rattle.inspect.specs.Inspect.{foundIn}
-use Rattle.limit.specs.declared.Places.{Places}
+use Rattle.file_places.specs.Places.{confirmedSize}
 
 -- the list of an accepted file (an empty one where it is refused)
 unfoldable pub listOf : Area → Answer Index → Index
@@ -58,10 +57,6 @@ partsAt x = framesAt x + length (x .scan .frames) * 8 + used (x .scan .frames)
 abbrev pub malformedAt : Index → ℕ
 malformedAt x = partsAt x + length (x .scan .parts) * 24
 
--- the bytes of the section of n confirmations, which is not there where there are none
-unfoldable pub confirmedSize : ℕ → ℕ
-confirmedSize n = cond (eqb n 0) 0 (8 + n * 16)
-
 -- the hints end where the confirmations begin, and those at the sum; b is the file
 abbrev pub hintsAt : List ℕ → Index → ℕ
 hintsAt b x = length b - 8 - confirmedSize (length (x .hinting .confirmed)) - length (x .hinting .hints) * 8
@@ -69,27 +64,3 @@ hintsAt b x = length b - 8 - confirmedSize (length (x .hinting .confirmed)) - le
 -- the last k confirmations
 abbrev pub confirmedAt : List ℕ → ℕ → ℕ
 confirmedAt b k = length b - 8 - k * 16
-
--- ---- what goes into the tables
--- n checkpoints, f frames of u bytes, h parts, m malformed LSNs, s hints and c confirmations, of which d stay, lie in a file of len bytes
-pub record Inside (len n f u h m s c d : ℕ) : Type 0 where
-  pub front : 80 + n * 24 + f * 8 + u + h * 24 + m * 4 ≤ len
-  pub hints : s * 8 + confirmedSize c + 8 ≤ len
-  pub confirmed : d * 16 + 8 ≤ len
-
-unfoldable pub placesIn : (len n f u h m s c g k most d : ℕ) → Places
-placesIn len n f u h m s c g k most d =
-    record {
-      checkpoints = n * 24;
-      «frames_at» = 80 + n * 24;
-      frames = g;
-      «parts_at» = 80 + n * 24 + f * 8 + u;
-      parts = k * 24;
-      «malformed_at» = 80 + n * 24 + f * 8 + u + h * 24;
-      malformed = m * 4;
-      «hints_at» = len - 8 - confirmedSize c - s * 8;
-      hints = s;
-      most = most;
-      «confirmed_at» = len - 8 - d * 16;
-      confirmed = d * 16;
-    }

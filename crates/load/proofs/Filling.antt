@@ -30,8 +30,9 @@ use Rattle.table.specs.Files.{placeAt, listed, frameHere, frameFollows, framesR
 use Rattle.table.proofs.Files.{place-inside}
 use Rattle.index.specs.Index.{Tables, tables, roomOf, storeOf, tablesFrom}
 use Rattle.inspect.specs.declared.Found.{Found}
-use Rattle.limit.specs.declared.Places.{Places}
-use Rattle.limit.specs.Limit.{listIn, limitedIn, Inside, placesIn, framesAt, partsAt, malformedAt, confirmedSize, hintsAt, confirmedAt}
+use Rattle.file_places.specs.declared.Places.{Places}
+use Rattle.file_places.specs.Places.{confirmedSize, Inside, placesIn}
+use Rattle.limit.specs.Limit.{listIn, limitedIn, framesAt, partsAt, malformedAt, hintsAt, confirmedAt}
 use Rattle.limit.proofs.Sections.{each-length, Laid}
 use Rattle.limit.proofs.Limit.{accepted}
 use Rattle.load.specs.Steps.{Ready}

@@ -2,6 +2,7 @@
 use field::copy_first;
 use field::copy_part;
 use field::read_u32;
+use file_places::locate;
 use hints::thin_into;
 use index::Made;
 use index::question3;
@@ -10,7 +11,6 @@ use inspect::Found;
 use inspect::Inspected;
 use inspect::inspect;
 use limit::limited;
-use limit::locate;
 use rules::Area;
 use rules::AreaIndex;
 use table::behind;

@@ -1,8 +1,8 @@
 use borrow.Author.Tests.{eq-eqb, ne-eqb}
-use Rattle.limit.specs.Limit.{confirmedSize}
+use Rattle.file_places.specs.Places.{confirmedSize}
 use borrow.Author.Needs.{needs}
-use Rattle.limit.proofs.confirmed_size.Statement.{statement}
-use Rattle.limit.proofs.confirmed_size.Tie as tie
+use Rattle.file_places.proofs.confirmed_size.Statement.{statement}
+use Rattle.file_places.proofs.confirmed_size.Tie as tie
 
 returns : tie.Need-returns
 unfolding confirmedSize

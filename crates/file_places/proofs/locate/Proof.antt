@@ -1,7 +1,7 @@
-use Rattle.limit.specs.Limit.{placesIn}
+use Rattle.file_places.specs.Places.{placesIn}
 use borrow.Author.Needs.{needs}
-use Rattle.limit.proofs.locate.Statement.{statement}
-use Rattle.limit.proofs.locate.Tie as tie
+use Rattle.file_places.proofs.locate.Statement.{statement}
+use Rattle.file_places.proofs.locate.Tie as tie
 
 returns : tie.Need-returns
 unfolding placesIn
