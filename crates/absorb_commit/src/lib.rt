@@ -3,6 +3,7 @@
 use absorb_tests::count_below;
 use absorb_tests::or_else;
 use field::min_u64;
+use merged_numbers::image_of;
 use parts::Counts;
 use recorder::end_of;
 use rules::AreaIndex;
@@ -12,7 +13,6 @@ use rules::MAX_MALFORMED_WARNINGS;
 use rules::Recorder;
 use sections::frontier_of;
 use take::append_checkpoints;
-use take::image_of;
 use take::take_malformed;
 use take::take_parts;
 ghost use mathlib.Core.Path.{_≡_};

@@ -31,7 +31,8 @@ use Rattle.join.proofs.Refusal.{further-is, asked-after}
 use Rattle.parts.specs.declared.Counts.{Counts}
 use Rattle.parts.specs.Parts.{partTables, storedIn, Held, held, heldFrom}
 use Rattle.merge.specs.Merge.{hintsWritten, mergeIn}
-use Rattle.take.specs.Needs.{Appended, Taken, partsTaken, Listed, listed, clearedUpTo, hintsJoined, numbersBy}
+use Rattle.merged_numbers.specs.Numbers.{numbersBy}
+use Rattle.take.specs.Needs.{Appended, Taken, partsTaken, Listed, listed, clearedUpTo, hintsJoined}
 use Rattle.merge.specs.Needs.{outIndex, mergedIn}
 
 -- ---- answer and tables

@@ -1,4 +1,3 @@
 pub mod Copies
-pub mod Images
 pub mod Hints
 pub mod Held

@@ -9,15 +9,12 @@ use Rattle.field.specs.Records.{bytesOf}
 use Rattle.rules.specs.declared.Area.{Area}
 use Rattle.rules.specs.declared.AreaIndex.{AreaIndex}
 use Rattle.rules.specs.declared.Hint.{Hint}
-use Rattle.rules.specs.Tests.{orElse}
 use Rattle.rules.specs.Values.{used}
 use Rattle.rules.specs.Sections.{hintsOk}
 use Rattle.rules.specs.PartRule.{addParts}
 use Rattle.rules.specs.Hints.{joinedHints}
 use Rattle.rules.specs.File.{encodeCheckpoint, encodeLsn, encodeHint, over}
-use Rattle.rules.specs.Merge.{mergedFingerprint}
 use Rattle.table.specs.Tables.{checkpointsIn, lsnsIn, framesIn, partsIn, hintsIn}
-use Rattle.sections.specs.Numbers.{idIn, idFrom}
 use Rattle.parts.specs.declared.Counts.{Counts}
 use Rattle.parts.specs.Parts.{PartTables, storedIn, Held, heldFrom}
 use Rattle.parts.specs.Needs.{Lent, Room, wanted}
@@ -83,23 +80,3 @@ writtenTo most n m = cond (eqb most 0) n (n + m)
 
 unfoldable pub hintsJoined : Area → ℕ → ℕ → ℕ → List ℕ → List ℕ → Listed
 hintsJoined a most n m t u = clearedUpTo (writtenTo most n m) (joinedHints a most (hintsIn n t) (hintsIn m u)) t
-
--- ---- the numbers
-unfoldable pub numbersBy : AreaIndex → AreaIndex → Bool → ℕ → Counts → ℕ → ℕ → ℕ → AreaIndex
-numbersBy x y go n c m s d =
-    record {
-      area = x .area;
-      interval = x .interval;
-      budget = x .budget;
-      spacing = x .spacing;
-      most = x .most;
-      checkpoints = n;
-      frames = c .frames;
-      parts = c .parts;
-      malformed = m;
-      hints = s;
-      confirmed = d;
-      ending = cond go (y .ending) (x .ending);
-      fingerprint = mergedFingerprint (x .fingerprint) (y .fingerprint);
-      image = idFrom (orElse (idIn (x .image)) (idIn (y .image)));
-    }

@@ -1,7 +1,7 @@
-use Rattle.take.specs.Needs.{numbersBy}
+use Rattle.merged_numbers.specs.Numbers.{numbersBy}
 use borrow.Author.Needs.{needs}
-use Rattle.take.proofs.numbers.Statement.{statement}
-use Rattle.take.proofs.numbers.Tie as tie
+use Rattle.merged_numbers.proofs.numbers.Statement.{statement}
+use Rattle.merged_numbers.proofs.numbers.Tie as tie
 
 returns : tie.Need-returns
 unfolding numbersBy

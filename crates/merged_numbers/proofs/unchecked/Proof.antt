@@ -1,8 +1,8 @@
 use Rattle.rules.specs.Merge.{mergedFingerprint, heldFrom}
 use Rattle.rules.specs.Values.{stated}
 use borrow.Author.Needs.{needs}
-use Rattle.take.proofs.unchecked.Statement.{statement}
-use Rattle.take.proofs.unchecked.Tie as tie
+use Rattle.merged_numbers.proofs.unchecked.Statement.{statement}
+use Rattle.merged_numbers.proofs.unchecked.Tie as tie
 
 returns : tie.Need-returns
 unfolding mergedFingerprint heldFrom stated

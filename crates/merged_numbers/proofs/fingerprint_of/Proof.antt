@@ -1,7 +1,7 @@
 use Rattle.rules.specs.Merge.{mergedFingerprint}
 use borrow.Author.Needs.{needs}
-use Rattle.take.proofs.fingerprint_of.Statement.{statement}
-use Rattle.take.proofs.fingerprint_of.Tie as tie
+use Rattle.merged_numbers.proofs.fingerprint_of.Statement.{statement}
+use Rattle.merged_numbers.proofs.fingerprint_of.Tie as tie
 
 returns : tie.Need-returns
 unfolding mergedFingerprint

@@ -1,9 +1,9 @@
-use Rattle.take.proofs.Images.{image-other, image-own}
+use Rattle.merged_numbers.proofs.Images.{image-other, image-own}
 use Rattle.sections.specs.Numbers.{idIn, idFrom}
 use Rattle.rules.specs.Tests.{orElse}
 use borrow.Author.Needs.{needs}
-use Rattle.take.proofs.image_of.Statement.{statement}
-use Rattle.take.proofs.image_of.Tie as tie
+use Rattle.merged_numbers.proofs.image_of.Statement.{statement}
+use Rattle.merged_numbers.proofs.image_of.Tie as tie
 
 returns : tie.Need-returns
 returns c = image-other _ _ (c .enum-told .given .1)
