@@ -13,8 +13,8 @@ use Rattle.rules.specs.File.{saved, savedLength, over}
 use Rattle.filelaws.proofs.Length.{savedLength-is}
 use Rattle.disc_rules.specs.Disc.{entry, encodeEntry, slotOf, entriesFrom, discBytes}
 use Rattle.index.specs.Index.{Tables, indexIn, refusal}
-use Rattle.write.specs.Write.{Put}
-use Rattle.write.proofs.Sections.{lent, put-both, put-over}
+use Rattle.output.specs.Output.{Put}
+use Rattle.output.proofs.Stretches.{lent, put-both, put-over}
 use Rattle.save.specs.declared.Saved.{Saved}
 use Rattle.save.specs.declared.Saved.the-variants as answer
 use Rattle.save.specs.Save.{SaveOut, made, saveIn}

@@ -18,7 +18,7 @@ ghost use Rattle.rules.specs.File.{saved, savedLength};
 ghost use Rattle.disc_rules.specs.Disc.{bySlot};
 ghost use Rattle.index.specs.Index.{indexIn, tables, refusal};
 ghost use Rattle.index_questions.specs.Lowest.{lowest};
-ghost use Rattle.write.specs.Write.{Put};
+ghost use Rattle.output.specs.Output.{Put};
 ghost use Rattle.save.specs.Save.{made};
 ghost use Rattle.disc_save.specs.Calls.{saveOneIn, saveBothIn};
 ghost use Rattle.disc_save.specs.Needs.{tableOfTwo, savedAs};

@@ -17,8 +17,8 @@ use Rattle.rules.specs.Tests.{all}
 use Rattle.rules.proofs.Tests.{test, never, all→}
 use Rattle.disc_rules.specs.declared.Entry.{Entry}
 use Rattle.disc_rules.specs.Disc.{entry, encodeEntry, decodeEntry, laid, contentsOk, countIn, entriesIn, entryOf, tableSize}
-use Rattle.write.specs.Write.{Put}
-use Rattle.write.proofs.Sections.{put-both, put-one}
+use Rattle.output.specs.Output.{Put}
+use Rattle.output.proofs.Stretches.{put-both, put-one}
 use Rattle.disc_table.specs.declared.Contents.{Contents}
 use Rattle.disc_table.specs.declared.Contents.the-variants.{Broken, Lists}
 use Rattle.disc_table.specs.declared.Place.{Place}

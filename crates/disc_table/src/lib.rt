@@ -10,7 +10,7 @@ ghost use Prim.Native.Nat.{_+_, _≤_};
 ghost use lib.ListN.{length, take, drop};
 ghost use Rattle.field.specs.Number.{encode};
 ghost use Rattle.disc_rules.specs.Disc.{encodeEntry, decodeEntry, laid, entryOf};
-ghost use Rattle.write.specs.Write.{Put};
+ghost use Rattle.output.specs.Output.{Put};
 ghost use Rattle.disc_table.specs.Contents.{placeFrom, contentsFrom, contentsIn};
 
 // The entry of a slot, where the contents table lists it.

@@ -13,8 +13,8 @@ use Rattle.rules.specs.Values.{used}
 use Rattle.rules.specs.File.{decodeHint, decodeConfirmation, hasHinting, versionOf, headerBytes, headerOf, hintSection, confirmedSection, bodyOf, savedLength}
 use Rattle.table.specs.Tables.{framesIn}
 use Rattle.index.specs.Index.{Tables, indexIn, tables}
-use Rattle.write.specs.Write.{Put}
-use Rattle.write.proofs.Sections.{put-both}
+use Rattle.output.specs.Output.{Put}
+use Rattle.output.proofs.Stretches.{put-both}
 use Rattle.layout.specs.Layout.{hintHeaderOf}
 use Rattle.layout.proofs.Numbers.{length-is, version-any}
 use Rattle.save.specs.Steps.{hintBytes, confirmedBytes, hintIndex, hintingSize, scanBytes, scanSize}

@@ -12,8 +12,9 @@ use Rattle.rules.specs.declared.Header.{Header}
 use Rattle.rules.specs.declared.HintHeader.{HintHeader}
 use Rattle.rules.specs.File.{headerBytes, encodeHint, decodeHint, encodeConfirmation, decodeConfirmation, over}
 use Rattle.filelaws.proofs.Layouts.{header-length, hint-layout, confirmation-layout}
-use Rattle.write.specs.Write.{Put}
-use Rattle.write.proofs.Sections.{records-size, put-both, put-one, put-copy, put-over}
+use Rattle.output.specs.Output.{Put}
+use Rattle.write.proofs.Sections.{records-size}
+use Rattle.output.proofs.Stretches.{put-both, put-one, put-copy, put-over}
 use Rattle.save.specs.Steps.{hintBytes, confirmedBytes}
 
 -- ---- sections with a header

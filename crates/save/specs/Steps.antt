@@ -15,10 +15,7 @@ use Rattle.table.specs.Tables.{checkpointsIn, partsIn, lsnsIn, hintsIn, confirm
 use Rattle.index.specs.Index.{indexIn, kindsOk, tables}
 use Rattle.index.specs.Needs.{Long}
 use Rattle.layout.specs.Layout.{Framed}
-
--- the header of the hint section
-abbrev pub hintHeader : HintHeader → List ℕ
-hintHeader h = encode 8 (h .fingerprint) ++ (encode 4 (h .spacing) ++ (encode 4 (h .most) ++ (encode 4 (h .count) ++ encode 4 (h .zero20))))
+use Rattle.output.specs.Output.{hintHeader}
 
 -- the hint section with the first hints of a table
 abbrev pub hintBytes : HintHeader → List ℕ → List ℕ

@@ -1,7 +1,5 @@
 // Saving an index: the file's bytes, section by section, into a lent output.
 use field::write_u32;
-use field::write_u64;
-use fnv::fnv;
 use header::write_header;
 use index::refuses;
 use layout::frame_bytes;
@@ -9,6 +7,9 @@ use layout::header_of;
 use layout::hint_header_of;
 use layout::saved_length;
 use layout::version_of;
+use output::long_enough;
+use output::write_hint_header;
+use output::write_sum;
 use rules::AreaIndex;
 use rules::HintHeader;
 use write::put_checkpoints;
@@ -20,16 +21,14 @@ use write::put_parts;
 ghost use mathlib.Core.Path.{_≡_};
 ghost use mathlib.Core.List.{_++_};
 ghost use Prim.Native.Nat.{_+_, _*_, _≤_};
-ghost use lib.ListN.{length, take};
-ghost use Rattle.field.specs.Number.{put};
-ghost use Rattle.fnv.specs.Fnv.{fnv64};
+ghost use lib.ListN.{length};
 ghost use Rattle.rules.specs.Values.{used};
 ghost use Rattle.rules.specs.File.{hintSection, confirmedSection, bodyOf, saved, savedLength, over};
 ghost use Rattle.table.specs.Tables.{framesIn};
 ghost use Rattle.index.specs.Index.{indexIn, tables, refusal};
-ghost use Rattle.write.specs.Write.{Put};
+ghost use Rattle.output.specs.Output.{Put};
 ghost use Rattle.save.specs.Save.{made, saveIn};
-ghost use Rattle.save.specs.Steps.{hintHeader, hintBytes, confirmedBytes, Scanned, Hinted, scanSize, scanBytes, hintIndex, hintingSize};
+ghost use Rattle.save.specs.Steps.{hintBytes, confirmedBytes, Scanned, Hinted, scanSize, scanBytes, hintIndex, hintingSize};
 
 pub enum Saved {
     Refused(u32),
@@ -37,17 +36,6 @@ pub enum Saved {
 }
 
 // ---- hints and confirmations, each with its header
-fn write_hint_header(out: &mut [u8], h: HintHeader)
-    requires { ⌜ 24 ≤ length (now out) ⌝ }
-    ensures { λ _. ⌜ Put (hintHeader h) 24 (now (out .entry)) 0 24 (now (out .exit)) ⌝ }
-{
-    write_u64(out, 0, h.fingerprint);
-    write_u32(out, 8, h.spacing);
-    write_u32(out, 12, h.most);
-    write_u32(out, 16, h.count);
-    write_u32(out, 20, h.zero20);
-}
-
 fn write_hint_section(out: &mut [u8], h: HintHeader, table: &[u8])
     requires { ⌜ (h .count * 8 ≤ length (now table)) × (24 + h .count * 8 ≤ length (now out)) ⌝ }
     ensures { λ _. ⌜ now (out .exit) ≡ over (hintBytes h (now (table .entry))) (now (out .entry)) ⌝ }
@@ -142,15 +130,6 @@ fn write_body(
     put_hinting(out, at, x, hints, confirmed)
 }
 
-// The sum of the bytes before end, which lies behind the header.
-fn write_sum(out: &mut [u8], end: usize)
-    requires { ⌜ (80 ≤ end) × (end + 8 ≤ length (now out)) ⌝ }
-    ensures { λ _. ⌜ now (out .exit) ≡ put 8 (now (out .entry)) end (fnv64 (take end (now (out .entry)))) ⌝ }
-{
-    let sum = fnv(&out[0..end]);
-    write_u64(out, end, sum);
-}
-
 fn write_saved(
     out: &mut [u8],
     x: AreaIndex,
@@ -199,7 +178,7 @@ fn saved_after(
         return Saved::Refused(number);
     }
     let length = saved_length(x, frames);
-    if (out.len() as u64) < length {
+    if !long_enough(out.len() as u64, length) {
         return Saved::Refused(40);
     }
     write_saved(

@@ -19,8 +19,8 @@ use Rattle.table.specs.Tables.{decodeHeader, headersIn, frameOf, framesOf, fram
 use Rattle.table.proofs.Walk.{records-turn}
 use Rattle.table.proofs.Frames.{stretch-length, stretch-within, frames-length, frames-used, weight, weight-on}
 use Rattle.filelaws.proofs.Readers.{frame-length}
-use Rattle.write.specs.Write.{Put}
-use Rattle.write.proofs.Sections.{put-both, put-copy, put-over}
+use Rattle.output.specs.Output.{Put}
+use Rattle.output.proofs.Stretches.{put-both, put-copy, put-over}
 
 pub frames-size : (fs : List Frame) → length (bytesOf encodeFrame fs) ≡ length fs * 8 + used fs
 unfolding bytesOf used

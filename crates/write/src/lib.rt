@@ -11,7 +11,7 @@ ghost use Rattle.rules.specs.Values.{used};
 ghost use Rattle.rules.specs.File.{encodeCheckpoint, encodeFrame, encodeHeld, encodeLsn, encodeHint, encodeConfirmation, over};
 ghost use Rattle.table.specs.Tables.{checkpointsIn, partsIn, lsnsIn, hintsIn, confirmationsIn, framesIn, decodeHeader, frameOf};
 ghost use Rattle.index.specs.Index.{kindsOk};
-ghost use Rattle.write.specs.Write.{Put};
+ghost use Rattle.output.specs.Output.{Put};
 
 // ---- the first n records of a table, over the start of the stretch that is lent
 fn write_checkpoints(out: &mut [u8], table: &[u8], n: usize)

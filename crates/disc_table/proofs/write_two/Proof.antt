@@ -1,4 +1,4 @@
-use Rattle.write.proofs.Sections.{put-both, put-one}
+use Rattle.output.proofs.Stretches.{put-both, put-one}
 use borrow.Author.Needs.{needs}
 use Rattle.disc_table.proofs.write_two.Statement.{statement}
 use Rattle.disc_table.proofs.write_two.Tie as tie

@@ -1,6 +1,8 @@
 use Rattle.save.proofs.Saving.{framed, scanned, hinted, save-refused, save-short, save-done}
-use mathlib.Core.Path.{refl}
+use mathlib.Core.Path.{refl, sym, _∙_}
 use native.Mathlib.Omega.{arith}
+use borrow.Author.Tests.{leb-true, leb-false, not-true, not-false}
+use lib.ListN.{length}
 use Rattle.index.specs.Index.{Tables, tables}
 use borrow.Author.Needs.{needs}
 use Rattle.save.proofs.saved_after.Statement.{statement}
@@ -27,18 +29,22 @@ returns-2 c =
     let start : tie.Start = search in
     let passed : tie.Else1 = search in
     let size : tie.After-saved-length = search in
-    save-short (start .args .x) (lent start) (start .args .out .now) (start .pre) (passed .if1 .left) (size .saved-length .ensures (lent start) refl) (c .if2 .taken)
+    let room : tie.After-long-enough = search in
+    save-short (start .args .x) (lent start) (start .args .out .now) (start .pre) (passed .if1 .left) (size .saved-length .ensures (lent start) refl)
+    (leb-false _ _ (sym (room .long-enough .ensures) ∙ not-true _ (c .if2 .taken)))
 
 write-saved-requires : tie.Need-write-saved-requires
 write-saved-requires c κs =
     let start : tie.Start = search in
     let passed : tie.Else1 = search in
     let size : tie.After-saved-length = search in
+    let room : tie.After-long-enough = search in
     let long : tie.Else2 = search in
-    let k = size .saved-length .ensures (lent start) refl in (
+    let k = size .saved-length .ensures (lent start) refl in
+    let l = leb-true (size .saved-length .result) (length (start .args .out .now)) (sym (room .long-enough .ensures) ∙ not-false _ (long .if2 .left)) in (
       scanned (start .args .x) (lent start) (start .pre) (passed .if1 .left),
       hinted (start .args .x) (lent start) (start .pre) (passed .if1 .left),
-      omega (arith, long .if2 .left),
+      omega (arith, k, l),
     )
 
 returns-3 : tie.Need-returns-3
@@ -46,12 +52,20 @@ returns-3 c =
     let start : tie.Start = search in
     let passed : tie.Else1 = search in
     let size : tie.After-saved-length = search in
+    let room : tie.After-long-enough = search in
     let long : tie.Else2 = search in
     let file : tie.After-write-saved = search in
-    save-done (start .args .x) (lent start) (start .args .out .now) (start .pre) (passed .if1 .left) (size .saved-length .ensures (lent start) refl) (long .if2 .left)
-    (file .write-saved .ensures)
+    save-done (start .args .x) (lent start) (start .args .out .now) (start .pre) (passed .if1 .left) (size .saved-length .ensures (lent start) refl)
+    (leb-true _ _ (sym (room .long-enough .ensures) ∙ not-false _ (long .if2 .left))) (file .write-saved .ensures)
 
 pub saved-after-spec : {M : Type 1} → statement M
 saved-after-spec =
     tie.close
-    (tie.spec returns saved-length-requires returns-2 write-saved-requires (λ c. search needs) returns-3)
+    (tie.spec
+    returns
+    saved-length-requires
+    (λ c κs. search needs)
+    returns-2
+    write-saved-requires
+    (λ c. search needs)
+    returns-3)

@@ -1,4 +1,5 @@
-use Rattle.write.proofs.Sections.{records-size, lent}
+use Rattle.write.proofs.Sections.{records-size}
+use Rattle.output.proofs.Stretches.{lent}
 use Rattle.filelaws.proofs.Layouts.{checkpoint-layout}
 use Rattle.rules.specs.File.{encodeCheckpoint, decodeCheckpoint}
 use native.Mathlib.Omega.{arith}

@@ -1,4 +1,4 @@
-use Rattle.write.proofs.Sections.{lent}
+use Rattle.output.proofs.Stretches.{lent}
 use Rattle.write.proofs.Frames.{framesIn-size}
 use native.Mathlib.Omega.{arith}
 use borrow.Author.Needs.{needs}

@@ -1,7 +1,7 @@
-use Rattle.write.proofs.Sections.{put-both, put-one}
+use Rattle.output.proofs.Stretches.{put-both, put-one}
 use borrow.Author.Needs.{needs}
-use Rattle.save.proofs.write_hint_header.Statement.{statement}
-use Rattle.save.proofs.write_hint_header.Tie as tie
+use Rattle.output.proofs.write_hint_header.Statement.{statement}
+use Rattle.output.proofs.write_hint_header.Tie as tie
 
 returns : tie.Need-returns
 returns c =

@@ -1,8 +1,8 @@
 use mathlib.Core.Path.{_∙_}
 use native.Mathlib.Nat.{sub-zero}
 use borrow.Author.Needs.{needs}
-use Rattle.save.proofs.write_sum.Statement.{statement}
-use Rattle.save.proofs.write_sum.Tie as tie
+use Rattle.output.proofs.write_sum.Statement.{statement}
+use Rattle.output.proofs.write_sum.Tie as tie
 
 returns : tie.Need-returns
 returns c =
