@@ -1,8 +1,8 @@
 // How long the disc file of one list, or of both lists, will be.
+use disc_layout::slot_of;
 use disc_questions::one_fits;
 use disc_questions::two_fit;
 use disc_save::ask_both;
-use disc_save::slot_of;
 use index::refuses;
 use layout::saved_length;
 use rules::AreaIndex;

@@ -1,4 +1,8 @@
 // Saving one list, or both lists of a disc, as a disc file.
+use disc_layout::entry_of_one;
+use disc_layout::length_of_one;
+use disc_layout::slot_of;
+use disc_layout::stands_first;
 use disc_questions::one_fits;
 use disc_questions::two_fit;
 use disc_rules::Entry;
@@ -55,14 +59,6 @@ fn put_list(
     to
 }
 
-pub fn slot_of(x: AreaIndex) -> u8
-    ensures { λ r. ⌜ r ≡ x .area .key .slot ⌝ }
-{
-    let area = x.area;
-    let key = area.key;
-    key.slot
-}
-
 // ---- one list
 // A list that passes 1 to 4: 54, 40, then the file.
 fn write_list(
@@ -84,16 +80,11 @@ fn write_list(
     if !one_fits(slot, m) {
         return Saved::Refused(54);
     }
-    let total = 16 + m;
+    let total = length_of_one(m);
     if (out.len() as u64) < total {
         return Saved::Refused(40);
     }
-    let first = Entry {
-        slot: slot as u32,
-        offset: 16,
-        len: m as u32,
-    };
-    let at = write_one(out, first);
+    let at = write_one(out, entry_of_one(slot, m));
     put_list(
         out,
         at,
@@ -301,7 +292,7 @@ fn write_by_slot(
     requires { ⌜ (refusal x (tables (now checkpoints) (now frames) (now store) (now parts) (now malformed) (now hints) (now confirmed)) ≡ 0) × (refusal y (tables (now «other_checkpoints») (now «other_frames») (now «other_store») (now «other_parts») (now «other_malformed») (now «other_hints») (now «other_confirmed»)) ≡ 0) ⌝ }
     ensures { λ r. ⌜ made r (now (out .exit)) ≡ savedAs (bySlot (indexIn x (tables (now (checkpoints .entry)) (now (frames .entry)) (now (store .entry)) (now (parts .entry)) (now (malformed .entry)) (now (hints .entry)) (now (confirmed .entry)))) (indexIn y (tables (now («other_checkpoints» .entry)) (now («other_frames» .entry)) (now («other_store» .entry)) (now («other_parts» .entry)) (now («other_malformed» .entry)) (now («other_hints» .entry)) (now («other_confirmed» .entry))))) (now (out .entry)) ⌝ }
 {
-    if slot_of(x) < slot_of(y) {
+    if stands_first(x, y) {
         return write_lists(
             x,
             y,

@@ -1,4 +1,4 @@
-use mathlib.Core.Path.{refl}
+use mathlib.Core.Path.{refl, _∙_}
 use mathlib.Core.List.{[], _∷_}
 use native.Mathlib.Omega.{arith}
 use borrow.Author.Tests.{not-true, not-false}
@@ -29,6 +29,9 @@ slot-at p = search
 abbrev fits-at : tie.Else1 → tie.After-one-fits
 fits-at p = search
 
+abbrev passed-at : tie.After-length-of-one → tie.Else1
+passed-at p = search
+
 saved-length-requires : tie.Need-saved-length-requires
 saved-length-requires c κs =
     let start : tie.Start = search in
@@ -43,65 +46,70 @@ returns c =
     as-broken ((indexIn (start .args .x) (lent start)) ∷ []) (start .args .out .now)
     (one-contents (indexIn (start .args .x) (lent start)) (slot .slot-of .ensures) (size .saved-length .ensures (lent start) refl) (fits .one-fits .ensures)) (not-true _ (c .if1 .taken))
 
-add-total : tie.Need-add-total
-add-total c =
+length-of-one-requires : tie.Need-length-of-one-requires
+length-of-one-requires c κs =
     let passed : tie.Else1 = search in
     let fits = fits-at passed in
     let size = sized fits in
     let slot = slot-at size in
     let start = begin slot in
     let l = size .saved-length .ensures (lent start) refl in
-    omega (arith, one-small (indexIn (start .args .x) (lent start)) l (one-contents (indexIn (start .args .x) (lent start)) (slot .slot-of .ensures) l (fits .one-fits .ensures)) (not-false _ (passed .if1 .left)))
+    one-small (indexIn (start .args .x) (lent start)) l (one-contents (indexIn (start .args .x) (lent start)) (slot .slot-of .ensures) l (fits .one-fits .ensures)) (not-false _ (passed .if1 .left))
 
 returns-2 : tie.Need-returns-2
 returns-2 c =
-    let passed : tie.Else1 = search in
+    let total : tie.After-length-of-one = search in
+    let passed = passed-at total in
     let fits = fits-at passed in
     let size = sized fits in
     let slot = slot-at size in
     let start = begin slot in
     let l = size .saved-length .ensures (lent start) refl in
     as-short ((indexIn (start .args .x) (lent start)) ∷ []) (start .args .out .now) (one-contents (indexIn (start .args .x) (lent start)) (slot .slot-of .ensures) l (fits .one-fits .ensures)) (not-false _ (passed .if1 .left))
-    (one-length (indexIn (start .args .x) (lent start)) l) (c .if2 .taken)
+    (total .length-of-one .ensures ∙ one-length (indexIn (start .args .x) (lent start)) l) (c .if2 .taken)
 
-cast-t20 : tie.Need-cast-t20
-cast-t20 c =
+entry-of-one-requires : tie.Need-entry-of-one-requires
+entry-of-one-requires c κs =
     let passed : tie.Else1 = search in
     let fits = fits-at passed in
     let size = sized fits in
     let slot = slot-at size in
     let start = begin slot in
     let l = size .saved-length .ensures (lent start) refl in
-    omega (arith, one-small (indexIn (start .args .x) (lent start)) l (one-contents (indexIn (start .args .x) (lent start)) (slot .slot-of .ensures) l (fits .one-fits .ensures)) (not-false _ (passed .if1 .left)))
+    one-small (indexIn (start .args .x) (lent start)) l (one-contents (indexIn (start .args .x) (lent start)) (slot .slot-of .ensures) l (fits .one-fits .ensures)) (not-false _ (passed .if1 .left))
 
 write-one-requires : tie.Need-write-one-requires
 write-one-requires c κs =
     let long : tie.Else2 = search in
-    omega (arith, long .if2 .left)
+    let total : tie.After-length-of-one = search in
+    omega (arith, long .if2 .left, total .length-of-one .ensures)
 
 put-list-requires : tie.Need-put-list-requires
 put-list-requires c κs =
     let table : tie.After-write-one = search in
     let long : tie.Else2 = search in
-    let passed : tie.Else1 = search in
-    let size = sized (fits-at passed) in
+    let total : tie.After-length-of-one = search in
+    let size = sized (fits-at (passed-at total)) in
     let start = begin (slot-at size) in
-    (start .pre, size .saved-length .ensures (lent start) refl, omega (arith, long .if2 .left, table .write-one .ensures .ends, table .write-one .kept .0))
+    (start .pre, size .saved-length .ensures (lent start) refl, omega (arith, long .if2 .left, total .length-of-one .ensures, table .write-one .ensures .ends, table .write-one .kept .0))
 
 returns-3 : tie.Need-returns-3
 returns-3 c =
     let list : tie.After-put-list = search in
     let table : tie.After-write-one = search in
+    let first : tie.After-entry-of-one = search in
     let long : tie.Else2 = search in
-    let passed : tie.Else1 = search in
+    let total : tie.After-length-of-one = search in
+    let passed = passed-at total in
     let fits = fits-at passed in
     let size = sized fits in
     let slot = slot-at size in
     let start = begin slot in
     let l = size .saved-length .ensures (lent start) refl in
-    as-done ((indexIn (start .args .x) (lent start)) ∷ []) (start .args .out .now) (one-contents (indexIn (start .args .x) (lent start)) (slot .slot-of .ensures) l (fits .one-fits .ensures)) (not-false _ (passed .if1 .left))
-    (one-length (indexIn (start .args .x) (lent start)) l) (long .if2 .left)
-    (file-of-one (indexIn (start .args .x) (lent start)) (slot .slot-of .ensures) l (long .if2 .left) (table .write-one .ensures) (list .put-list .ensures))
+    let t = total .length-of-one .ensures in
+    rw t (as-done ((indexIn (start .args .x) (lent start)) ∷ []) (start .args .out .now) (one-contents (indexIn (start .args .x) (lent start)) (slot .slot-of .ensures) l (fits .one-fits .ensures)) (not-false _ (passed .if1 .left))
+    (one-length (indexIn (start .args .x) (lent start)) l) (rw t at (long .if2 .left))
+    (file-of-one (indexIn (start .args .x) (lent start)) (slot .slot-of .ensures) l (rw t at (long .if2 .left)) (rw (first .entry-of-one .ensures) at (table .write-one .ensures)) (list .put-list .ensures)))
 
 pub write-list-spec : {M : Type 1} → statement M
 write-list-spec =
@@ -111,10 +119,9 @@ write-list-spec =
     saved-length-requires
     (λ c κs. search needs)
     returns
-    add-total
+    length-of-one-requires
     returns-2
-    (λ c. search needs)
-    cast-t20
+    entry-of-one-requires
     write-one-requires
     put-list-requires
     (λ c. search needs)
