@@ -1,4 +1,4 @@
-// Where what a limit leaves lies in an accepted file.
+// Where what a limit leaves lies in an accepted file, and where the next frame begins.
 ghost use mathlib.Core.Path.{_≡_};
 ghost use Prim.Native.Nat.{_+_, _*_, _<_};
 ghost use Rattle.file_places.specs.Places.{confirmedSize, Inside, placesIn};
@@ -32,6 +32,14 @@ pub fn parts_from(n: u32, f: u32, used: u64) -> usize
     ensures { λ r. ⌜ r ≡ 80 + n * 24 + f * 8 + used ⌝ }
 {
     frames_from(n) + f as usize * 8 + used as usize
+}
+
+// Where the frame behind one at here begins, whose header names len bytes.
+pub fn next_frame(here: usize, len: usize) -> usize
+    requires { ⌜ here + 8 + len < 18446744073709551616 ⌝ }
+    ensures { λ r. ⌜ r ≡ here + 8 + len ⌝ }
+{
+    here + 8 + len
 }
 
 // The bytes of the section of n confirmations, which is not there where there are none.

@@ -3,6 +3,7 @@ use field::copy_first;
 use field::copy_part;
 use field::read_u32;
 use file_places::locate;
+use file_places::next_frame;
 use hints::thin_into;
 use index::Made;
 use index::question3;
@@ -72,7 +73,7 @@ fn commit_frames(frames: &mut [u8], store: &mut [u8], b: &[u8], at: usize, f: us
     let mut i = 0;
     while i < f {
         let len = move_frame(frames, store, b, here, i, used);
-        here = here + 8 + len;
+        here = next_frame(here, len);
         used += len;
         i += 1;
     }

@@ -33,14 +33,8 @@ move-frame-requires c κs =
     let in-loop : tie.In-loop Inv-loop μ-loop = search in
     move-room (at-loop .loop .inv .0) (in-loop .loop-test .taken)
 
-add-here : tie.Need-add-here Inv-loop μ-loop
-add-here c =
-    let at-loop : tie.At-loop Inv-loop μ-loop = search in
-    let in-loop : tie.In-loop Inv-loop μ-loop = search in
-    let r = move-room (at-loop .loop .inv .0) (in-loop .loop-test .taken) in omega arith
-
-add-here-2 : tie.Need-add-here-2 Inv-loop μ-loop
-add-here-2 c =
+next-frame-requires : tie.Need-next-frame-requires Inv-loop μ-loop
+next-frame-requires c κs =
     let at-loop : tie.At-loop Inv-loop μ-loop = search in
     let in-loop : tie.In-loop Inv-loop μ-loop = search in
     let after-move-frame : tie.After-move-frame Inv-loop μ-loop = search in
@@ -59,7 +53,8 @@ loop-again c =
     let in-loop : tie.In-loop Inv-loop μ-loop = search in
     let after-shared-slice-known : tie.After-shared-slice-known Inv-loop μ-loop = search in
     let after-move-frame : tie.After-move-frame Inv-loop μ-loop = search in
-    (move-on (at-loop .loop .inv .0) (in-loop .loop-test .taken) (λ i. (after-shared-slice-known .shared-slice-known .given) i .fits) (after-move-frame .move-frame .ensures), search needs, search needs)
+    let after-next-frame : tie.After-next-frame Inv-loop μ-loop = search in
+    (rw (after-next-frame .next-frame .ensures) (move-on (at-loop .loop .inv .0) (in-loop .loop-test .taken) (λ i. (after-shared-slice-known .shared-slice-known .given) i .fits) (after-move-frame .move-frame .ensures)), search needs, search needs)
 
 returns : tie.Need-returns Inv-loop μ-loop
 returns c = moved-all _ _ _ _ (move-end (c .before .loop .inv .0) (c .loop-test .left))
@@ -72,8 +67,7 @@ commit-frames-spec =
     μ-loop
     loop-holds
     move-frame-requires
-    add-here
-    add-here-2
+    next-frame-requires
     add-used
     (λ c. search needs)
     (λ c. search needs)
