@@ -5,8 +5,9 @@ use Prim.Native.Nat.{ℕ, suc}
 use borrow.Author.Tests.{eq-eqb}
 use Rattle.rules.specs.declared.First.{First}
 use Rattle.rules.specs.declared.First.the-variants.{Number, Nothing}
-use Rattle.examples.specs.declared.lines.Tally.{Tally}
-use Rattle.examples.specs.Count.{ended, allRight, sameFirst}
+use Rattle.tally.specs.declared.Tally.{Tally}
+use Rattle.tally.specs.Count.{ended, allRight}
+use Rattle.examples.specs.Same.{sameFirst}
 
 -- after n right ones, a line that is right too
 pub more : (n : ℕ) (t s r : Tally) (ok : Bool) → s ≡ allRight n t → r ≡ ended s ok → ok ≡ true → r ≡ allRight (suc n) t

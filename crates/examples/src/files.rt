@@ -2,12 +2,12 @@
 ghost use mathlib.Core.Path.{_≡_};
 ghost use lib.ListN.{length};
 use crate::lines;
-use crate::lines::Tally;
 use index::Made;
 use rules::Area;
 use rules::AreaIndex;
 use rules::AreaKey;
 use save::Saved;
+use tally::Tally;
 
 // An area without sectors.
 fn area() -> Area {

@@ -1,33 +1,14 @@
-// One line for each example, and the count of those that are as they should be.
+// One line for each example.
 ghost use mathlib.Core.Path.{_≡_};
-ghost use mathlib.Core.Bool.{cond};
 ghost use lib.Dec.{eqb};
-ghost use Rattle.examples.specs.Count.{ended};
+ghost use Rattle.tally.specs.Count.{ended};
 use libc::STDOUT_FILENO;
-
-// How many examples were run, and how many of them were right.
-pub struct Tally {
-    pub run: u64,
-    pub right: u64,
-}
-
-// No example was run yet.
-pub fn start() -> Tally
-    ensures { λ r. ⌜ (r .run ≡ 0) × (r .right ≡ 0) ⌝ }
-{
-    Tally { run: 0, right: 0 }
-}
+use tally::Tally;
+use tally::counted;
 
 // Writes text.
 pub fn say(text: &[u8]) {
     io::write_all(STDOUT_FILENO, text);
-}
-
-// 1 for true, 0 for false.
-fn one(b: bool) -> u64
-    ensures { λ r. ⌜ r ≡ cond b 1 0 ⌝ }
-{
-    if b { 1 } else { 0 }
 }
 
 // Ends a line, and counts its example.
@@ -35,10 +16,7 @@ pub fn end(t: Tally, right: bool) -> Tally
     ensures { λ r. ⌜ r ≡ ended t right ⌝ }
 {
     say(b"\n");
-    Tally {
-        run: std::num::wrapping_add_u64(t.run, 1),
-        right: std::num::wrapping_add_u64(t.right, one(right)),
-    }
+    counted(t, right)
 }
 
 // A line of two numbers of 16 hexadecimal digits.

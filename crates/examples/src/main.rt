@@ -6,7 +6,7 @@ mod lines;
 mod records;
 
 fn main() {
-    let t = lines::start();
+    let t = tally::start();
     let t = hashes::vectors(t);
     let t = records::examples(t);
     let t = files::examples(t);
