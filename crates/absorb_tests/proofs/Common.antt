@@ -22,7 +22,7 @@ use Rattle.rules.proofs.Walk.{Snoc, ends, lastOr-snoc}
 use Rattle.rules.proofs.Same.{eqb-self}
 use Rattle.table.proofs.Walk.{records-turn}
 use Rattle.filelaws.proofs.Layouts.{lsn-layout}
-use Rattle.join.proofs.Common.{common-by}
+use Rattle.common_checkpoints.proofs.Common.{common-by}
 use Rattle.absorblaws.specs.Twelve.{notBelow, continues}
 
 none-left : {A : Type 0} (same : A → A → Bool) (xs ys : List A) → min (length xs) (length ys) ≡ 0 → agrees same xs ys ≡ true

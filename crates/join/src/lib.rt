@@ -1,8 +1,7 @@
 // What a merge asks of two lists in their tables: 1 to 4 of both, and 41 to 43.
+use common_checkpoints::same_checkpoints;
 use create::agrees;
 use field::and;
-use field::min_u64;
-use field::same;
 use header_questions::same_key;
 use index::refuses;
 use index_questions::lowest;
@@ -18,9 +17,8 @@ ghost use mathlib.Core.List.{List};
 ghost use Prim.Native.Nat.{ℕ, _*_, _≤_};
 ghost use lib.Dec.{eqb};
 ghost use lib.ListN.{length};
-ghost use Rattle.rules.specs.Tests.{agree, agrees};
-ghost use Rattle.rules.specs.Values.{stated, sameArea, sameCheckpoint, sameEnd};
-ghost use Rattle.table.specs.Tables.{checkpointsIn};
+ghost use Rattle.rules.specs.Tests.{agree};
+ghost use Rattle.rules.specs.Values.{stated, sameArea, sameEnd};
 ghost use Rattle.index.specs.Index.{tables};
 ghost use Rattle.sections.specs.Numbers.{endIn, idIn};
 ghost use Rattle.join.specs.Join.{mergeRefusal};
@@ -80,16 +78,6 @@ fn question42(x: AreaIndex, y: AreaIndex) -> bool
 }
 
 // ---- 43
-// The checkpoints that both have, compared as bytes.
-fn same_checkpoints(a: &[u8], n: u32, b: &[u8], m: u32) -> bool
-    requires { ⌜ (n * 24 ≤ length (now a)) × (m * 24 ≤ length (now b)) ⌝ }
-    ensures { λ r. ⌜ r ≡ agrees sameCheckpoint (checkpointsIn n (now (a .entry))) (checkpointsIn m (now (b .entry))) ⌝ }
-{
-    let common = min_u64(n as u64, m as u64) as usize;
-    let e = common * 24;
-    same(&a[0..e], &b[0..e])
-}
-
 fn same_state(a: EndState, b: EndState) -> bool
     ensures { λ r. ⌜ r ≡ sameEnd a b ⌝ }
 {

@@ -1,11 +1,11 @@
 use mathlib.Core.Path.{refl}
-use Rattle.join.proofs.Common.{common-by}
+use Rattle.common_checkpoints.proofs.Common.{common-by}
 use Rattle.filelaws.proofs.Layouts.{checkpoint-layout}
 use Rattle.rules.specs.Values.{sameCheckpoint}
 use Rattle.rules.proofs.Same.{sameCheckpoint-eq, sameCheckpoint-self}
 use borrow.Author.Needs.{needs}
-use Rattle.join.proofs.same_checkpoints.Statement.{statement}
-use Rattle.join.proofs.same_checkpoints.Tie as tie
+use Rattle.common_checkpoints.proofs.same_checkpoints.Statement.{statement}
+use Rattle.common_checkpoints.proofs.same_checkpoints.Tie as tie
 
 returns : tie.Need-returns
 returns c =
