@@ -10,6 +10,7 @@ use lib.Dec.{eqb, leb, ltb}
 use Rattle.field.proofs.Records.{records-length}
 use Rattle.rules.specs.declared.AreaIndex.{AreaIndex}
 use Rattle.rules.specs.declared.ImageId.{ImageId}
+use Rattle.rules.specs.declared.Mode.{Mode}
 use Rattle.rules.specs.declared.Mode.the-variants.{Stopped}
 use Rattle.rules.specs.declared.Recorder.{Recorder}
 use Rattle.rules.specs.Values.{Index}
@@ -75,6 +76,11 @@ module _ (r : Recorder) (u : RecorderTables) where
 
   refused-is : (n : ℕ) → recorderFrom (cond (eqb n 8) (withMode (recorderIn r u) Stopped) (recorderIn r u)) ≡ cond (eqb n 8) (modeOf r Stopped) r
   refused-is n = test (eqb n 8) (λ e. rw e stopped-is) (λ e. rw e recorder-back)
+
+-- ---- a refused recorder
+pub stopped-by : (r : Recorder) (n : ℕ) {m : Mode} → m ≡ cond (eqb n 8) Stopped (r .mode) → modeOf r m ≡ cond (eqb n 8) (modeOf r Stopped) r
+unfolding modeOf
+stopped-by r n e = test (eqb n 8) (λ h. rw (e, h)) (λ h. rw (e, h))
 
 -- ---- the call
 module _ (x : AreaIndex) (t : Tables) (image : ImageId) (given : List ℕ) (r : Recorder) (u : RecorderTables) {n : ℕ} (e : n ≡ absorbRefusal x t image given r u) where

@@ -1,5 +1,7 @@
 // Absorbing a recorder into an index, in their tables.
 use absorb_commit::commit;
+use absorb_modes::drained;
+use absorb_modes::mode_after;
 use absorb_refuses::absorb_refuses;
 use absorb_refuses::is_stopped;
 use field::and;
@@ -13,7 +15,7 @@ ghost use mathlib.Core.Bool.{_&&_, not, cond};
 ghost use Prim.Native.Nat.{_+_, _≤_};
 ghost use lib.Dec.{eqb};
 ghost use Rattle.rules.specs.declared.Mode.the-variants.{Stopped};
-ghost use Rattle.rules.specs.Record.{drained, isStopped};
+ghost use Rattle.rules.specs.Record.{isStopped};
 ghost use Rattle.index.specs.Index.{tables};
 ghost use Rattle.recorder.specs.Recorder.{recorderTables};
 ghost use Rattle.recorder.specs.Needs.{modeOf};
@@ -32,21 +34,9 @@ pub struct Absorbed {
 fn stop_recording(r: Recorder, number: u32) -> Recorder
     ensures { λ q. ⌜ q ≡ cond (eqb number 8) (modeOf r Stopped) r ⌝ }
 {
-    if number != 8 {
-        return r;
-    }
-    with_mode(r, Mode::Stopped)
-}
-
-// The mode of an emptied recorder: stopped if finished.
-fn drained(mode: Mode) -> Mode
-    ensures { λ q. ⌜ q ≡ drained mode ⌝ }
-{
-    match mode {
-        Mode::Running => Mode::Running,
-        Mode::Finished(_) => Mode::Stopped,
-        Mode::Stopped => Mode::Stopped,
-    }
+    let held = r.mode;
+    let mode = mode_after(held, number);
+    with_mode(r, mode)
 }
 
 // The recorder emptied.

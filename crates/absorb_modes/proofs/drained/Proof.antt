@@ -1,7 +1,7 @@
 use Rattle.rules.specs.Record.{drained}
 use borrow.Author.Needs.{needs}
-use Rattle.absorb.proofs.drained.Statement.{statement}
-use Rattle.absorb.proofs.drained.Tie as tie
+use Rattle.absorb_modes.proofs.drained.Statement.{statement}
+use Rattle.absorb_modes.proofs.drained.Tie as tie
 
 returns : tie.Need-returns
 unfolding drained
