@@ -4,7 +4,8 @@ use field::copy_part;
 use field::min_u64;
 use field::or;
 use field::same;
-use part_records::kind_number;
+use part_questions::alike;
+use part_questions::passed_over;
 use part_records::write_header;
 use part_records::write_held;
 use rules::FrameKind;
@@ -23,7 +24,7 @@ ghost use lib.ListN.{length, take, drop};
 ghost use lib.Seq.{sets};
 ghost use Rattle.field.specs.Number.{encode};
 ghost use Rattle.rules.specs.Tests.{agrees, lastOr};
-ghost use Rattle.rules.specs.Values.{maxFrame, noHeld, sameKind, used};
+ghost use Rattle.rules.specs.Values.{maxFrame, noHeld, used};
 ghost use Rattle.rules.specs.PartRule.{stores, addPart, addParts};
 ghost use Rattle.rules.specs.File.{unsigned32, kindNumber, encodeHeld};
 ghost use Rattle.table.specs.Tables.{headersIn, headerAt, framesIn, partsIn};
@@ -90,16 +91,6 @@ fn bytes_agree(store: &[u8], used: usize, len: usize, bytes: &[u8]) -> bool
     same(&store[a..e], &bytes[0..c])
 }
 
-// Is q, the last part, of the number and kind of p, with no more than n bytes?
-fn alike(q: Held, p: Piece, n: usize) -> bool
-    ensures { λ r. ⌜ r ≡ (eqb (q .number) (p .number) && (sameKind (q .kind) (p .kind) && leb (q .len) n)) ⌝ }
-{
-    let kind = q.kind;
-    let other = p.kind;
-    let same = kind_number(kind) == kind_number(other);
-    and(q.number == p.number, and(same, q.len as usize <= n))
-}
-
 // Does the part go into the last frame, whose header is last?
 fn joins(c: Counts, last: FrameHeader, p: Piece, bytes: &[u8], store: &[u8], parts: &[u8]) -> bool
     requires { ⌜ (1 ≤ c .parts) × (c .parts * 24 ≤ length (now parts)) × (last .len ≤ c .used) × (c .used ≤ length (now store)) ⌝ }
@@ -108,7 +99,9 @@ fn joins(c: Counts, last: FrameHeader, p: Piece, bytes: &[u8], store: &[u8], par
     let h = c.parts as usize;
     let q = read_held(parts, h - 1);
     let agrees = bytes_agree(store, c.used as usize, last.len as usize, bytes);
-    and(last.start == p.start, and(alike(q, p, bytes.len()), agrees))
+    let kind = p.kind;
+    let like = alike(q, p.number, kind, bytes.len());
+    and(last.start == p.start, and(like, agrees))
 }
 
 // Is the part stored?
@@ -259,7 +252,7 @@ fn add_one(
     requires { ⌜ (n ≤ p .at → Room 1 budget c (partTables (now frames) (now store) (now parts))) × (from + p .len ≤ length (now other)) ⌝ }
     ensures { λ r. ⌜ held r (partTables (now (frames .exit)) (now (store .exit)) (now (parts .exit))) ≡ addedBy budget n c (heldPiece p start (take (p .len) (drop from (now (other .entry))))) (partTables (now (frames .entry)) (now (store .entry)) (now (parts .entry))) ⌝ }
 {
-    if p.at < n {
+    if passed_over(p.at, n) {
         return c;
     }
     let kind = p.kind;

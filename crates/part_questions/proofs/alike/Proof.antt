@@ -1,10 +1,12 @@
 use Rattle.part_records.proofs.Records.{same-kind}
 use borrow.Author.Needs.{needs}
-use Rattle.parts.proofs.alike.Statement.{statement}
-use Rattle.parts.proofs.alike.Tie as tie
+use Rattle.part_questions.proofs.alike.Statement.{statement}
+use Rattle.part_questions.proofs.alike.Tie as tie
 
 returns : tie.Need-returns
-returns c = cc (same-kind (c .before .before .before .before .before .before .before .args .q .kind) (c .before .before .before .before .before .before .before .args .p .kind))
+returns c =
+    let start : tie.Start = search in
+    cc (same-kind (start .args .q .kind) (start .args .other))
 
 pub alike-spec : {M : Type 1} → statement M
 alike-spec =
