@@ -1,17 +1,14 @@
 // The questions of a disc file and of the list files in it, asked before anything is written.
+use disc_questions::areas_ok;
 use disc_rules::Entry;
 use disc_table::Contents;
 use disc_table::Place;
 use disc_table::read_contents;
-use field::and;
-use index_questions::question1;
 use inspect::Found;
 use load::Decided as Said;
 use rules::Area;
 use rules::AreaIndex;
 ghost use mathlib.Core.Path.{_≡_};
-ghost use mathlib.Core.Bool.{_&&_};
-ghost use Rattle.disc_rules.specs.Disc.{slotArea};
 ghost use Rattle.disc_table.specs.Inside.{Inside};
 ghost use Rattle.index.specs.Index.{tables};
 ghost use Rattle.disc_ask.specs.Ask.{BodyDecision, decidedBy, Located, Decision};
@@ -78,17 +75,6 @@ fn ask_body(
 }
 
 // ---- the file
-// 1 of both areas; another slot gives 1.
-pub fn areas_ok(area0: Area, area1: Area) -> bool
-    ensures { λ r. ⌜ r ≡ (slotArea 0 area0 && slotArea 1 area1) ⌝ }
-{
-    let key0 = area0.key;
-    let key1 = area1.key;
-    let first = and(question1(area0), key0.slot == 0);
-    let second = and(question1(area1), key1.slot == 1);
-    and(first, second)
-}
-
 // The first failing body's own number, or both.
 fn decide_by(asked: Asked, other: Asked) -> Decided
     ensures { λ r. ⌜ r ≡ decidedBy asked other ⌝ }

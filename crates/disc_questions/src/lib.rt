@@ -1,13 +1,27 @@
-// Question 54: a contents table that is read, and lists to be saved.
+// Question 1 of both areas of a disc, and question 54: a contents table that is read, and lists to be saved.
 use disc_rules::Entry;
 use field::and;
+use index_questions::question1;
+use rules::Area;
 use rules::MAX_U32;
 ghost use mathlib.Core.Path.{_≡_};
 ghost use mathlib.Core.Bool.{_&&_};
 ghost use mathlib.Core.List.{[], _∷_};
 ghost use Prim.Native.Nat.{_+_};
 ghost use lib.Dec.{eqb, leb};
-ghost use Rattle.disc_rules.specs.Disc.{entry, laid, listed};
+ghost use Rattle.disc_rules.specs.Disc.{entry, laid, listed, slotArea};
+
+// ---- the areas
+// 1 of both areas; another slot gives 1.
+pub fn areas_ok(area0: Area, area1: Area) -> bool
+    ensures { λ r. ⌜ r ≡ (slotArea 0 area0 && slotArea 1 area1) ⌝ }
+{
+    let key0 = area0.key;
+    let key1 = area1.key;
+    let first = and(question1(area0), key0.slot == 0);
+    let second = and(question1(area1), key1.slot == 1);
+    and(first, second)
+}
 
 // ---- reading
 // Is the slot 0 or 1 and not below the given one, and does the body begin there?

@@ -1,5 +1,5 @@
 // How long the tables of both lists of a disc file have to be.
-use disc_ask::areas_ok;
+use disc_questions::areas_ok;
 use disc_table::Contents;
 use disc_table::Place;
 use disc_table::read_contents;

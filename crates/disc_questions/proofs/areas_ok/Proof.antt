@@ -1,7 +1,7 @@
 use Rattle.disc_rules.specs.Disc.{slotArea}
 use borrow.Author.Needs.{needs}
-use Rattle.disc_ask.proofs.areas_ok.Statement.{statement}
-use Rattle.disc_ask.proofs.areas_ok.Tie as tie
+use Rattle.disc_questions.proofs.areas_ok.Statement.{statement}
+use Rattle.disc_questions.proofs.areas_ok.Tie as tie
 
 returns : tie.Need-returns
 unfolding slotArea
