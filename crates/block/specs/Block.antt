@@ -17,7 +17,8 @@ use Rattle.rules.specs.declared.Recorder.{Recorder}
 use Rattle.rules.specs.File.{unsigned32, kindNumber, bit, over}
 use Rattle.rules.specs.Tests.{Answer, Refused, Accepted}
 use Rattle.adds.specs.declared.Brings.{Brings}
-use Rattle.head.specs.Head.{wordsIn, blockOf, indexFrom, recorderFrom, hintRecorderFrom}
+use Rattle.head_from.specs.From.{indexFrom, recorderFrom, hintRecorderFrom}
+use Rattle.head.specs.Head.{wordsIn, blockOf}
 use Rattle.save.specs.declared.Saved.{Saved}
 use Rattle.save.specs.declared.Saved.the-variants as saved
 use Rattle.save.specs.Save.{SaveOut}

@@ -1,12 +1,12 @@
 // Answers of calls as a number and a block: 0 and words over the start of the block, or the refusal number and the block as it was.
 use adds::Added;
 use adds::Brings;
-use head::hint_recorder_from;
-use head::index_from;
 use head::index_words;
 use head::read_words;
-use head::recorder_from;
 use head::write_words;
+use head_from::hint_recorder_from;
+use head_from::index_from;
+use head_from::recorder_from;
 use index::Made;
 use part_records::kind_number;
 use part_records::unsigned;
@@ -30,7 +30,8 @@ ghost use Prim.Native.Nat.{_≤_};
 ghost use lib.ListN.{length};
 ghost use Rattle.rules.specs.File.{bit};
 ghost use Rattle.rules.specs.Tests.{Accepted};
-ghost use Rattle.head.specs.Head.{wordsIn, indexFrom, recorderFrom, hintRecorderFrom, indexWords};
+ghost use Rattle.head_from.specs.From.{indexFrom, recorderFrom, hintRecorderFrom};
+ghost use Rattle.head.specs.Head.{wordsIn, indexWords};
 ghost use Rattle.create.specs.Calls.{madeOf};
 ghost use Rattle.plan.specs.Calls.{plannedOf};
 ghost use Rattle.adds.specs.Brings.{addsOf};

@@ -7,7 +7,8 @@ use Rattle.rules.specs.declared.AreaIndex.{AreaIndex}
 use Rattle.rules.specs.declared.HintRecorder.{HintRecorder}
 use Rattle.rules.specs.declared.Recorder.{Recorder}
 use Rattle.rules.specs.File.{over}
-use Rattle.head.specs.Head.{wordsIn, blockOf, endWords, fingerprintWords, imageWords, modeWords, lastWords, tailWords, indexFrom, recorderFrom, hintRecorderFrom, indexWords, recorderWords, hintRecorderWords}
+use Rattle.head_from.specs.From.{indexFrom, recorderFrom, hintRecorderFrom}
+use Rattle.head.specs.Head.{wordsIn, blockOf, endWords, fingerprintWords, imageWords, modeWords, lastWords, tailWords, indexWords, recorderWords, hintRecorderWords}
 
 -- numbers have the widths of their types
 abbrev pub Fits8 : ℕ → Type 0

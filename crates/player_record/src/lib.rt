@@ -8,7 +8,7 @@ use recorder_block::put_absorbed;
 use recorder_block::put_recorded;
 use rules::EndState;
 ghost use mathlib.Core.Path.{_≡_};
-ghost use Rattle.head.specs.Head.{imageFrom};
+ghost use Rattle.head_from.specs.From.{imageFrom};
 ghost use Rattle.index.specs.Index.{tables};
 ghost use Rattle.recorder.specs.Recorder.{recorderTables};
 ghost use Rattle.block.specs.Block.{called};

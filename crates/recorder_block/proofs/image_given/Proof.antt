@@ -1,5 +1,5 @@
 use borrow.Author.Tests.{eq-eqb, ne-eqb}
-use Rattle.head.specs.Head.{imageFrom}
+use Rattle.head_from.specs.From.{imageFrom}
 use borrow.Author.Needs.{needs}
 use Rattle.recorder_block.proofs.image_given.Statement.{statement}
 use Rattle.recorder_block.proofs.image_given.Tie as tie

@@ -1,8 +1,8 @@
 use borrow.Author.Tests.{eq-eqb, ne-eqb}
-use Rattle.head.specs.Head.{imageFrom}
+use Rattle.head_from.specs.From.{imageFrom}
 use borrow.Author.Needs.{needs}
-use Rattle.head.proofs.image_from.Statement.{statement}
-use Rattle.head.proofs.image_from.Tie as tie
+use Rattle.head_from.proofs.image_from.Statement.{statement}
+use Rattle.head_from.proofs.image_from.Tie as tie
 
 returns : tie.Need-returns
 unfolding imageFrom

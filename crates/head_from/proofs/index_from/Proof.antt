@@ -1,7 +1,7 @@
-use Rattle.head.specs.Head.{indexFrom}
+use Rattle.head_from.specs.From.{indexFrom}
 use borrow.Author.Needs.{needs}
-use Rattle.head.proofs.index_from.Statement.{statement}
-use Rattle.head.proofs.index_from.Tie as tie
+use Rattle.head_from.proofs.index_from.Statement.{statement}
+use Rattle.head_from.proofs.index_from.Tie as tie
 
 area-from-requires : tie.Need-area-from-requires
 area-from-requires c κs = search needs

@@ -1,8 +1,8 @@
 use borrow.Author.Tests.{eq-eqb, ne-eqb}
-use Rattle.head.specs.Head.{endFrom}
+use Rattle.head_from.specs.From.{endFrom}
 use borrow.Author.Needs.{needs}
-use Rattle.head.proofs.end_from.Statement.{statement}
-use Rattle.head.proofs.end_from.Tie as tie
+use Rattle.head_from.proofs.end_from.Statement.{statement}
+use Rattle.head_from.proofs.end_from.Tie as tie
 
 returns : tie.Need-returns
 unfolding endFrom

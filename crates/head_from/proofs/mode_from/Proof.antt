@@ -1,8 +1,8 @@
 use borrow.Author.Tests.{eq-eqb, ne-eqb}
-use Rattle.head.specs.Head.{modeFrom}
+use Rattle.head_from.specs.From.{modeFrom}
 use borrow.Author.Needs.{needs}
-use Rattle.head.proofs.mode_from.Statement.{statement}
-use Rattle.head.proofs.mode_from.Tie as tie
+use Rattle.head_from.proofs.mode_from.Statement.{statement}
+use Rattle.head_from.proofs.mode_from.Tie as tie
 
 returns : tie.Need-returns
 unfolding modeFrom

@@ -1,7 +1,7 @@
-use Rattle.head.specs.Head.{hintRecorderFrom}
+use Rattle.head_from.specs.From.{hintRecorderFrom}
 use borrow.Author.Needs.{needs}
-use Rattle.head.proofs.hint_recorder_from.Statement.{statement}
-use Rattle.head.proofs.hint_recorder_from.Tie as tie
+use Rattle.head_from.proofs.hint_recorder_from.Statement.{statement}
+use Rattle.head_from.proofs.hint_recorder_from.Tie as tie
 
 array-read-t5 : tie.Need-array-read-t5
 array-read-t5 c = search needs

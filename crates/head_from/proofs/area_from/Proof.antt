@@ -1,8 +1,8 @@
 use mathlib.Core.Path.{refl}
-use Rattle.head.specs.Head.{areaFrom}
+use Rattle.head_from.specs.From.{areaFrom}
 use borrow.Author.Needs.{needs}
-use Rattle.head.proofs.area_from.Statement.{statement}
-use Rattle.head.proofs.area_from.Tie as tie
+use Rattle.head_from.proofs.area_from.Statement.{statement}
+use Rattle.head_from.proofs.area_from.Tie as tie
 
 array-read-t6 : tie.Need-array-read-t6
 array-read-t6 c = search needs
