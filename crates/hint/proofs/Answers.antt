@@ -21,7 +21,7 @@ use Rattle.index.specs.Index.{Tables, refusal, kindsIn}
 use Rattle.index.specs.Needs.{Passes, heldQuestion4}
 use Rattle.index.proofs.Four.{Later, kinded-index}
 use Rattle.index.proofs.Questions.{range, passes-hints}
-use Rattle.plan.specs.Needs.{lastIn}
+use Rattle.plan_questions.specs.Search.{lastIn}
 use Rattle.hintplace.proofs.Place.{last-some, place-near}
 use Rattle.hint.specs.declared.HintAnswer.the-variants as answer
 use Rattle.hint.specs.Calls.{hintedOf, answerOf, hintIn}

@@ -19,7 +19,7 @@ use Rattle.rules.specs.File.{decodeHint}
 use Rattle.rules.specs.Hints.{near, confirmedAt, larger, largerOf, largestOf, hintPlace}
 use Rattle.rules.proofs.Tests.{test, never, and-left}
 use Rattle.table.specs.Tables.{hintsIn}
-use Rattle.plan.specs.Needs.{lastIn}
+use Rattle.plan_questions.specs.Search.{lastIn}
 use Rattle.hintplace.specs.Place.{candidate, largestIn}
 
 some-is : {a b : ℕ} → _≡_ {A = Option ℕ} (some a) (some b) → a ≡ b

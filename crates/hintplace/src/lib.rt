@@ -12,7 +12,7 @@ ghost use Prim.Native.Nat.{_+_, _-_, _*_, _≤_, _<_};
 ghost use lib.ListN.{length};
 ghost use Rattle.rules.specs.Hints.{near, confirmedAt, largerOf, hintPlace};
 ghost use Rattle.table.specs.Tables.{hintsIn, confirmationsIn};
-ghost use Rattle.plan.specs.Needs.{lastIn};
+ghost use Rattle.plan_questions.specs.Search.{lastIn};
 ghost use Rattle.hintplace.specs.Place.{Ordered, candidate, largestIn};
 
 // What is left of a after b; 0 where b is more.

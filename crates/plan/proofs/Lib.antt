@@ -1,4 +1,4 @@
-pub mod Search
+pub mod Rising
 pub mod Held
 pub mod Steps
 pub mod Part

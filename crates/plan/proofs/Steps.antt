@@ -1,11 +1,10 @@
 -- A plan by its parts: the end state, the search, the checkpoint and its part. Assumes nothing.
 use mathlib.Core.Path.{_≡_, refl, sym, ap, _∙_}
-use mathlib.Core.List.{List, []}
+use mathlib.Core.List.{[]}
 use mathlib.Core.Option.{some}
-use Prim.Native.Nat.{ℕ, zero, suc, _+_, _-_, _<_, _≤_}
+use Prim.Native.Nat.{ℕ, zero, suc, _-_, _<_, _≤_}
 use native.Mathlib.Omega.{arith}
 use borrow.Author.Tests.{le-leb, lt-leb, eq-eqb, ne-eqb}
-use lib.ListN.{length, take, drop}
 use Rattle.field.proofs.Records.{records-length}
 use Rattle.rules.specs.declared.AreaIndex.{AreaIndex}
 use Rattle.rules.specs.declared.Assembly.{Assembly}
@@ -17,17 +16,18 @@ use Rattle.rules.specs.declared.Plan.the-variants as variant
 use Rattle.rules.specs.Tests.{each, firstNo, Accepted, after}
 use Rattle.rules.specs.Values.{checkpointAt, lsnOf}
 use Rattle.rules.specs.File.{decodeCheckpoint}
-use Rattle.rules.specs.Plan.{lastNotAbove, assemblyOf, planFrom, planOr, planned, plan, bytesAt}
+use Rattle.rules.specs.Plan.{lastNotAbove, assemblyOf, planFrom, planOr, planned, plan}
 use Rattle.table.specs.Tables.{checkpointsIn, framesIn, partsIn}
 use Rattle.plan.specs.declared.Planned.the-variants as variants
 use Rattle.index.specs.Index.{Tables, indexIn, refusal}
 use Rattle.sections.specs.Numbers.{endIn}
 use Rattle.plan.specs.Calls.{plannedOf, planIn}
 use Rattle.index.specs.Needs.{Passes}
-use Rattle.plan.specs.Needs.{Ready, lastIn, resumeIn, withinOf, planOf}
+use Rattle.plan_questions.specs.Search.{lastIn}
+use Rattle.plan.specs.Needs.{Ready, resumeIn, withinOf, planOf}
 use Rattle.index.proofs.Four.{kinded-index}
 use Rattle.index.proofs.Questions.{range, passes-long, checkpoints-hold}
-use Rattle.plan.proofs.Search.{rising}
+use Rattle.plan.proofs.Rising.{rising}
 
 pub ready : {x : AreaIndex} {t : Tables} → Passes x t → Ready x (t .checkpoints) (t .frames) (t .parts)
 ready {x} {t} p =
@@ -92,13 +92,3 @@ module _ (x : AreaIndex) (t : Tables) where
     pub plan-yes : {n : ℕ} {p : Plan} → n ≡ refusal x t → n ≡ 0 → p ≡ planOf x t f → plannedOf (variants.Plan p) ≡ planIn x t f
     unfolding plannedOf planOf after firstNo
     plan-yes {n} e h g = sym (answer-is e ∙ rw (eq-eqb n 0 h, g))
-
--- ---- the bytes of a part
-module _ (store : List ℕ) (offset len : ℕ) where
-  pub bytes-none : length store < offset + len → [] ≡ bytesAt store offset len
-  unfolding bytesAt
-  bytes-none h = sym (rw (lt-leb (offset + len) (length store) h))
-
-  pub bytes-some : offset + len ≤ length store → take (offset + len - offset) (drop offset store) ≡ bytesAt store offset len
-  unfolding bytesAt
-  bytes-some h = let q : offset + len - offset ≡ len = omega arith in sym (rw (le-leb (offset + len) (length store) h, q))

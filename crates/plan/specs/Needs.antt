@@ -1,9 +1,7 @@
 -- What the functions of plan need of each other.
-use Prim.Native.Nat.{ℕ, zero, suc, _*_, _≤_, _<_}
+use Prim.Native.Nat.{ℕ, _*_, _≤_}
 use mathlib.Core.List.{List}
-use mathlib.Core.Option.{Option, none, some}
 use lib.ListN.{length}
-use Rattle.field.specs.Records.{recordAt}
 use Rattle.rules.specs.declared.AreaIndex.{AreaIndex}
 use Rattle.rules.specs.declared.Assembly.{Assembly}
 use Rattle.rules.specs.declared.Assembly.the-variants.{Stored}
@@ -11,12 +9,8 @@ use Rattle.rules.specs.declared.Held.{Held}
 use Rattle.rules.specs.declared.Plan.{Plan}
 use Rattle.rules.specs.Values.{Frame}
 use Rattle.rules.specs.Plan.{offsetOf, lastNotAbove, resume, planFrom, planned, plan}
-use Rattle.rules.specs.File.{decodeCheckpoint}
 use Rattle.index.specs.Index.{Tables, tables, indexIn}
-
--- the thresholds of n checkpoints do not fall
-pub record Rising (n : ℕ) (t : List ℕ) : Type 0 where
-  pub keys : (i k : ℕ) → i ≤ k → k < n → recordAt 24 decodeCheckpoint t i .threshold ≤ recordAt 24 decodeCheckpoint t k .threshold
+use Rattle.plan_questions.specs.Search.{Rising}
 
 -- what a plan reads of the tables
 pub record Ready (x : AreaIndex) (cs fs ps : List ℕ) : Type 0 where
@@ -29,11 +23,6 @@ pub record Ready (x : AreaIndex) (cs fs ps : List ℕ) : Type 0 where
 -- a part as a plan names it
 abbrev pub storedOf : List Frame → Held → Assembly
 storedOf fs p = Stored (record { kind = p .kind; number = p .number; remaining = p .remaining; offset = offsetOf fs (p .frame); len = p .len })
-
--- the last of n
-unfoldable pub lastIn : ℕ → Option ℕ
-lastIn zero = none
-lastIn (suc n) = some n
 
 -- ---- a plan in the tables
 unfoldable pub resumeIn : AreaIndex → Tables → ℕ → Plan

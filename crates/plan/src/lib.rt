@@ -1,5 +1,8 @@
-// Where to start for a frame, and the bytes of a held part.
+// Where to start for a frame.
 use index::refuses;
+use plan_questions::at_end;
+use plan_questions::is_none;
+use plan_questions::not_above;
 use rules::AreaIndex;
 use rules::Assembly;
 use rules::End;
@@ -10,36 +13,16 @@ use rules::Resume;
 use sections::lsn_at;
 use table::get_checkpoint;
 use table::get_header;
-use table::read_checkpoint;
 use table::read_held;
 ghost use mathlib.Core.Path.{_≡_};
 ghost use mathlib.Core.List.{List};
 ghost use Prim.Native.Nat.{ℕ, _*_, _≤_};
 ghost use lib.ListN.{length};
-ghost use Rattle.rules.specs.Plan.{offsetOf, assemblyOf, lastNotAbove, bytesAt};
-ghost use Rattle.table.specs.Tables.{checkpointsIn, framesIn, partsIn};
+ghost use Rattle.rules.specs.Plan.{offsetOf, assemblyOf};
+ghost use Rattle.table.specs.Tables.{framesIn, partsIn};
 ghost use Rattle.index.specs.Index.{tables};
 ghost use Rattle.plan.specs.Calls.{plannedOf, planIn};
-ghost use Rattle.plan.specs.Needs.{lastIn, Rising, Ready, storedOf, resumeIn, withinOf, planOf};
-
-// How many checkpoints are not above frame first.
-fn not_above(checkpoints: &[u8], n: usize, first: u32) -> usize
-    requires { ⌜ (n * 24 ≤ length (now checkpoints)) × Rising n (now checkpoints) ⌝ }
-    ensures { λ r. ⌜ (lastIn r ≡ lastNotAbove first (checkpointsIn n (now (checkpoints .entry))) n) × (r ≤ n) ⌝ }
-{
-    let mut lo = 0;
-    let mut hi = n;
-    while lo < hi {
-        let mid = lo + (hi - lo) / 2;
-        let c = read_checkpoint(checkpoints, mid);
-        if c.threshold <= first {
-            lo = mid + 1;
-        } else {
-            hi = mid;
-        }
-    }
-    lo
-}
+ghost use Rattle.plan.specs.Needs.{Ready, storedOf, resumeIn, withinOf, planOf};
 
 // Where the bytes of frame number g begin in the store.
 fn offset_of(frames: &[u8], f: usize, g: u32) -> u64
@@ -109,7 +92,7 @@ fn plan_within(x: AreaIndex, first: u32, checkpoints: &[u8], frames: &[u8], part
 {
     let n = x.checkpoints as usize;
     let count = not_above(checkpoints, n, first);
-    if count == 0 {
+    if is_none(count) {
         return Plan::Start;
     }
     resume(x, (count - 1) as u32, checkpoints, frames, parts)
@@ -123,7 +106,7 @@ fn plan_in(x: AreaIndex, first: u32, checkpoints: &[u8], frames: &[u8], parts: &
     match ending {
         End::Open => plan_within(x, first, checkpoints, frames, parts),
         End::Closed(e) => {
-            if e.threshold <= first {
+            if at_end(e.threshold, first) {
                 return Plan::End(e);
             }
             plan_within(x, first, checkpoints, frames, parts)
@@ -164,21 +147,4 @@ pub fn plan(
         return Planned::Refused(number);
     }
     Planned::Plan(plan_in(x, first, checkpoints, frames, parts))
-}
-
-// The bytes of a part of the store; none where it does not lie in the store.
-pub fn part_bytes(store: &[u8], offset: u64, len: u32) -> &[u8]
-    ensures { λ r. ⌜ now r ≡ bytesAt (now (store .entry)) offset len ⌝ }
-{
-    let n = len as u64;
-    let all = store.len() as u64;
-    if all < n {
-        return &store[0..0];
-    }
-    if all - n < offset {
-        return &store[0..0];
-    }
-    let a = offset as usize;
-    let e = a + n as usize;
-    &store[a..e]
 }

@@ -83,7 +83,7 @@ fn put_planned(out: &mut [u8], p: Position, plan: Plan, store: &[u8]) -> Positio
     let Assembly::Stored(h) = assembly else {
         return put_plan(out, p, plan, &store[0..0]);
     };
-    let bytes = plan::part_bytes(store, h.offset, h.len);
+    let bytes = plan_questions::part_bytes(store, h.offset, h.len);
     put_plan(out, p, plan, bytes)
 }
 

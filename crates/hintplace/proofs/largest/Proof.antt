@@ -1,7 +1,7 @@
 use Prim.Native.Nat.{_-_, _≤_}
 use mathlib.Core.Path.{_≡_, ap, _∙_}
 use native.Mathlib.Omega.{arith}
-use Rattle.plan.specs.Needs.{lastIn}
+use Rattle.plan_questions.specs.Search.{lastIn}
 use Rattle.table.specs.Tables.{hintsIn, confirmationsIn}
 use Rattle.hintplace.specs.Place.{largestIn}
 use Rattle.hintplace.proofs.Place.{largest-none, largest-next, largest-end}

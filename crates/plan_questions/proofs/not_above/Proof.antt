@@ -1,9 +1,9 @@
-use Rattle.plan.proofs.Search.{Search, search-start, search-up, search-down, search-end}
+use Rattle.plan_questions.proofs.Search.{Search, search-start, search-up, search-down, search-end}
 use native.Mathlib.Omega.{arith}
 use Prim.Native.Nat.{_-_}
 use borrow.Author.Needs.{needs}
-use Rattle.plan.proofs.not_above.Statement.{statement}
-use Rattle.plan.proofs.not_above.Tie as tie
+use Rattle.plan_questions.proofs.not_above.Statement.{statement}
+use Rattle.plan_questions.proofs.not_above.Tie as tie
 
 abbrev Inv-loop : tie.InvT-loop
 Inv-loop checkpoints n first lo₀ hi₀ lo hi = Search n checkpoints first lo hi

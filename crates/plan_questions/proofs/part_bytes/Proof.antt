@@ -1,8 +1,8 @@
-use Rattle.plan.proofs.Steps.{bytes-none, bytes-some}
+use Rattle.plan_questions.proofs.Part.{bytes-none, bytes-some}
 use native.Mathlib.Omega.{arith}
 use borrow.Author.Needs.{needs}
-use Rattle.plan.proofs.part_bytes.Statement.{statement}
-use Rattle.plan.proofs.part_bytes.Tie as tie
+use Rattle.plan_questions.proofs.part_bytes.Statement.{statement}
+use Rattle.plan_questions.proofs.part_bytes.Tie as tie
 
 returns : tie.Need-returns
 returns c = bytes-none _ _ _ (omega arith)
