@@ -4,17 +4,17 @@ use cursor::Cursor;
 use cursor::Headed;
 use cursor::Word;
 use cursor::cut;
-use field::and;
-use field::min_u64;
-use field::or;
 use field::read_u64;
 use fnv::fnv;
-use header::complete;
 use header::has_fingerprint;
 use header::read_header;
 use header_questions::header_number;
 use inspect_hinting::confirmed_section;
 use inspect_hinting::hint_section;
+use inspect_questions::body_of;
+use inspect_questions::end_questions;
+use inspect_questions::ending_of;
+use inspect_questions::left_over;
 use inspect_scan::Taken;
 use inspect_scan::inspect_frames;
 use inspect_scan::inspect_lsns;
@@ -22,36 +22,22 @@ use inspect_scan::inspect_parts;
 use part_checks::reached;
 use rules::Area;
 use rules::AreaIndex;
-use rules::Checkpoint;
-use rules::End;
-use rules::EndState;
 use rules::Fingerprint;
 use rules::Header;
 use rules::HintHeader;
 use rules::ImageId;
 use rules::MAGIC;
-use rules::MAX_MALFORMED_WARNINGS;
-use sections::ask;
-use sections::counted;
-use sections::ending_ok;
 use sections::frontier_of;
 use sections::last_checkpoint;
 ghost use mathlib.Core.Path.{_≡_};
-ghost use mathlib.Core.Bool.{true, cond, _&&_, _||_};
-ghost use mathlib.Core.List.{List};
-ghost use lib.Dec.{eqb};
+ghost use mathlib.Core.Bool.{true, cond};
 ghost use Prim.Native.Nat.{_+_, _*_, _≤_};
 ghost use lib.ListN.{length, drop};
 ghost use Rattle.rules.specs.declared.Fingerprint.the-variants.{Unknown, Held as Stated};
 ghost use Rattle.rules.specs.Questions.{areaOk};
-ghost use Rattle.rules.specs.declared.Checkpoint.{Checkpoint};
-ghost use Rattle.rules.specs.declared.Held.{Held};
-ghost use Rattle.rules.specs.Values.{lastCheckpoint};
-ghost use Rattle.rules.specs.Sections.{reached as framesReached};
-ghost use Rattle.rules.specs.Load.{isComplete, hasFingerprint, endingOf, endNumber};
+ghost use Rattle.rules.specs.Load.{hasFingerprint, endNumber};
 ghost use Rattle.table.specs.Tables.{checkpointsIn, partsIn};
 ghost use Rattle.table.specs.Files.{framesRead};
-ghost use Rattle.sections.specs.Numbers.{endIn, endFrom};
 ghost use Rattle.inspect_scan.specs.Needs.{Ready};
 ghost use Rattle.inspect.specs.Inspect.{inspection};
 ghost use Rattle.inspect.specs.Tails.{foundBy, usedBy, answered, fromConfirmed, fromHints, fromMalformed, fromEnd, fromParts, fromFrames, fromCheckpoints, fromBody};
@@ -69,18 +55,6 @@ pub enum Inspected {
 }
 
 // ---- the numbers of what is found
-fn ending_of(h: Header) -> End
-    ensures { λ r. ⌜ (r ≡ endFrom (endingOf h)) × (endIn r ≡ endingOf h) ⌝ }
-{
-    if !complete(h) {
-        return End::Open;
-    }
-    End::Closed(EndState {
-        threshold: h.threshold,
-        malformed: h.counted,
-    })
-}
-
 fn fingerprint_of(h: Header, v: u64) -> Fingerprint
     ensures { λ r. ⌜ r ≡ cond (hasFingerprint h) (Stated v) Unknown ⌝ }
 {
@@ -115,28 +89,7 @@ fn found_by(area: Area, h: Header, used: u64, g: HintHeader, confirmed: u32) -> 
     }
 }
 
-// 28 of the end state: has a list that is not complete none?
-fn unset_ok(h: Header) -> bool
-    ensures { λ r. ⌜ r ≡ (isComplete h || (eqb (h .threshold) 0 && eqb (h .counted) 0)) ⌝ }
-{
-    or(complete(h), and(h.threshold == 0, h.counted == 0))
-}
-
-// 32, 34, 28 and 35, by the last checkpoint and the count of frames that the parts reach.
-fn end_questions(area: Area, h: Header, last: Checkpoint, reached: u64) -> u32
-    requires { ⌜ areaOk area ≡ true ⌝ }
-    ensures { λ r. ⌜ ((cs : List Checkpoint) → (ps : List Held) → last ≡ lastCheckpoint cs → reached ≡ framesReached ps → r ≡ endNumber area h cs ps) ⌝ }
-{
-    let ending = ending_of(h);
-    let most = MAX_MALFORMED_WARNINGS as u64;
-    let n = ask(0, reached == h.frames as u64, 32);
-    let n = ask(n, ending_ok(area, last, ending), 34);
-    let n = ask(n, unset_ok(h), 28);
-    let count = min_u64(counted(last, ending), most);
-    ask(n, h.malformed as u64 == count, 35)
-}
-
-// The same, behind the parts.
+// 32, 34, 28 and 35, behind the parts.
 fn end_number(area: Area, h: Header, checkpoints: &[u8], parts: &[u8]) -> u32
     requires { ⌜ (areaOk area ≡ true) × (h .checkpoints * 24 ≤ length (now checkpoints)) × (h .parts * 24 ≤ length (now parts)) ⌝ }
     ensures { λ r. ⌜ r ≡ endNumber area h (checkpointsIn (h .checkpoints) (now (checkpoints .entry))) (partsIn (h .parts) (now (parts .entry))) ⌝ }
@@ -162,7 +115,7 @@ fn inspect_confirmed(
     match confirmed_section(c, body, area, h, g.most) {
         Word::Refused(k) => Inspected::Refused(k),
         Word::Number(count, d) => {
-            if d.at < body.len() {
+            if left_over(d.at, body.len()) {
                 return Inspected::Refused(38);
             }
             Inspected::Passed(found_by(area, h, used, g, count))
@@ -303,5 +256,5 @@ pub fn inspect(area: Area, bytes: &[u8]) -> Inspected
         return Inspected::Refused(20);
     }
     let end = len - 8;
-    inspect_body(area, cut(bytes, end), read_u64(bytes, end))
+    inspect_body(area, body_of(bytes), read_u64(bytes, end))
 }

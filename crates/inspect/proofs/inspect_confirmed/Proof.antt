@@ -1,6 +1,8 @@
 use Rattle.inspect.proofs.Sections.{TookConfirmed, confirmed-taken, counted-refused}
 use Rattle.inspect.proofs.Tails.{stops, left-over, all-done}
 use Rattle.inspect.specs.Tails.{fromConfirmed}
+use mathlib.Core.Path.{sym, _∙_}
+use borrow.Author.Tests.{ltb-true, ltb-false}
 use borrow.Author.Needs.{needs}
 use Rattle.inspect.proofs.inspect_confirmed.Statement.{statement}
 use Rattle.inspect.proofs.inspect_confirmed.Tie as tie
@@ -12,14 +14,14 @@ taken : (c : tie.After-known-told2) → TookConfirmed (taken-call c .args .area)
 taken c = confirmed-taken _ _ _ _ _ (c .before .before .before .before .before .pre) (c .before .before .before .confirmed-section .ensures) (c .before .count .given .1)
 
 returns : tie.Need-returns
-returns c = left-over _ _ _ _ _ _ (taken (c .before .before)) (c .if1 .taken)
+returns c = left-over _ _ _ _ _ _ (taken (c .before .before)) (ltb-true _ _ (sym (c .before .left-over .ensures) ∙ c .if1 .taken))
 
 returns-2 : tie.Need-returns-2
 unfolding fromConfirmed
 returns-2 c = stops _ (counted-refused _ _ _ _ _ (c .before .before .before .before .before .pre) (c .before .before .before .confirmed-section .ensures) (c .before .k .given .1))
 
 returns-3 : tie.Need-returns-3
-returns-3 c = all-done _ _ _ _ _ _ (taken (c .before .before .before)) (c .before .if1 .left) (c .found-by .ensures)
+returns-3 c = all-done _ _ _ _ _ _ (taken (c .before .before .before)) (ltb-false _ _ (sym (c .before .before .left-over .ensures) ∙ c .before .if1 .left)) (c .found-by .ensures)
 
 pub inspect-confirmed-spec : {M : Type 1} → statement M
 inspect-confirmed-spec =
@@ -28,6 +30,7 @@ inspect-confirmed-spec =
     (λ c κs. search needs)
     (λ c. search needs)
     (λ c. search needs)
+    (λ c κs. search needs)
     returns
     (λ c κs. search needs)
     returns-2

@@ -1,8 +1,8 @@
 use borrow.Author.Tests.{not-true, not-false}
 use Rattle.sections.specs.Numbers.{endFrom, endIn}
 use borrow.Author.Needs.{needs}
-use Rattle.inspect.proofs.ending_of.Statement.{statement}
-use Rattle.inspect.proofs.ending_of.Tie as tie
+use Rattle.inspect_questions.proofs.ending_of.Statement.{statement}
+use Rattle.inspect_questions.proofs.ending_of.Tie as tie
 
 returns : tie.Need-returns
 unfolding endFrom endIn

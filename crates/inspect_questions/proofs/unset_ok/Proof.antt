@@ -1,6 +1,6 @@
 use borrow.Author.Needs.{needs}
-use Rattle.inspect.proofs.unset_ok.Statement.{statement}
-use Rattle.inspect.proofs.unset_ok.Tie as tie
+use Rattle.inspect_questions.proofs.unset_ok.Statement.{statement}
+use Rattle.inspect_questions.proofs.unset_ok.Tie as tie
 
 returns : tie.Need-returns
 returns c = cc

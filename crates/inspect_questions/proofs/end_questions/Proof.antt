@@ -3,8 +3,8 @@ use native.Mathlib.Omega.{arith}
 use Rattle.rules.specs.Load.{endNumber}
 use Rattle.sections.proofs.Questions.{asked-all, ordered}
 use borrow.Author.Needs.{needs}
-use Rattle.inspect.proofs.end_questions.Statement.{statement}
-use Rattle.inspect.proofs.end_questions.Tie as tie
+use Rattle.inspect_questions.proofs.end_questions.Statement.{statement}
+use Rattle.inspect_questions.proofs.end_questions.Tie as tie
 
 ending-ok-requires : tie.Need-ending-ok-requires
 ending-ok-requires c κs = let o = ordered (c .before .before .before .args .area) (c .before .before .before .pre) in search needs
