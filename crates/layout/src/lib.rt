@@ -1,13 +1,11 @@
 // What a file says of an index before its sections: version and headers; and how long the file is.
 use checks::check_frames;
-use field::and;
 use field::not;
 use field::or;
 use index::is_complete;
 use index::is_stated;
+use output::is_hinting;
 use rules::AreaIndex;
-use rules::DEFAULT_HINT_SPACING;
-use rules::DEFAULT_MAX_HINTS;
 use rules::End;
 use rules::EndState;
 use rules::Fingerprint;
@@ -62,11 +60,7 @@ pub fn version_of(x: AreaIndex) -> u32
     ensures { λ r. ⌜ ((t : Tables) → r ≡ versionOf (indexIn x t)) ⌝ }
 {
     let fingerprint = x.fingerprint;
-    let defaults = and(
-        x.spacing == DEFAULT_HINT_SPACING,
-        x.most == DEFAULT_MAX_HINTS,
-    );
-    let hinting = or(not(x.hints == 0), not(defaults));
+    let hinting = is_hinting(x.hints, x.spacing, x.most);
     if not(x.confirmed == 0) {
         return 3;
     }

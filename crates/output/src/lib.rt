@@ -1,15 +1,30 @@
-// A lent output: its stretches, the header of the hint section and the sum written into it, and question 40.
+// A lent output: its stretches, whether there is a hint section, its header and the sum written into it, and question 40.
+use field::and;
+use field::not;
+use field::or;
 use field::write_u32;
 use field::write_u64;
 use fnv::fnv;
+use rules::DEFAULT_HINT_SPACING;
+use rules::DEFAULT_MAX_HINTS;
 use rules::HintHeader;
 ghost use mathlib.Core.Path.{_≡_};
+ghost use mathlib.Core.Bool.{not, _&&_, _||_};
 ghost use Prim.Native.Nat.{_+_, _≤_};
-ghost use lib.Dec.{leb};
+ghost use lib.Dec.{eqb, leb};
 ghost use lib.ListN.{length, take};
 ghost use Rattle.field.specs.Number.{put};
 ghost use Rattle.fnv.specs.Fnv.{fnv64};
+ghost use Rattle.rules.specs.Values.{defaultSpacing, defaultHints};
 ghost use Rattle.output.specs.Output.{Put, hintHeader};
+
+// Do so many hints, a spacing and a limit M need a hint section?
+pub fn is_hinting(hints: u32, spacing: u32, most: u32) -> bool
+    ensures { λ r. ⌜ r ≡ (not (eqb hints 0) || not (eqb spacing defaultSpacing && eqb most defaultHints)) ⌝ }
+{
+    let defaults = and(spacing == DEFAULT_HINT_SPACING, most == DEFAULT_MAX_HINTS);
+    or(not(hints == 0), not(defaults))
+}
 
 pub fn write_hint_header(out: &mut [u8], h: HintHeader)
     requires { ⌜ 24 ≤ length (now out) ⌝ }

@@ -4,27 +4,24 @@ use Rattle.layout.proofs.version_of.Statement.{statement}
 use Rattle.layout.proofs.version_of.Tie as tie
 
 returns : tie.Need-returns
-returns c = λ t. version-three _ t (c .before .not3 .ensures) (c .if1 .taken)
+returns c = λ t. version-three _ t (c .before .not .ensures) (c .if1 .taken)
 
 returns-2 : tie.Need-returns-2
 returns-2 c =
-    let after-not3 : tie.After-not3 = search in
+    let after-not : tie.After-not = search in
     let else1 : tie.Else1 = search in
-    λ t. version-two _ t (after-not3 .not3 .ensures) (else1 .if1 .left) (cc) (c .if2 .taken)
+    λ t. version-two _ t (after-not .not .ensures) (else1 .if1 .left) (cc) (c .if2 .taken)
 
 returns-3 : tie.Need-returns-3
 returns-3 c =
-    let after-not3 : tie.After-not3 = search in
+    let after-not : tie.After-not = search in
     let else1 : tie.Else1 = search in
-    λ t. version-one _ t (after-not3 .not3 .ensures) (else1 .if1 .left) (cc) (c .if2 .left)
+    λ t. version-one _ t (after-not .not .ensures) (else1 .if1 .left) (cc) (c .if2 .left)
 
 pub version-of-spec : {M : Type 1} → statement M
 version-of-spec =
     tie.close
     (tie.spec
-    (λ c κs. search needs)
-    (λ c κs. search needs)
-    (λ c κs. search needs)
     (λ c κs. search needs)
     (λ c κs. search needs)
     returns
