@@ -1,4 +1,5 @@
 // A line of a script (tools/README.md) as a value: the call that it names, with its numbers. Bytes in hex and lists stay in the line.
+use digits::Number;
 use field::same;
 use rules::Area;
 use rules::AreaKey;
@@ -7,7 +8,6 @@ use rules::EndState;
 use rules::FrameKind;
 use rules::ImageId;
 use rules::UnderAssembly;
-use script::Number;
 ghost use mathlib.Core.Path.{_≡_};
 ghost use Prim.Native.Nat.{_≤_, _<_};
 ghost use lib.ListN.{length};

@@ -1,7 +1,7 @@
 // What another list's hints and confirmations would change, decided over lent tables that are only read.
 use field::and;
 use field::or;
-use hints::rise_of;
+use hint_gaps::rise_of;
 use rules::Confirmation;
 use rules::MAX_U32;
 use table::read_confirmation;

@@ -1,8 +1,8 @@
 // Thinning of hints without a second table: the cutoff gap by bisection, then one pass that keeps what stays.
-use field::and;
 use field::copy_first;
-use field::or;
 use field::write_u32;
+use hint_gaps::is_kept;
+use hint_gaps::rise_of;
 use rules::Hint;
 use table::read_hint;
 ghost use mathlib.Core.Path.{_≡_};
@@ -15,13 +15,6 @@ ghost use Rattle.rules.specs.File.{encodeHint};
 ghost use Rattle.rules.specs.Hints.{rise, thin};
 ghost use Rattle.table.specs.Tables.{hintsIn};
 ghost use Rattle.hints.specs.Thin.{one, lower, remaining, stayed, firstPlace, nextPlace, Cuts, Starts};
-
-// The rise from the number before.
-pub fn rise_of(p: u32, t: u32) -> u64
-    ensures { λ r. ⌜ r ≡ rise p t ⌝ }
-{
-    if p < t { (t - p) as u64 } else { 4294967295 }
-}
 
 fn one_of(b: bool) -> usize
     ensures { λ r. ⌜ (r ≡ one b) × (r ≤ 1) ⌝ }
@@ -103,13 +96,6 @@ pub fn spent(left: usize, hit: bool) -> usize
         return left - 1;
     }
     left
-}
-
-// Is a hint with gap g kept, where `left` more at the cutoff c go?
-fn is_kept(g: u64, c: u64, left: usize) -> bool
-    ensures { λ r. ⌜ r ≡ (ltb c g || (eqb g c && eqb left 0)) ⌝ }
-{
-    or(c < g, and(g == c, left == 0))
 }
 
 // Hint number j of a table.

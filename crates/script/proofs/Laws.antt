@@ -7,8 +7,9 @@ use native.Mathlib.Omega.{arith}
 use borrow.Author.Tests.{eq-eqb, ne-eqb}
 use lib.ListN.{length, getD, take, set, drop, drop-of-length-le}
 use lib.Seq.{drop-cons, take-suc-set}
-use Rattle.script.specs.Text.{wordLength, fold, follow, numberOf, nibbleOf, hexBytes}
-use Rattle.script.specs.declared.Number.the-variants.{Value, Nothing}
+use Rattle.script.specs.Text.{wordLength, fold, follow, numberOf, hexBytes}
+use Rattle.digits.specs.Digits.{nibbleOf}
+use Rattle.digits.specs.declared.Number.the-variants.{Value, Nothing}
 
 pub fold-turn : {X : Type 0} (f : X → ℕ → X) (x : X) (i : ℕ) (s : List ℕ) → i < length s → fold f x (drop i s) ≡ fold f (f x (getD s i 0)) (drop (i + 1) s)
 unfolding fold

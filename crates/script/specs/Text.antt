@@ -5,8 +5,9 @@ use mathlib.Core.Bool.{cond, _&&_}
 use mathlib.Core.List.{List, [], _∷_, _++_}
 use lib.Dec.{eqb, leb}
 use lib.ListN.{length, take, getD}
-use Rattle.script.specs.declared.Number.{Number}
-use Rattle.script.specs.declared.Number.the-variants.{Value, Nothing}
+use Rattle.digits.specs.declared.Number.{Number}
+use Rattle.digits.specs.declared.Number.the-variants.{Value, Nothing}
+use Rattle.digits.specs.Digits.{pushed, nibbleOf}
 use Rattle.script.specs.declared.Bytes.{Bytes}
 use Rattle.script.specs.declared.Bytes.the-variants.{Length, Bad, Long}
 
@@ -15,10 +16,7 @@ unfoldable pub wordLength : List ℕ → ℕ
 wordLength [] = 0
 wordLength (b ∷ bs) = cond (eqb b 32) 0 (suc (wordLength bs))
 
--- acc's digits, and the digit b behind them
-unfoldable pub pushed : ℕ → ℕ → Number
-pushed acc b = cond (leb 48 b && (leb b 57 && leb (acc * 10 + (b - 48)) 18446744073709551615)) (Value (acc * 10 + (b - 48))) Nothing
-
+-- the digit b behind a number's digits
 unfoldable pub follow : Number → ℕ → Number
 follow (Value acc) b = pushed acc b
 follow Nothing b = Nothing
@@ -32,10 +30,6 @@ fold f x (b ∷ bs) = fold f (f x b) bs
 unfoldable pub numberOf : List ℕ → Number
 numberOf [] = Nothing
 numberOf (b ∷ bs) = fold follow (Value 0) (b ∷ bs)
-
--- a hex digit's value, 16 for another byte
-unfoldable pub nibbleOf : ℕ → ℕ
-nibbleOf b = cond (leb 48 b && leb b 57) (b - 48) (cond (leb 97 b && leb b 102) (b - 87) 16)
 
 -- the first n bytes that hex digits stand for, two digits a byte
 unfoldable pub hexBytes : ℕ → List ℕ → List ℕ

@@ -1,20 +1,18 @@
 // A line's words, numbers and hex bytes, read and written.
+use digits::Number;
+use digits::nibble;
+use digits::push;
 ghost use mathlib.Core.Path.{_≡_};
 ghost use Prim.Native.Nat.{_+_, _≤_, _<_, min};
 ghost use lib.ListN.{length, take, drop};
 ghost use Rattle.io.specs.Digits.{glyph as Digits·glyph};
-ghost use Rattle.script.specs.Text.{wordLength, pushed, follow, fold, numberOf, nibbleOf, Decoded};
+ghost use Rattle.script.specs.Text.{wordLength, follow, fold, numberOf, Decoded};
 ghost use Rattle.script.specs.Output.{output, put, putPair, Spelled};
 
 // A word of a line: its first byte, and the byte behind its last.
 pub struct Word {
     pub from: usize,
     pub to: usize,
-}
-
-pub enum Number {
-    Value(u64),
-    Nothing,
 }
 
 // What hex digits are: so many bytes, no hex digits, or more bytes than fit.
@@ -59,26 +57,6 @@ pub fn word_at(line: &[u8], at: usize) -> Word
 }
 
 // ---- numbers
-// The number behind acc's digits and b, if b is a digit and the number has 64 bits.
-fn push(acc: u64, b: u8) -> Number
-    ensures { λ r. ⌜ r ≡ pushed acc b ⌝ }
-{
-    if b < 48 {
-        return Number::Nothing;
-    }
-    if 57 < b {
-        return Number::Nothing;
-    }
-    if 1844674407370955161 < acc {
-        return Number::Nothing;
-    }
-    let d = (b - 48) as u64;
-    if 18446744073709551615 - acc * 10 < d {
-        return Number::Nothing;
-    }
-    Number::Value(acc * 10 + d)
-}
-
 fn then(x: Number, b: u8) -> Number
     ensures { λ r. ⌜ r ≡ follow x b ⌝ }
 {
@@ -105,25 +83,6 @@ pub fn decimal(s: &[u8]) -> Number
 }
 
 // ---- hex digits
-// The value of a hex digit, 16 for another byte.
-fn nibble(b: u8) -> u8
-    ensures { λ r. ⌜ r ≡ nibbleOf b ⌝ }
-{
-    if b < 48 {
-        return 16;
-    }
-    if b <= 57 {
-        return b - 48;
-    }
-    if b < 97 {
-        return 16;
-    }
-    if b <= 102 {
-        return b - 87;
-    }
-    16
-}
-
 // The bytes that the hex digits s stand for, over the start of out.
 pub fn unhex(s: &[u8], out: &mut [u8]) -> Bytes
     ensures { λ r. ⌜ Decoded (now (s .entry)) (now (out .entry)) (now (out .exit)) r ⌝ }

@@ -1,7 +1,7 @@
 use Rattle.script.proofs.Laws.{number-none, number-some}
 use Rattle.script.specs.Text.{follow, fold}
-use Rattle.script.specs.declared.Number.{Number}
-use Rattle.script.specs.declared.Number.the-variants.{Value}
+use Rattle.digits.specs.declared.Number.{Number}
+use Rattle.digits.specs.declared.Number.the-variants.{Value}
 use Rattle.script.proofs.Laws.{fold-turn, fold-done}
 use native.Mathlib.Omega.{arith}
 use Prim.Native.Nat.{_+_, _-_, _≤_, _<_}

@@ -1,10 +1,10 @@
-use Rattle.script.specs.Text.{pushed}
+use Rattle.digits.specs.Digits.{pushed}
 use borrow.Author.Tests.{le-leb, lt-leb}
 use native.Mathlib.Omega.{arith}
 use Prim.Native.Nat.{_+_, _-_, _*_}
 use borrow.Author.Needs.{needs}
-use Rattle.script.proofs.push.Statement.{statement}
-use Rattle.script.proofs.push.Tie as tie
+use Rattle.digits.proofs.push.Statement.{statement}
+use Rattle.digits.proofs.push.Tie as tie
 
 returns : tie.Need-returns
 unfolding pushed

@@ -1,8 +1,8 @@
 use borrow.Author.Tests.{lt-ltb, le-ltb}
 use Rattle.rules.specs.Hints.{rise}
 use borrow.Author.Needs.{needs}
-use Rattle.hints.proofs.rise_of.Statement.{statement}
-use Rattle.hints.proofs.rise_of.Tie as tie
+use Rattle.hint_gaps.proofs.rise_of.Statement.{statement}
+use Rattle.hint_gaps.proofs.rise_of.Tie as tie
 
 returns : tie.Need-returns
 unfolding rise

@@ -1,9 +1,9 @@
 use borrow.Author.Tests.{le-leb, lt-leb}
-use Rattle.script.specs.Text.{nibbleOf}
+use Rattle.digits.specs.Digits.{nibbleOf}
 use native.Mathlib.Omega.{arith}
 use borrow.Author.Needs.{needs}
-use Rattle.script.proofs.nibble.Statement.{statement}
-use Rattle.script.proofs.nibble.Tie as tie
+use Rattle.digits.proofs.nibble.Statement.{statement}
+use Rattle.digits.proofs.nibble.Tie as tie
 
 returns : tie.Need-returns
 unfolding nibbleOf

@@ -1,6 +1,6 @@
 use borrow.Author.Needs.{needs}
-use Rattle.hints.proofs.is_kept.Statement.{statement}
-use Rattle.hints.proofs.is_kept.Tie as tie
+use Rattle.hint_gaps.proofs.is_kept.Statement.{statement}
+use Rattle.hint_gaps.proofs.is_kept.Tie as tie
 
 returns : tie.Need-returns
 returns c = cc
