@@ -1,3 +1,3 @@
 // Standard input line by line, and standard output.
 pub mod input;
-pub mod output;
+pub mod writing;

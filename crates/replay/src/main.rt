@@ -1,5 +1,5 @@
 // Replays a script of calls (tools/README.md) from standard input, and prints the answers.
-mod answer;
+mod one_line;
 mod run;
 
 use place::checkpoints_room;

@@ -1,9 +1,9 @@
 // All lines of a script.
-use crate::answer::State;
-use crate::answer::answer_line;
+use crate::one_line::State;
+use crate::one_line::answer_line;
 use given::least;
 use lines::input;
-use lines::output;
+use lines::writing;
 use place::Checkpoints;
 use place::Confirmed;
 use place::Frames;
@@ -21,7 +21,7 @@ fn flushed(out: &[u8; 65536], state: State) -> State {
     let end = state.end;
     State {
         places,
-        end: output::flush(out, end, 32768),
+        end: writing::flush(out, end, 32768),
     }
 }
 
@@ -51,7 +51,7 @@ pub fn replay(
         read = input::next(chunk, line, read);
         if read.over {
             let end = state.end;
-            output::flush(out, end, 0);
+            writing::flush(out, end, 0);
             return;
         }
         if read.whole {
