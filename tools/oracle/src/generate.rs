@@ -25,7 +25,7 @@ pub enum Kind {
     Hints,
     /// Lists that need larger tables: 65,536 hints and confirmations, up to 65,536 boundaries, budgets up to 1,048,576.
     Large,
-    /// Tables lent too short, lists and recorders that are edited: 1 to 4 of all calls. Not for the Rattle `replay`.
+    /// Tables lent too short, lists and recorders that are edited: 1 to 4 of all calls.
     Lent,
 }
 

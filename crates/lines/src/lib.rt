@@ -1,3 +1,0 @@
-// Standard input line by line, and standard output.
-pub mod input;
-pub mod writing;
