@@ -28,12 +28,12 @@ use Rattle.parts.proofs.Frames.{count}
 use Rattle.recorder.specs.Recorder.{RecorderTables, recorderRoom, recorderIn, recorderKinds, recorderFrom}
 use Rattle.recorder.specs.Needs.{modeOf}
 use Rattle.recorder.proofs.Calls.{passes-long}
-use Rattle.absorb_questions.specs.Given.{givenIn}
-use Rattle.absorb_refuses.specs.Absorb.{absorbRefusal}
-use Rattle.absorb_refuses.specs.Needs.{Absorbs}
-use Rattle.absorb_refuses.proofs.Refusal.{passed}
-use Rattle.absorb_commit.specs.Commit.{Written, written, Kept, absorbedIn}
-use Rattle.absorb_commit.proofs.Facts.{kept}
+use Rattle.absorb.specs.Given.{givenIn}
+use Rattle.absorb.specs.RefusalAbsorb.{absorbRefusal}
+use Rattle.absorb.specs.RefusalNeeds.{Absorbs}
+use Rattle.absorb.proofs.refusal.Refusal.{passed}
+use Rattle.absorb.specs.Commit.{Written, written, Kept, absorbedIn}
+use Rattle.absorb.proofs.committed.Facts.{kept}
 use Rattle.absorb.specs.Absorb.{out, absorbed, kindedBoth, outOf, absorbIn}
 use Rattle.absorb.specs.Needs.{drainedOf}
 

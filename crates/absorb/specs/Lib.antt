@@ -1,2 +1,8 @@
 pub mod Absorb
+pub mod Commit
+pub mod CommittedNeeds
+pub mod Given
 pub mod Needs
+pub mod QuestionsNeeds
+pub mod RefusalAbsorb
+pub mod RefusalNeeds

@@ -1,9 +1,15 @@
 // Absorbing a recorder into an index, in their tables.
-use absorb_commit::commit;
-use absorb_modes::drained;
-use absorb_modes::mode_after;
-use absorb_refuses::absorb_refuses;
-use absorb_refuses::is_stopped;
+pub mod committed;
+pub mod modes;
+pub mod questions;
+pub mod refusal;
+pub mod tests;
+
+use crate::committed::commit;
+use crate::modes::drained;
+use crate::modes::mode_after;
+use crate::refusal::absorb_refuses;
+use crate::refusal::is_stopped;
 use field::and;
 use recorder::with_mode;
 use rules::AreaIndex;

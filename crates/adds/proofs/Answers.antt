@@ -15,19 +15,19 @@ use Rattle.rules.specs.Values.{Scan, isChecked, sameCheckpoint, sameEnd}
 use Rattle.rules.specs.File.{decodeCheckpoint, decodeHint, decodeConfirmation}
 use Rattle.rules.specs.Merge.{further, mergedScan, mergedFingerprint, merged}
 use Rattle.rules.proofs.Tests.{test}
-use Rattle.table.specs.Tables.{lsnsIn, hintsIn, confirmationsIn, framesIn, partsIn}
+use Rattle.tables.specs.Tables.{lsnsIn, hintsIn, confirmationsIn, framesIn, partsIn}
 use Rattle.index.specs.Index.{Tables, indexIn}
 use Rattle.sections.specs.Numbers.{endIn, idIn}
 use Rattle.index.proofs.Questions.{passes-long, passes-hints}
-use Rattle.join.specs.Join.{mergeRefusal}
-use Rattle.further.specs.Further.{furtherIn}
-use Rattle.join.specs.Needs.{Joins}
-use Rattle.join.proofs.Refusal.{further-is, asked-after}
-use Rattle.join.proofs.Ready.{hinting-is, areas}
-use Rattle.join.proofs.Held.{lent, room}
+use Rattle.merge.specs.Join.{mergeRefusal}
+use Rattle.merge.specs.Further.{furtherIn}
+use Rattle.merge.specs.QuestionsNeeds.{Joins}
+use Rattle.merge.proofs.questions.Refusal.{further-is, asked-after}
+use Rattle.merge.proofs.questions.Ready.{hinting-is, areas}
+use Rattle.merge.proofs.questions.Held.{lent, room}
 use Rattle.parts.specs.Parts.{partTables}
-use Rattle.compare.specs.Same.{sameList}
-use Rattle.compare.specs.Answers.{HintsAnswered, ConfirmedAnswered}
+use Rattle.adds.specs.Same.{sameList}
+use Rattle.adds.specs.Answers.{HintsAnswered, ConfirmedAnswered}
 use Rattle.adds.specs.declared.Brings.{Brings}
 use Rattle.adds.specs.declared.Added.the-variants as added
 use Rattle.adds.specs.Brings.{sameKnown, sameFingerprint, bringsOf, brings, addsOf, addsIn}

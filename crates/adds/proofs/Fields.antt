@@ -24,9 +24,9 @@ use Rattle.rules.specs.File.{decodeLsn, encodeLsn}
 use Rattle.rules.specs.Merge.{further, mergedScan, mergedFingerprint, heldFrom}
 use Rattle.rules.proofs.Tests.{test, never, both, and-left, nil-of}
 use Rattle.rules.proofs.Same.{eqb-self, sameCheckpoint-self, sameEnd-self}
-use Rattle.filelaws.proofs.Layouts.{lsn-layout}
-use Rattle.compare.specs.Same.{sameList}
-use Rattle.compare.proofs.Same.{sameList-self, sameList-eq}
+use Rattle.laws.proofs.Layouts.{lsn-layout}
+use Rattle.adds.specs.Same.{sameList}
+use Rattle.adds.proofs.compare.Same.{sameList-self, sameList-eq}
 use Rattle.adds.specs.Brings.{sameKnown, sameFingerprint}
 use Rattle.adds.proofs.Same.{sameKnown-self, sameFingerprint-self}
 

@@ -11,12 +11,12 @@ use Rattle.rules.specs.Values.{Frame, Scan, count, used}
 use Rattle.rules.specs.PartRule.{Stored, Piece, opens, stores, opened, grown, addPart, piece, addParts}
 use Rattle.rules.specs.Merge.{further, mergedScan}
 use Rattle.rules.proofs.Tests.{test, never}
-use Rattle.scanlaws.proofs.PartRule.{addParts-skip, addParts-add}
-use Rattle.compare.specs.Same.{sameList}
-use Rattle.compare.proofs.Same.{differ, sameList-self, sameList-eq}
+use Rattle.laws.proofs.scans.PartRule.{addParts-skip, addParts-add}
+use Rattle.adds.specs.Same.{sameList}
+use Rattle.adds.proofs.compare.Same.{differ, sameList-self, sameList-eq}
 use Rattle.adds.specs.Brings.{sameFrame, sameHeld}
 use Rattle.rules.specs.declared.AreaIndex.{AreaIndex}
-use Rattle.table.specs.Tables.{framesIn, partsIn}
+use Rattle.tables.specs.Tables.{framesIn, partsIn}
 use Rattle.parts.specs.declared.Counts.{Counts}
 use Rattle.parts.specs.Parts.{PartTables, storedIn}
 use Rattle.parts.specs.Needs.{Lent, Ready}

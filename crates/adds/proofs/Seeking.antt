@@ -14,10 +14,10 @@ use Rattle.rules.specs.declared.Held.{Held}
 use Rattle.rules.specs.Values.{Frame, frameAt, used}
 use Rattle.rules.specs.File.{decodeHeld}
 use Rattle.rules.specs.PartRule.{Stored, stores, piece}
-use Rattle.table.specs.declared.FrameHeader.{FrameHeader}
-use Rattle.table.specs.Tables.{decodeHeader, headersIn, framesOf, framesIn, partsIn}
-use Rattle.table.proofs.Frames.{frames-length, frame-start}
-use Rattle.table.proofs.Walk.{records-turn}
+use Rattle.tables.specs.declared.FrameHeader.{FrameHeader}
+use Rattle.tables.specs.Tables.{decodeHeader, headersIn, framesOf, framesIn, partsIn}
+use Rattle.tables.proofs.Frames.{frames-length, frame-start}
+use Rattle.tables.proofs.Walk.{records-turn}
 use Rattle.parts.specs.declared.Source.{Source}
 use Rattle.parts.specs.declared.Counts.{Counts}
 use Rattle.parts.specs.Parts.{PartTables, storedIn}

@@ -15,7 +15,7 @@ use Rattle.rules.specs.Tests.{all, Answer, Refused, Accepted, after}
 use Rattle.rules.specs.Values.{Frame, Index, Lengths, sameKind, sameCheckpoint, sameEnd}
 use Rattle.rules.specs.Merge.{merged, mergeNumber}
 use Rattle.index.specs.Index.{Tables, roomOf, indexIn, kindsIn, kinded}
-use Rattle.compare.specs.Same.{sameList, sameHint, sameConfirmation}
+use Rattle.adds.specs.Same.{sameList, sameHint, sameConfirmation}
 use Rattle.adds.specs.declared.Brings.{Brings}
 use Rattle.adds.specs.declared.Added.{Added}
 use Rattle.adds.specs.declared.Added.the-variants as added

@@ -10,7 +10,7 @@ use Rattle.rules.specs.declared.Held.{Held}
 use Rattle.rules.specs.Values.{Frame, used}
 use Rattle.rules.specs.PartRule.{Stored, stores, piece}
 use Rattle.rules.specs.Merge.{merged}
-use Rattle.table.specs.Tables.{framesIn, partsIn}
+use Rattle.tables.specs.Tables.{framesIn, partsIn}
 use Rattle.index.specs.Index.{Tables, indexIn}
 use Rattle.parts.specs.declared.Counts.{Counts}
 use Rattle.parts.specs.Parts.{PartTables, storedIn}

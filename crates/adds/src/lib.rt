@@ -1,13 +1,15 @@
 // What a merge of two lists would bring, from their tables, which are only read.
-use compare::changes_confirmed;
-use compare::changes_hints;
+pub mod compare;
+
+use crate::compare::changes_confirmed;
+use crate::compare::changes_hints;
 use field::and;
 use field::same;
-use further::further;
 use index::is_checked;
 use index::is_complete;
-use join::merge_refuses;
-use join::taken;
+use merge::goes_further::further;
+use merge::questions::merge_refuses;
+use merge::questions::taken;
 use parts::Counts;
 use parts::Piece;
 use parts::Source;
@@ -18,8 +20,8 @@ use rules::AreaIndex;
 use rules::Fingerprint;
 use rules::Held;
 use rules::ImageId;
-use table::read_header;
-use table::read_held;
+use tables::read_header;
+use tables::read_held;
 ghost use mathlib.Core.Path.{_≡_};
 ghost use mathlib.Core.Bool.{_&&_, not};
 ghost use Prim.Native.Nat.{_+_, _*_, _≤_};
@@ -29,13 +31,13 @@ ghost use Rattle.rules.specs.Tests.{isSome, orElse};
 ghost use Rattle.rules.specs.Values.{stated};
 ghost use Rattle.rules.specs.PartRule.{stores};
 ghost use Rattle.rules.specs.Merge.{mergedFingerprint};
-ghost use Rattle.table.specs.Tables.{lsnsIn, framesIn, partsIn};
+ghost use Rattle.tables.specs.Tables.{lsnsIn, framesIn, partsIn};
 ghost use Rattle.index.specs.Index.{tables};
 ghost use Rattle.sections.specs.Numbers.{idIn};
-ghost use Rattle.join.specs.Needs.{Joins};
+ghost use Rattle.merge.specs.QuestionsNeeds.{Joins};
 ghost use Rattle.parts.specs.Parts.{partTables, storedIn};
 ghost use Rattle.parts.specs.Needs.{Ready, Lent, heldPiece};
-ghost use Rattle.compare.specs.Same.{sameList};
+ghost use Rattle.adds.specs.Same.{sameList};
 ghost use Rattle.adds.specs.Brings.{sameKnown, sameFingerprint, addsOf, addsIn};
 ghost use Rattle.adds.specs.Needs.{someStored, PartsRead, partsChange, bringsIn};
 

@@ -5,14 +5,14 @@ use Prim.Native.Nat.{ℕ}
 use Rattle.rules.specs.declared.Area.{Area}
 use Rattle.rules.specs.Tests.{Accepted}
 use Rattle.rules.proofs.Tests.{→bind}
-use Rattle.disc_rules.specs.Disc.{loadDisc}
+use Rattle.rules_disc.specs.Disc.{loadDisc}
 use Rattle.index.specs.Index.{Tables, roomOf}
-use Rattle.disc_ask.specs.declared.Body.{Body}
-use Rattle.disc_ask.specs.declared.Decided.{Decided}
-use Rattle.disc_ask.specs.declared.Decided.the-variants as decided
-use Rattle.disc_ask.specs.Ask.{heldIn, Ready, Decision}
-use Rattle.disc_ask.proofs.Asking.{held-loads}
-use Rattle.disc_ask.proofs.Deciding.{by-places}
+use Rattle.disc_load.specs.declared.ask.Body.{Body}
+use Rattle.disc_load.specs.declared.ask.Decided.{Decided}
+use Rattle.disc_load.specs.declared.ask.Decided.the-variants as decided
+use Rattle.disc_load.specs.Ask.{heldIn, Ready, Decision}
+use Rattle.disc_load.proofs.ask.Asking.{held-loads}
+use Rattle.disc_load.proofs.ask.Deciding.{by-places}
 use Rattle.disc_load.specs.declared.Listed.{Listed}
 use Rattle.disc_load.specs.declared.Loaded.the-variants as loaded
 use Rattle.disc_load.specs.Calls.{discOut, listedFrom, tablesWith, discOutOf, loadDiscIn}

@@ -6,14 +6,14 @@ use native.Mathlib.Omega.{arith}
 use lib.ListN.{length, take, drop}
 use Rattle.rules.specs.declared.Area.{Area}
 use Rattle.rules.specs.declared.AreaIndex.{AreaIndex}
-use Rattle.disc_rules.specs.declared.Entry.{Entry}
+use Rattle.rules_disc.specs.declared.Entry.{Entry}
 use Rattle.index.specs.Index.{Tables, tablesFrom}
 use Rattle.inspect.specs.declared.Found.{Found}
-use Rattle.limit.specs.Limit.{limitedIn}
+use Rattle.load.specs.Limit.{limitedIn}
 use Rattle.load.specs.Steps.{Ready}
-use Rattle.disc_ask.specs.declared.Body.{Body}
-use Rattle.disc_ask.specs.declared.Body.the-variants as body
-use Rattle.disc_ask.specs.Ask.{Holds, heldIn}
+use Rattle.disc_load.specs.declared.ask.Body.{Body}
+use Rattle.disc_load.specs.declared.ask.Body.the-variants as body
+use Rattle.disc_load.specs.Ask.{Holds, heldIn}
 use Rattle.disc_load.specs.declared.Listed.{Listed}
 use Rattle.disc_load.specs.declared.Listed.the-variants as listed
 use Rattle.disc_load.specs.Calls.{listedFrom, tablesWith}

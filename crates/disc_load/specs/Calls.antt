@@ -5,7 +5,7 @@ use mathlib.Core.Option.{Option, none, some}
 use Rattle.rules.specs.declared.Area.{Area}
 use Rattle.rules.specs.Tests.{Answer, Refused, Accepted}
 use Rattle.rules.specs.Values.{Index}
-use Rattle.disc_rules.specs.Disc.{Disc, loadDisc}
+use Rattle.rules_disc.specs.Disc.{Disc, loadDisc}
 use Rattle.index.specs.Index.{Tables, roomOf, numbersFrom, tablesFrom}
 use Rattle.disc_load.specs.declared.Listed.{Listed}
 use Rattle.disc_load.specs.declared.Listed.the-variants as listed

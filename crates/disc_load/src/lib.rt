@@ -1,13 +1,18 @@
 // Loading a disc file under the areas of slots 0 and 1, each list into tables of its own: all lists or none.
-use disc_ask::Body;
-use disc_ask::Decided;
-use disc_ask::decide;
+pub mod ask;
+pub mod contents;
+pub mod questions;
+pub mod table_sizes;
+
+use crate::ask::Body;
+use crate::ask::Decided;
+use crate::ask::decide;
 use load::commit;
 use rules::Area;
 use rules::AreaIndex;
 ghost use mathlib.Core.Path.{_≡_};
 ghost use Rattle.index.specs.Index.{tables};
-ghost use Rattle.disc_ask.specs.Ask.{Holds, heldIn};
+ghost use Rattle.disc_load.specs.Ask.{Holds, heldIn};
 ghost use Rattle.disc_load.specs.Calls.{listedFrom, tablesWith, discOut, loadDiscIn};
 
 // The list of a slot: none in the file, or the numbers of the list that the slot's tables then hold.

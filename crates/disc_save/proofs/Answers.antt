@@ -14,11 +14,11 @@ use Rattle.rules.specs.Questions.{Four, both, fourOf, askFour}
 use Rattle.rules.specs.Values.{Index, max32}
 use Rattle.rules.specs.File.{savedLength, over}
 use Rattle.rules.proofs.Tests.{test, all→}
-use Rattle.disc_rules.specs.Disc.{entry, slotOf, contentsOf, entriesFrom, listed, bodiesLength, discLength, discBytes, saveLists, saveOne, bySlot, saveBoth}
+use Rattle.rules_disc.specs.Disc.{entry, slotOf, contentsOf, entriesFrom, listed, bodiesLength, discLength, discBytes, saveLists, saveOne, bySlot, saveBoth}
 use Rattle.index.specs.Index.{Tables, roomOf, indexIn, kindsIn, kindedNumber, kinded, refusal}
-use Rattle.index_questions.specs.Lowest.{lowest}
+use Rattle.index.specs.Lowest.{lowest}
 use Rattle.index.proofs.Four.{Later, kinded-more, kinded-index, lowest-both}
-use Rattle.join.proofs.Refusal.{lowest-zero}
+use Rattle.merge.proofs.questions.Refusal.{lowest-zero}
 use Rattle.save.specs.declared.Saved.the-variants as answer
 use Rattle.save.specs.Save.{SaveOut, made, saveOut}
 use Rattle.disc_save.specs.Calls.{saveOneIn, saveBothIn}

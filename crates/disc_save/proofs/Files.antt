@@ -10,11 +10,11 @@ use Rattle.field.specs.Records.{bytesOf}
 use Rattle.rules.specs.declared.AreaIndex.{AreaIndex}
 use Rattle.rules.specs.Values.{Index}
 use Rattle.rules.specs.File.{saved, savedLength, over}
-use Rattle.filelaws.proofs.Length.{savedLength-is}
-use Rattle.disc_rules.specs.Disc.{entry, encodeEntry, slotOf, entriesFrom, discBytes}
+use Rattle.laws.proofs.Length.{savedLength-is}
+use Rattle.rules_disc.specs.Disc.{entry, encodeEntry, slotOf, entriesFrom, discBytes}
 use Rattle.index.specs.Index.{Tables, indexIn, refusal}
-use Rattle.output.specs.Output.{Put}
-use Rattle.output.proofs.Stretches.{lent, put-both, put-over}
+use Rattle.save.specs.Output.{Put}
+use Rattle.save.proofs.output.Stretches.{lent, put-both, put-over}
 use Rattle.save.specs.declared.Saved.{Saved}
 use Rattle.save.specs.declared.Saved.the-variants as answer
 use Rattle.save.specs.Save.{SaveOut, made, saveIn}

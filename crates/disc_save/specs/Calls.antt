@@ -4,7 +4,7 @@ use mathlib.Core.Bool.{_&&_}
 use mathlib.Core.List.{List}
 use lib.ListN.{length}
 use Rattle.rules.specs.declared.AreaIndex.{AreaIndex}
-use Rattle.disc_rules.specs.Disc.{saveOne, saveBoth}
+use Rattle.rules_disc.specs.Disc.{saveOne, saveBoth}
 use Rattle.index.specs.Index.{Tables, roomOf, indexIn, kindsIn, kinded}
 use Rattle.save.specs.Save.{SaveOut, saveOut}
 

@@ -1,2 +1,4 @@
 pub mod Calls
+pub mod Length
+pub mod LengthNeeds
 pub mod Needs

@@ -6,7 +6,7 @@ use lib.ListN.{length}
 use Rattle.field.specs.Number.{encode}
 use Rattle.rules.specs.Tests.{ask, firstNo, Accepted, after}
 use Rattle.rules.specs.Values.{Index}
-use Rattle.disc_rules.specs.Disc.{entry, encodeEntry, contentsOf, listed, discLength, discBytes}
+use Rattle.rules_disc.specs.Disc.{entry, encodeEntry, contentsOf, listed, discLength, discBytes}
 use Rattle.save.specs.Save.{SaveOut, saveOut}
 
 -- the contents table of two lists whose files have m and n bytes

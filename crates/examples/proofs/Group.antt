@@ -5,8 +5,8 @@ use Prim.Native.Nat.{ℕ, suc}
 use borrow.Author.Tests.{eq-eqb}
 use Rattle.rules.specs.declared.First.{First}
 use Rattle.rules.specs.declared.First.the-variants.{Number, Nothing}
-use Rattle.tally.specs.declared.Tally.{Tally}
-use Rattle.tally.specs.Count.{ended, allRight}
+use Rattle.examples.specs.declared.tally.Tally.{Tally}
+use Rattle.examples.specs.Count.{ended, allRight}
 use Rattle.examples.specs.Same.{sameFirst}
 
 -- after n right ones, a line that is right too

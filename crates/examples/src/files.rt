@@ -2,12 +2,12 @@
 ghost use mathlib.Core.Path.{_≡_};
 ghost use lib.ListN.{length};
 use crate::lines;
+use crate::tally::Tally;
 use index::Made;
 use rules::Area;
 use rules::AreaIndex;
 use rules::AreaKey;
 use save::Saved;
-use tally::Tally;
 
 // An area without sectors.
 fn area() -> Area {
@@ -102,7 +102,7 @@ fn shortest() -> u64 {
     let malformed = malformed_table();
     let hints = hint_table();
     let confirmed = confirmed_table();
-    let made = create::new(
+    let made = index::create::new(
         area(),
         64,
         0,

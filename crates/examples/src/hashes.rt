@@ -1,8 +1,8 @@
 // The vectors of draft-eastlake-fnv for 64-bit FNV-1a.
 ghost use mathlib.Core.Path.{_≡_};
-ghost use Rattle.tally.specs.Count.{allRight};
+ghost use Rattle.examples.specs.Count.{allRight};
 use crate::lines;
-use tally::Tally;
+use crate::tally::Tally;
 
 // The lines, each counted as right.
 pub fn vectors(t: Tally) -> Tally

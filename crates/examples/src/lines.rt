@@ -1,10 +1,10 @@
 // One line for each example.
 ghost use mathlib.Core.Path.{_≡_};
 ghost use lib.Dec.{eqb};
-ghost use Rattle.tally.specs.Count.{ended};
+ghost use Rattle.examples.specs.Count.{ended};
+use crate::tally::Tally;
+use crate::tally::counted;
 use libc::STDOUT_FILENO;
-use tally::Tally;
-use tally::counted;
 
 // Writes text.
 pub fn say(text: &[u8]) {

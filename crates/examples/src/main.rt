@@ -4,9 +4,10 @@ mod files;
 mod hashes;
 mod lines;
 mod records;
+pub mod tally;
 
 fn main() {
-    let t = tally::start();
+    let t = crate::tally::start();
     let t = hashes::vectors(t);
     let t = records::examples(t);
     let t = files::examples(t);

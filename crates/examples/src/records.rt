@@ -1,11 +1,11 @@
 // Examples of the first record of a sector.
 ghost use mathlib.Core.Path.{_≡_};
-ghost use Rattle.tally.specs.Count.{ended, allRight};
+ghost use Rattle.examples.specs.Count.{ended, allRight};
 ghost use Rattle.examples.specs.Same.{sameFirst};
 use crate::lines;
+use crate::tally::Tally;
 use libc::STDOUT_FILENO;
 use rules::First;
-use tally::Tally;
 
 // Writes a first record.
 fn say_record(r: First) {

@@ -1,4 +1,6 @@
 // The header of a file: its table of fields, read and written through it.
+pub mod questions;
+
 use field::read_u32;
 use field::read_u64;
 use field::write_u32;

@@ -14,15 +14,15 @@ use Rattle.rules.specs.Questions.{question4, hintingOk}
 use Rattle.rules.specs.Hints.{hintPlace, hintedAt}
 use Rattle.rules.specs.Hints as rules
 use Rattle.rules.proofs.Tests.{all→, and-left}
-use Rattle.hintlaws.specs.Order.{Rises}
-use Rattle.hintlaws.proofs.Keeping.{confirmed-rises}
-use Rattle.table.specs.Tables.{hintsIn, confirmationsIn}
+use Rattle.laws.specs.Order.{Rises}
+use Rattle.laws.proofs.hint_lists.Keeping.{confirmed-rises}
+use Rattle.tables.specs.Tables.{hintsIn, confirmationsIn}
 use Rattle.index.specs.Index.{Tables, refusal, kindsIn}
 use Rattle.index.specs.Needs.{Passes, heldQuestion4}
 use Rattle.index.proofs.Four.{Later, kinded-index}
 use Rattle.index.proofs.Questions.{range, passes-hints}
-use Rattle.plan_questions.specs.Search.{lastIn}
-use Rattle.hintplace.proofs.Place.{last-some, place-near}
+use Rattle.plan.specs.Search.{lastIn}
+use Rattle.hint.proofs.nearest.Place.{last-some, place-near}
 use Rattle.hint.specs.declared.HintAnswer.the-variants as answer
 use Rattle.hint.specs.Calls.{hintedOf, answerOf, hintIn}
 use Rattle.hint.specs.Needs.{Ready, hintedFrom, answerIn}

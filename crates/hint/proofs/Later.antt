@@ -16,8 +16,8 @@ use Rattle.rules.specs.Values.{hintReach}
 use Rattle.rules.specs.File.{decodeHint}
 use Rattle.rules.specs.Hints.{Hinted, firstFrom, hintedLocally, hintedLater}
 use Rattle.rules.proofs.Tests.{test}
-use Rattle.table.specs.Tables.{hintsIn}
-use Rattle.hintdensity.proofs.Larger.{hint-at}
+use Rattle.tables.specs.Tables.{hintsIn}
+use Rattle.hint.proofs.density.Larger.{hint-at}
 use Rattle.hint.specs.Needs.{laterEnd, hintedFrom}
 
 -- ---- a turn of the search

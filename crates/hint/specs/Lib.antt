@@ -1,2 +1,4 @@
 pub mod Calls
+pub mod DensityNeeds
 pub mod Needs
+pub mod Place

@@ -12,8 +12,8 @@ use Rattle.rules.specs.Tests.{Answer, Accepted}
 use Rattle.rules.specs.Values.{noHint, hintReach, isChecked}
 use Rattle.rules.specs.Hints.{hintPlace, firstFrom, hintedLocally, hintedLater, hintedAt}
 use Rattle.rules.specs.Hints as rules
-use Rattle.table.specs.Tables.{hintsIn, confirmationsIn}
-use Rattle.hintplace.specs.Place.{Ordered}
+use Rattle.tables.specs.Tables.{hintsIn, confirmationsIn}
+use Rattle.hint.specs.Place.{Ordered}
 
 -- what hint reads of the tables
 pub record Ready (x : AreaIndex) (hs cs : List ℕ) : Type 0 where

@@ -1,18 +1,21 @@
 // hint: the hint that a read for a range of frames begins at, and the end of the read.
-use hintdensity::local_end;
-use hintplace::hint_place;
+pub mod density;
+pub mod nearest;
+
+use crate::density::local_end;
+use crate::nearest::hint_place;
 use index::is_checked;
 use index::refuses;
 use rules::Area;
 use rules::AreaIndex;
 use rules::HINT_REACH;
 use rules::Hinted;
-use table::read_hint;
+use tables::read_hint;
 ghost use mathlib.Core.Path.{_≡_};
 ghost use Prim.Native.Nat.{_*_, _≤_, _<_};
 ghost use lib.ListN.{length, drop};
 ghost use Rattle.rules.specs.Hints.{firstFrom};
-ghost use Rattle.table.specs.Tables.{hintsIn};
+ghost use Rattle.tables.specs.Tables.{hintsIn};
 ghost use Rattle.index.specs.Index.{tables};
 ghost use Rattle.hint.specs.Calls.{hintedOf, answerOf, hintIn};
 ghost use Rattle.hint.specs.Needs.{Ready, laterEnd, hintedFrom, answerIn};

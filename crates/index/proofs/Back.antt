@@ -20,9 +20,9 @@ use Rattle.rules.specs.declared.ImageId.{ImageId}
 use Rattle.rules.specs.declared.ImageId.the-variants.{Anonymous, Id}
 use Rattle.rules.specs.Values.{Frame}
 use Rattle.rules.specs.File.{encodeFrameHeader, decodeCheckpoint, decodeHeld, decodeLsn, decodeHint, decodeConfirmation}
-use Rattle.table.specs.declared.FrameHeader.{FrameHeader}
-use Rattle.table.specs.Tables.{decodeHeader, headersIn, framesOf, stretch}
-use Rattle.table.proofs.Frames.{stretch-within, frames-length}
+use Rattle.tables.specs.declared.FrameHeader.{FrameHeader}
+use Rattle.tables.specs.Tables.{decodeHeader, headersIn, framesOf, stretch}
+use Rattle.tables.proofs.Frames.{stretch-within, frames-length}
 use Rattle.index.specs.Index.{Tables, indexIn, numbersFrom, storeOf}
 use Rattle.sections.specs.Numbers.{endIn, idIn, endFrom, idFrom}
 

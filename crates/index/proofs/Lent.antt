@@ -22,12 +22,12 @@ use Rattle.rules.specs.Questions.{question1, question2, question4}
 use Rattle.rules.specs.Sizes.{frameSized, sized}
 use Rattle.rules.specs.File.{encodeFrameHeader, encodeHeld, decodeHeld, over}
 use Rattle.rules.proofs.Tests.{test, and-left, and-right, each-of, each→, each-cons, each-none, each-map}
-use Rattle.filelaws.specs.Statements.{Savable}
-use Rattle.filelaws.proofs.Layouts.{checkpoint-layout, lsn-layout, hint-layout, confirmation-layout, signed-forth, held-forth}
-use Rattle.filelaws.proofs.Facts.{→sized}
-use Rattle.table.specs.declared.FrameHeader.{FrameHeader}
-use Rattle.table.specs.Tables.{stretch, framesOf, framesIn, headersIn, partsIn}
-use Rattle.table.proofs.Frames.{stretch-length, stretch-within, frames-used, weight}
+use Rattle.laws.specs.Statements.{Savable}
+use Rattle.laws.proofs.Layouts.{checkpoint-layout, lsn-layout, hint-layout, confirmation-layout, signed-forth, held-forth}
+use Rattle.laws.proofs.Facts.{→sized}
+use Rattle.tables.specs.declared.FrameHeader.{FrameHeader}
+use Rattle.tables.specs.Tables.{stretch, framesOf, framesIn, headersIn, partsIn}
+use Rattle.tables.proofs.Frames.{stretch-length, stretch-within, frames-used, weight}
 use Rattle.index.specs.Index.{Tables, indexIn, kindsOk, storeOf, tablesFrom}
 use Rattle.index.specs.Needs.{Passes, heldQuestion4}
 use Rattle.index.specs.Lent.{Typed, TableBytes}

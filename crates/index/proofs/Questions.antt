@@ -15,14 +15,14 @@ use Rattle.rules.specs.Values.{boundaries, stated, frontierOf, counted, used}
 use Rattle.rules.specs.Sections.{countsOk, hintsOk, confirmationsOk, checkpointsOk, framesOk, partsOk, endingOk, malformedOk}
 use Rattle.rules.specs.Questions.{areaOk, numbersOk, scanRoom, hintingRoom, question1, question2, question3, question4, heldOk, scanOk, hintingOk}
 use Rattle.rules.specs.File.{decodeCheckpoint, decodeHeld, decodeLsn, decodeHint, decodeConfirmation}
-use Rattle.scanlaws.proofs.Parts.{frames-used}
-use Rattle.filelaws.proofs.Facts.{scanOk→}
-use Rattle.table.specs.Tables.{decodeHeader, headersIn, framesIn, hintsIn, confirmationsIn}
-use Rattle.table.proofs.Frames.{frames-length}
+use Rattle.laws.proofs.scans.Parts.{frames-used}
+use Rattle.laws.proofs.Facts.{scanOk→}
+use Rattle.tables.specs.Tables.{decodeHeader, headersIn, framesIn, hintsIn, confirmationsIn}
+use Rattle.tables.proofs.Frames.{frames-length}
 use Rattle.index.specs.Index.{Tables, tables, roomOf, indexIn, kindsOk, kindsIn, kindedNumber, refusal, three, roomIn, frontierIn}
 use Rattle.sections.specs.Numbers.{endIn}
 use Rattle.index.specs.Needs.{Roomy, Long, Passes, heldQuestion4, scanSpace, sectionsIn, scanIn, hintingIn, sectionsOk, hintCounts}
-use Rattle.index_questions.specs.Room.{hintRoom}
+use Rattle.index.specs.Room.{hintRoom}
 use Rattle.index.proofs.Four.{one-bits}
 use Rattle.index.proofs.Numbers.{within24, within8, within4, within16, test, first, second}
 

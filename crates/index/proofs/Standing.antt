@@ -21,15 +21,15 @@ use Rattle.rules.specs.Questions.{question3, scanRoom, hintingRoom}
 use Rattle.rules.specs.File.{encodeCheckpoint, encodeFrameHeader, encodeHeld, encodeLsn, encodeHint, encodeConfirmation, over}
 use Rattle.rules.proofs.Tests.{both, all→, each-both, each-map}
 use Rattle.rules.proofs.Walk.{rising-each}
-use Rattle.scanlaws.proofs.Parts.{frames-used}
-use Rattle.filelaws.specs.Statements.{Savable}
-use Rattle.filelaws.proofs.Layouts.{CheckpointFits, LsnFits, HeldFits, HintFits, ConfirmationFits, checkpoint-layout, lsn-layout, hint-layout, confirmation-layout, held-length, held-back, held-kind}
-use Rattle.filelaws.proofs.Length.{length-each}
-use Rattle.filelaws.proofs.Readers as readers
-use Rattle.filelaws.proofs.Ranges.{Placed, frontier-small, checkpoints-fit, frames-placed, frames-fit, parts-fit}
-use Rattle.filelaws.proofs.Facts.{Facts, facts}
-use Rattle.filelaws.proofs.Header.{scan-counts, few-boundaries}
-use Rattle.table.specs.Tables.{partsIn}
+use Rattle.laws.proofs.scans.Parts.{frames-used}
+use Rattle.laws.specs.Statements.{Savable}
+use Rattle.laws.proofs.Layouts.{CheckpointFits, LsnFits, HeldFits, HintFits, ConfirmationFits, checkpoint-layout, lsn-layout, hint-layout, confirmation-layout, held-length, held-back, held-kind}
+use Rattle.laws.proofs.Length.{length-each}
+use Rattle.laws.proofs.Readers as readers
+use Rattle.laws.proofs.Ranges.{Placed, frontier-small, checkpoints-fit, frames-placed, frames-fit, parts-fit}
+use Rattle.laws.proofs.Facts.{Facts, facts}
+use Rattle.laws.proofs.Header.{scan-counts, few-boundaries}
+use Rattle.tables.specs.Tables.{partsIn}
 use Rattle.index.specs.Index.{Tables, roomOf, indexIn, kindsOk, kindsIn, numbersFrom, storeOf, tablesFrom, tablesCleared}
 use Rattle.sections.specs.Numbers.{endIn, idIn, endFrom, idFrom}
 use Rattle.index.proofs.Back.{FrameFits, frames-back, header-length}

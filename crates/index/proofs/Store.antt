@@ -18,8 +18,8 @@ use Rattle.rules.specs.PartRule.{Stored, Piece, lastFrame, lastPart, opens, sto
 use Rattle.rules.specs.Plan.{offsetOf, bytesAt}
 use Rattle.rules.proofs.Tests.{test}
 use Rattle.rules.proofs.Walk.{Snoc, ends, lastOr-snoc, set-last}
-use Rattle.scanlaws.proofs.Parts.{latest, latest-last, reached-latest}
-use Rattle.scanlaws.proofs.PartRule.{longer, some-part}
+use Rattle.laws.proofs.scans.Parts.{latest, latest-last, reached-latest}
+use Rattle.laws.proofs.scans.PartRule.{longer, some-part}
 use Rattle.index.specs.Index.{storeOf}
 
 pub store-length : (fs : List Frame) → length (storeOf fs) ≡ used fs

@@ -15,9 +15,9 @@ use Rattle.index.specs.declared.Made.{Made}
 use Rattle.index.specs.declared.Made.the-variants as made
 unfoldable pub use Rattle.sections.specs.Numbers.{endIn, idIn, endFrom, idFrom}
 pub use Rattle.sections.specs.Numbers.{numbersFrom}
-pub use Rattle.index_questions.specs.Room.{Tables, tables, roomOf}
-unfoldable pub use Rattle.kinds.specs.Kinds.{kindsOk}
-use Rattle.table.specs.Tables.{checkpointsIn, framesIn, partsIn, lsnsIn, hintsIn, confirmationsIn}
+pub use Rattle.index.specs.Room.{Tables, tables, roomOf}
+unfoldable pub use Rattle.tables.specs.Kinds.{kindsOk}
+use Rattle.tables.specs.Tables.{checkpointsIn, framesIn, partsIn, lsnsIn, hintsIn, confirmationsIn}
 
 -- ---- the value that numbers and tables stand for
 abbrev pub indexIn : AreaIndex → Tables → Index

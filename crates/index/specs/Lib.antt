@@ -1,3 +1,7 @@
+pub mod Calls
+pub mod CreateNeeds
 pub mod Index
-pub mod Needs
 pub mod Lent
+pub mod Lowest
+pub mod Needs
+pub mod Room

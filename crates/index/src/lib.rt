@@ -1,14 +1,13 @@
 // An index: its numbers by value, and its lists in seven lent tables. Questions 1 to 4, and readers of its numbers.
-use checks::check_checkpoints;
-use checks::check_confirmations;
-use checks::check_hints;
+pub mod create;
+pub mod room;
+
+use crate::room::fits;
+use crate::room::hinting_room;
+use crate::room::question1;
+use crate::room::question2;
 use field::and;
 use field::or;
-use index_questions::fits;
-use index_questions::hinting_room;
-use index_questions::question1;
-use index_questions::question2;
-use kinds::check_kinds;
 use rules::AreaIndex;
 use rules::Fingerprint;
 use rules::MAX_HINTS;
@@ -19,6 +18,10 @@ use sections::ends_ok;
 use sections::frontier_of;
 use sections::held_ok;
 use sections::is_complete_end;
+use sections::records::check_checkpoints;
+use sections::records::check_confirmations;
+use sections::records::check_hints;
+use tables::kinds::check_kinds;
 ghost use mathlib.Core.Path.{_≡_};
 ghost use mathlib.Core.Bool.{true};
 ghost use mathlib.Core.List.{List};
@@ -28,7 +31,7 @@ ghost use Rattle.rules.specs.Values.{stated, isChecked};
 ghost use Rattle.rules.specs.Questions.{areaOk};
 ghost use Rattle.index.specs.Index.{tables, roomIn, three, refusal, frontierIn};
 ghost use Rattle.sections.specs.Numbers.{endIn};
-ghost use Rattle.index_questions.specs.Room.{hintRoom};
+ghost use Rattle.index.specs.Room.{hintRoom};
 ghost use Rattle.index.specs.Needs.{Long, Roomy, heldQuestion4, scanSpace, sectionsIn, scanIn, hintingIn, hintCounts};
 
 // What a call answers that gives an index: a refusal number, or the numbers of the list that the tables then hold.

@@ -24,21 +24,21 @@ use Rattle.rules.specs.Sections.{Filled, risen, hintLsn, confirmedLsn}
 use Rattle.rules.specs.File.{decodeHeld, decodeLsn}
 use Rattle.rules.specs.Load.{Read, read, readEach, readRecord, readFrame, readPart, readFrames, readParts, readHintSection, readConfirmedSection, HintSection, hintNumber, confirmedNumber}
 use Rattle.rules.proofs.Tests.{test, asked→, after→, accepted-eq, bind→, numberOf-accepted}
-use Rattle.table.specs.Tables.{partsIn, lsnsIn}
-use Rattle.table.specs.Files.{frameNext, placeAt, framesRead, listed}
-use Rattle.table.proofs.Reading.{Steady, read-each, steady-record, steady-part, steady-frame, listed-records, behind-records}
-use Rattle.table.proofs.Files.{place-first, place-shift, place-inside}
-use Rattle.cursor.specs.declared.Cursor.{Cursor}
-use Rattle.cursor.specs.declared.Word.{Word}
-use Rattle.cursor.specs.declared.Word.the-variants as word
-use Rattle.cursor.specs.declared.Headed.{Headed}
-use Rattle.cursor.specs.declared.Headed.the-variants as headed
-use Rattle.cursor.specs.Cursors.{to}
-use Rattle.inspect_hinting.specs.Behind.{behind, headedOf, countedOf}
-use Rattle.inspect_scan.specs.declared.Taken.{Taken}
-use Rattle.inspect_scan.specs.declared.Taken.the-variants as taken
-use Rattle.inspect_scan.specs.Taken.{takenOf, readLsns}
-use Rattle.inspect_scan.proofs.Frames.{frame-says}
+use Rattle.tables.specs.Tables.{partsIn, lsnsIn}
+use Rattle.tables.specs.Files.{frameNext, placeAt, framesRead, listed}
+use Rattle.tables.proofs.Reading.{Steady, read-each, steady-record, steady-part, steady-frame, listed-records, behind-records}
+use Rattle.tables.proofs.Files.{place-first, place-shift, place-inside}
+use Rattle.inspect.specs.declared.cursor.Cursor.{Cursor}
+use Rattle.inspect.specs.declared.cursor.Word.{Word}
+use Rattle.inspect.specs.declared.cursor.Word.the-variants as word
+use Rattle.inspect.specs.declared.cursor.Headed.{Headed}
+use Rattle.inspect.specs.declared.cursor.Headed.the-variants as headed
+use Rattle.inspect.specs.Cursors.{to}
+use Rattle.inspect.specs.Behind.{behind, headedOf, countedOf}
+use Rattle.inspect.specs.declared.scan.Taken.{Taken}
+use Rattle.inspect.specs.declared.scan.Taken.the-variants as taken
+use Rattle.inspect.specs.Taken.{takenOf, readLsns}
+use Rattle.inspect.proofs.scan.Frames.{frame-says}
 
 read-eq : {A : Type 0} {t : Read A} {v : A} {r : List ℕ} → t .value ≡ v → t .rest ≡ r → t ≡ record { value = v; rest = r }
 read-eq p q = rw (← p, ← q)

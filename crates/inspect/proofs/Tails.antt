@@ -21,10 +21,10 @@ use Rattle.rules.specs.Sections.{begun, passed, checkpointOk, checkpointsOk, co
 use Rattle.rules.specs.File.{readHeader, magicBytes, decodeCheckpoint}
 use Rattle.rules.specs.Load.{Read, read, readConfirmedSection, readCheckpoints, headerNumber, isComplete, fixedSize}
 use Rattle.rules.proofs.Tests.{asked, and-right}
-use Rattle.table.specs.Tables.{checkpointsIn}
-use Rattle.table.proofs.Reading.{read-all}
-use Rattle.cursor.specs.declared.Cursor.{Cursor}
-use Rattle.cursor.specs.Cursors.{to}
+use Rattle.tables.specs.Tables.{checkpointsIn}
+use Rattle.tables.proofs.Reading.{read-all}
+use Rattle.inspect.specs.declared.cursor.Cursor.{Cursor}
+use Rattle.inspect.specs.Cursors.{to}
 use Rattle.inspect.proofs.Sections.{TookConfirmed}
 use Rattle.inspect.specs.declared.Found.{Found}
 use Rattle.inspect.specs.declared.Inspected.{Inspected}

@@ -18,8 +18,8 @@ use Rattle.rules.specs.Tests.{Answer, Refused, Accepted, after, ask, bind, firs
 use Rattle.rules.specs.Values.{Frame, used, frontierOf}
 use Rattle.rules.specs.File.{readHeader, magicBytes}
 use Rattle.rules.specs.Load.{Read, hasFingerprint, endingOf, headerNumber, endNumber, readCheckpoints, readFrames, readParts, readHintSection, readConfirmedSection}
-use Rattle.table.specs.Files.{framesRead}
-use Rattle.inspect_scan.specs.Taken.{readLsns}
+use Rattle.tables.specs.Files.{framesRead}
+use Rattle.inspect.specs.Taken.{readLsns}
 use Rattle.sections.specs.Numbers.{endFrom}
 use Rattle.inspect.specs.declared.Found.{Found}
 use Rattle.inspect.specs.declared.Inspected.{Inspected}

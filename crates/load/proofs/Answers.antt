@@ -12,13 +12,13 @@ use Rattle.rules.specs.Values.{Index}
 use Rattle.rules.specs.Questions.{areaOk, question1, question3}
 use Rattle.rules.specs.Load.{fromBytes, limited, load}
 use Rattle.rules.proofs.Tests.{→bind}
-use Rattle.filelaws.proofs.Loaded.{loaded-valid}
+use Rattle.laws.proofs.Loaded.{loaded-valid}
 use Rattle.index.specs.declared.Made.the-variants as made
 use Rattle.index.specs.Index.{Tables, roomOf, roomIn, numbersFrom, tablesFrom, out, outOf}
 use Rattle.inspect.specs.declared.Found.{Found}
 use Rattle.inspect.specs.declared.Inspected.the-variants as inspected
 use Rattle.inspect.specs.Inspect.{foundIn, inspectionOf, inspection}
-use Rattle.limit.specs.Limit.{listOf, listIn, limitedIn, Accepts}
+use Rattle.load.specs.Limit.{listOf, listIn, limitedIn, Accepts}
 use Rattle.load.specs.declared.Decided.{Decided}
 use Rattle.load.specs.declared.Decided.the-variants as decided
 use Rattle.load.specs.Load.{loadIn}

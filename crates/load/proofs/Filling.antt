@@ -19,22 +19,22 @@ use Rattle.rules.specs.Hints.{thin, lastOnes}
 use Rattle.rules.specs.File.{encodeCheckpoint, encodeFrameHeader, encodeHeld, encodeLsn, encodeHint, encodeConfirmation, over}
 use Rattle.rules.specs.Load.{fitting, within, limited}
 use Rattle.rules.proofs.Tests.{test, all→}
-use Rattle.filelaws.proofs.Layouts.{checkpoint-layout, lsn-layout, confirmation-layout, held-length}
-use Rattle.filelaws.proofs.Facts.{Facts, facts}
-use Rattle.filelaws.proofs.Header.{scan-counts}
-use Rattle.filelaws.proofs.Loaded.{loaded-valid}
-use Rattle.scanlaws.proofs.Limit.{fit-length}
-use Rattle.hintlaws.proofs.Lists.{last-length}
-use Rattle.table.specs.Tables.{hintsIn}
-use Rattle.table.specs.Files.{placeAt, listed, frameHere, frameFollows, framesRead}
-use Rattle.table.proofs.Files.{place-inside}
+use Rattle.laws.proofs.Layouts.{checkpoint-layout, lsn-layout, confirmation-layout, held-length}
+use Rattle.laws.proofs.Facts.{Facts, facts}
+use Rattle.laws.proofs.Header.{scan-counts}
+use Rattle.laws.proofs.Loaded.{loaded-valid}
+use Rattle.laws.proofs.scans.Limit.{fit-length}
+use Rattle.laws.proofs.hint_lists.Lists.{last-length}
+use Rattle.tables.specs.Tables.{hintsIn}
+use Rattle.tables.specs.Files.{placeAt, listed, frameHere, frameFollows, framesRead}
+use Rattle.tables.proofs.Files.{place-inside}
 use Rattle.index.specs.Index.{Tables, tables, roomOf, storeOf, tablesFrom}
 use Rattle.inspect.specs.declared.Found.{Found}
-use Rattle.file_places.specs.declared.Places.{Places}
-use Rattle.file_places.specs.Places.{confirmedSize, Inside, placesIn}
-use Rattle.limit.specs.Limit.{listIn, limitedIn, framesAt, partsAt, malformedAt, hintsAt, confirmedAt}
-use Rattle.limit.proofs.Sections.{each-length, Laid}
-use Rattle.limit.proofs.Limit.{accepted}
+use Rattle.load.specs.declared.places.Places.{Places}
+use Rattle.load.specs.Places.{confirmedSize, Inside, placesIn}
+use Rattle.load.specs.Limit.{listIn, limitedIn, framesAt, partsAt, malformedAt, hintsAt, confirmedAt}
+use Rattle.load.proofs.limit.Sections.{each-length, Laid}
+use Rattle.load.proofs.limit.Limit.{accepted}
 use Rattle.load.specs.Steps.{Ready}
 
 -- ---- what stays is the first

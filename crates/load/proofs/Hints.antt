@@ -7,10 +7,10 @@ use lib.ListN.{length, drop, length-drop}
 use Rattle.field.specs.Records.{bytesOf}
 use Rattle.rules.specs.File.{encodeHint, over}
 use Rattle.rules.specs.Hints.{thin}
-use Rattle.filelaws.proofs.Length.{length-each}
-use Rattle.filelaws.proofs.Layouts.{hint-layout}
-use Rattle.table.specs.Tables.{hintsIn}
-use Rattle.hints.specs.Thin.{Starts}
+use Rattle.laws.proofs.Length.{length-each}
+use Rattle.laws.proofs.Layouts.{hint-layout}
+use Rattle.tables.specs.Tables.{hintsIn}
+use Rattle.thin.specs.Thin.{Starts}
 
 pub hints-room : {t : List ℕ} (b : List ℕ) (at n : ℕ) → t ≡ drop at b → at + n * 8 ≤ length b → n * 8 ≤ length t
 hints-room b at n e l = rw (e, length-drop) (omega arith)

@@ -10,7 +10,7 @@ use Rattle.rules.specs.Questions.{question3}
 use Rattle.rules.specs.Load.{load}
 use Rattle.index.specs.Index.{Tables, roomOf, numbersFrom}
 use Rattle.inspect.specs.declared.Found.{Found}
-use Rattle.limit.specs.Limit.{limitedIn, Accepts}
+use Rattle.load.specs.Limit.{limitedIn, Accepts}
 use Rattle.load.specs.declared.Decided.{Decided}
 use Rattle.load.specs.declared.Decided.the-variants as decided
 

@@ -1,20 +1,23 @@
 // Loading into lent tables: from_bytes.
+pub mod limit;
+pub mod places;
+
+use crate::limit::limited;
+use crate::places::locate;
+use crate::places::next_frame;
 use field::copy_first;
 use field::copy_part;
 use field::read_u32;
-use file_places::locate;
-use file_places::next_frame;
-use hints::thin_into;
 use index::Made;
 use index::question3;
-use index_questions::question1;
+use index::room::question1;
 use inspect::Found;
 use inspect::Inspected;
 use inspect::inspect;
-use limit::limited;
 use rules::Area;
 use rules::AreaIndex;
-use table::behind;
+use tables::behind;
+use thin::thin_into;
 ghost use mathlib.Core.Path.{_≡_};
 ghost use Prim.Native.Nat.{_+_, _*_, _≤_, min};
 ghost use mathlib.Core.List.{_++_};
@@ -23,10 +26,10 @@ ghost use Rattle.field.specs.Records.{bytesOf};
 ghost use Rattle.rules.specs.Values.{used};
 ghost use Rattle.rules.specs.File.{encodeFrameHeader, encodeHint, over};
 ghost use Rattle.rules.specs.Hints.{thin};
-ghost use Rattle.table.specs.Tables.{hintsIn};
-ghost use Rattle.table.specs.Files.{placeAt, framesRead};
+ghost use Rattle.tables.specs.Tables.{hintsIn};
+ghost use Rattle.tables.specs.Files.{placeAt, framesRead};
 ghost use Rattle.index.specs.Index.{tables, storeOf, tablesFrom, out};
-ghost use Rattle.limit.specs.Limit.{Accepts, limitedIn, lengthHere, Moved};
+ghost use Rattle.load.specs.Limit.{Accepts, limitedIn, lengthHere, Moved};
 ghost use Rattle.load.specs.Load.{loadIn};
 ghost use Rattle.load.specs.Steps.{Ready, Decision};
 

@@ -8,19 +8,19 @@ use Rattle.rules.specs.declared.AreaIndex.{AreaIndex}
 use Rattle.rules.specs.Sections.{confirmationsOk, confirmedLsn, confirmationOk}
 use Rattle.rules.specs.File.{decodeLsn, decodeHint, decodeConfirmation}
 use Rattle.rules.proofs.Tests.{test}
-use Rattle.scanlaws.proofs.Scans.{malformed-length}
-use Rattle.hintlaws.proofs.Rising.{rising→, rises-from}
-use Rattle.table.specs.Tables.{confirmationsIn}
+use Rattle.laws.proofs.scans.Scans.{malformed-length}
+use Rattle.laws.proofs.hint_lists.Rising.{rising→, rises-from}
+use Rattle.tables.specs.Tables.{confirmationsIn}
 use Rattle.index.specs.Index.{Tables}
 use Rattle.index.specs.Needs.{Passes}
 use Rattle.index.proofs.Questions.{space, passes-long, passes-hints}
-use Rattle.confirm.specs.Kept.{Rising}
-use Rattle.further.specs.Further.{furtherIn}
-use Rattle.join.specs.Needs.{Joins}
-use Rattle.join.proofs.Ready.{scan-is, hinting-is, hint-room, confirmed-room, areas, few-boundaries, few-checkpoints, other-few}
-use Rattle.join.proofs.Held.{lent, room}
+use Rattle.confirmations.specs.Kept.{Rising}
+use Rattle.merge.specs.Further.{furtherIn}
+use Rattle.merge.specs.QuestionsNeeds.{Joins}
+use Rattle.merge.proofs.questions.Ready.{scan-is, hinting-is, hint-room, confirmed-room, areas, few-boundaries, few-checkpoints, other-few}
+use Rattle.merge.proofs.questions.Held.{lent, room}
 use Rattle.parts.specs.Parts.{partTables}
-use Rattle.take.specs.Needs.{Appends, Takes, PartsReady, HintsReady}
+use Rattle.merge.specs.TakeNeeds.{Appends, Takes, PartsReady, HintsReady}
 
 few-malformed : {y : AreaIndex} {u : Tables} → Passes y u → y .malformed ≤ 4096
 few-malformed {y} {u} p =

@@ -19,20 +19,20 @@ use Rattle.rules.specs.Hints.{keepAll}
 use Rattle.rules.specs.File.{encodeCheckpoint, encodeFrameHeader, encodeHeld, encodeLsn, encodeHint, encodeConfirmation, decodeCheckpoint, over}
 use Rattle.rules.specs.Merge.{further, mergedScan, merged, merge}
 use Rattle.rules.proofs.Tests.{test}
-use Rattle.hintlaws.specs.Passes.{Begins}
-use Rattle.filelaws.proofs.Layouts.{confirmation-layout}
-use Rattle.table.specs.Tables.{checkpointsIn, partsIn, confirmationsIn}
+use Rattle.laws.specs.Passes.{Begins}
+use Rattle.laws.proofs.Layouts.{confirmation-layout}
+use Rattle.tables.specs.Tables.{checkpointsIn, partsIn, confirmationsIn}
 use Rattle.index.specs.Index.{Tables, tables, indexIn, storeOf, numbersFrom, tablesCleared, Out, out, outOf}
 use Rattle.sections.specs.Numbers.{endIn, endFrom, idFrom}
 use Rattle.index.specs.declared.Made.the-variants as made
-use Rattle.join.specs.Join.{mergeRefusal}
-use Rattle.further.specs.Further.{furtherIn}
-use Rattle.join.proofs.Refusal.{further-is, asked-after}
+use Rattle.merge.specs.Join.{mergeRefusal}
+use Rattle.merge.specs.Further.{furtherIn}
+use Rattle.merge.proofs.questions.Refusal.{further-is, asked-after}
 use Rattle.parts.specs.declared.Counts.{Counts}
 use Rattle.parts.specs.Parts.{partTables, storedIn, Held, held, heldFrom}
 use Rattle.merge.specs.Merge.{hintsWritten, mergeIn}
-use Rattle.merged_numbers.specs.Numbers.{numbersBy}
-use Rattle.take.specs.Needs.{Appended, Taken, partsTaken, Listed, listed, clearedUpTo, hintsJoined}
+use Rattle.merge.specs.Numbers.{numbersBy}
+use Rattle.merge.specs.TakeNeeds.{Appended, Taken, partsTaken, Listed, listed, clearedUpTo, hintsJoined}
 use Rattle.merge.specs.Needs.{outIndex, mergedIn}
 
 -- ---- answer and tables

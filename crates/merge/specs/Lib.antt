@@ -1,2 +1,7 @@
+pub mod Further
+pub mod Join
 pub mod Merge
 pub mod Needs
+pub mod Numbers
+pub mod QuestionsNeeds
+pub mod TakeNeeds

@@ -1,19 +1,25 @@
 // Merging two lists in their tables.
-use confirm::merge_confirmations;
-use further::further;
+pub mod common;
+pub mod goes_further;
+pub mod numbers;
+pub mod questions;
+pub mod take;
+
+use crate::goes_further::further;
+use crate::numbers::numbers;
+use crate::questions::merge_refuses;
+use crate::questions::taken;
+use crate::take::append_checkpoints;
+use crate::take::join_hints;
+use crate::take::take_malformed;
+use crate::take::take_parts;
+use confirmations::confirm::merge_confirmations;
 use index::Made;
 use index::is_checked;
-use join::merge_refuses;
-use join::taken;
-use merged_numbers::numbers;
 use rules::AreaIndex;
-use take::append_checkpoints;
-use take::join_hints;
-use take::take_malformed;
-use take::take_parts;
 ghost use mathlib.Core.Path.{_≡_};
 ghost use Rattle.index.specs.Index.{tables, out};
-ghost use Rattle.join.specs.Needs.{Joins};
+ghost use Rattle.merge.specs.QuestionsNeeds.{Joins};
 ghost use Rattle.merge.specs.Merge.{mergeIn};
 ghost use Rattle.merge.specs.Needs.{outIndex, mergedIn};
 

@@ -23,12 +23,12 @@ use Rattle.rules.specs.PartRule.{Stored, Piece, piece, addPart, addParts}
 use Rattle.rules.specs.Plan.{offsetOf, bytesAt}
 use Rattle.rules.specs.File.{decodeHeld}
 use Rattle.rules.proofs.Tests.{test}
-use Rattle.scanlaws.proofs.PartRule.{addParts-skip, addParts-add}
-use Rattle.filelaws.proofs.Layouts.{HeldFits, signed-forth}
-use Rattle.table.specs.declared.FrameHeader.{FrameHeader}
-use Rattle.table.specs.Tables.{decodeHeader, headersIn, headerAt, frameOf, framesOf, framesIn, partsIn}
-use Rattle.table.proofs.Frames.{stretch-length, frame-start, frames-used}
-use Rattle.table.proofs.Walk.{records-turn}
+use Rattle.laws.proofs.scans.PartRule.{addParts-skip, addParts-add}
+use Rattle.laws.proofs.Layouts.{HeldFits, signed-forth}
+use Rattle.tables.specs.declared.FrameHeader.{FrameHeader}
+use Rattle.tables.specs.Tables.{decodeHeader, headersIn, headerAt, frameOf, framesOf, framesIn, partsIn}
+use Rattle.tables.proofs.Frames.{stretch-length, frame-start, frames-used}
+use Rattle.tables.proofs.Walk.{records-turn}
 use Rattle.index.specs.Index.{kindsOk, storeOf}
 use Rattle.index.proofs.Back.{HeaderFits, FrameFits, header-layout}
 use Rattle.plan.proofs.Held.{weight-next, weight-offset}

@@ -18,8 +18,8 @@ use Rattle.rules.specs.Sections.{partOk}
 use Rattle.rules.specs.File.{decodeHeld}
 use Rattle.rules.proofs.Tests.{test}
 use Rattle.rules.proofs.Walk.{walk-head, walk-tail}
-use Rattle.scanlaws.proofs.Parts.{keep, atAfter, framesTo, latest-last, part→, follows→, HeldIs, frames-used, held-counts}
-use Rattle.table.specs.Tables.{framesIn, partsIn}
+use Rattle.laws.proofs.scans.Parts.{keep, atAfter, framesTo, latest-last, part→, follows→, HeldIs, frames-used, held-counts}
+use Rattle.tables.specs.Tables.{framesIn, partsIn}
 use Rattle.index.specs.Index.{kindsOk}
 use Rattle.parts.specs.declared.Counts.{Counts}
 use Rattle.parts.specs.Parts.{PartTables}

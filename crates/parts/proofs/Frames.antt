@@ -11,10 +11,10 @@ use Rattle.field.proofs.Records.{records-length, records-at, records-more}
 use Rattle.rules.specs.Tests.{lastOr}
 use Rattle.rules.specs.Values.{Frame, noFrame, used}
 use Rattle.rules.proofs.Walk.{lastOr-snoc}
-use Rattle.scanlaws.proofs.Parts.{used-snoc}
-use Rattle.table.specs.declared.FrameHeader.{FrameHeader}
-use Rattle.table.specs.Tables.{decodeHeader, headersIn, headerAt, stretch, frameOf, framesOf, framesIn}
-use Rattle.table.proofs.Frames.{stretch-length, stretch-within, frames-length, frame-start, frame-length, weight, frames-used}
+use Rattle.laws.proofs.scans.Parts.{used-snoc}
+use Rattle.tables.specs.declared.FrameHeader.{FrameHeader}
+use Rattle.tables.specs.Tables.{decodeHeader, headersIn, headerAt, stretch, frameOf, framesOf, framesIn}
+use Rattle.tables.proofs.Frames.{stretch-length, stretch-within, frames-length, frame-start, frame-length, weight, frames-used}
 
 -- a frame behind others
 frames-snoc : (hs : List FrameHeader) (h : FrameHeader) (store : List ℕ)

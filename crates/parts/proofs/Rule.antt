@@ -15,9 +15,9 @@ use Rattle.rules.specs.Values.{noHeld, maxFrame, used}
 use Rattle.rules.specs.PartRule.{Stored, Piece, lastFrame, lastPart, opens, joins, growth, stores}
 use Rattle.rules.specs.File.{decodeHeld}
 use Rattle.rules.proofs.Tests.{and-assoc, or-none}
-use Rattle.table.specs.declared.FrameHeader.{FrameHeader}
-use Rattle.table.specs.Tables.{framesIn, partsIn}
-use Rattle.table.proofs.Tests.{leb-left}
+use Rattle.tables.specs.declared.FrameHeader.{FrameHeader}
+use Rattle.tables.specs.Tables.{framesIn, partsIn}
+use Rattle.tables.proofs.Tests.{leb-left}
 use Rattle.parts.specs.declared.Counts.{Counts}
 use Rattle.parts.specs.Parts.{PartTables, storedIn}
 use Rattle.parts.specs.Needs.{Ready, joinsIn}

@@ -20,11 +20,11 @@ use Rattle.rules.specs.PartRule.{Stored, Piece, lastFrame, partOf, opens, joins
 use Rattle.rules.specs.File.{encodeFrameHeader, encodeHeld, over}
 use Rattle.rules.proofs.Tests.{test, never, all→, or-cases}
 use Rattle.rules.proofs.Walk.{Snoc, ends, length-snoc, set-last, lastOr-snoc}
-use Rattle.scanlaws.proofs.Parts.{used-snoc}
-use Rattle.scanlaws.proofs.PartRule.{longer, some-part}
-use Rattle.filelaws.proofs.Layouts.{HeldFits, held-length}
-use Rattle.filelaws.proofs.Length.{length-each}
-use Rattle.table.specs.Tables.{framesIn, headersIn, partsIn}
+use Rattle.laws.proofs.scans.Parts.{used-snoc}
+use Rattle.laws.proofs.scans.PartRule.{longer, some-part}
+use Rattle.laws.proofs.Layouts.{HeldFits, held-length}
+use Rattle.laws.proofs.Length.{length-each}
+use Rattle.tables.specs.Tables.{framesIn, headersIn, partsIn}
 use Rattle.index.specs.Index.{kindsOk, storeOf}
 use Rattle.index.proofs.Back.{FrameFits, frames-back, header-length}
 use Rattle.index.proofs.Standing.{held-records, kinds-held, over-length}

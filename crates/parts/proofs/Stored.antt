@@ -23,12 +23,12 @@ use Rattle.rules.specs.PartRule.{Stored, Piece, lastFrame, partOf, opens, joins
 use Rattle.rules.specs.File.{encodeFrameHeader, encodeHeld, decodeHeld, over}
 use Rattle.rules.proofs.Tests.{test, never, all→, or-cases}
 use Rattle.rules.proofs.Walk.{length-snoc, set-last, lastOr-snoc}
-use Rattle.scanlaws.proofs.Parts.{used-snoc}
-use Rattle.scanlaws.proofs.PartRule.{longer, some-part}
-use Rattle.filelaws.proofs.Layouts.{held-length}
-use Rattle.table.specs.declared.FrameHeader.{FrameHeader}
-use Rattle.table.specs.Tables.{decodeHeader, stretch, framesOf, framesIn, headersIn, partsIn}
-use Rattle.table.proofs.Frames.{stretch-length, frames-used}
+use Rattle.laws.proofs.scans.Parts.{used-snoc}
+use Rattle.laws.proofs.scans.PartRule.{longer, some-part}
+use Rattle.laws.proofs.Layouts.{held-length}
+use Rattle.tables.specs.declared.FrameHeader.{FrameHeader}
+use Rattle.tables.specs.Tables.{decodeHeader, stretch, framesOf, framesIn, headersIn, partsIn}
+use Rattle.tables.proofs.Frames.{stretch-length, frames-used}
 use Rattle.index.specs.Index.{kindsOk, storeOf}
 use Rattle.index.proofs.Back.{header-layout, header-length}
 use Rattle.index.proofs.Lent.{over-same, parts-bytes, headers-of, store-back}

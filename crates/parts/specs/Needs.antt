@@ -12,8 +12,8 @@ use Rattle.rules.specs.Tests.{agrees}
 use Rattle.rules.specs.Values.{Frame, maxFrame, frameAt, used, sameKind}
 use Rattle.rules.specs.PartRule.{Piece, partOf, addPart}
 use Rattle.rules.specs.File.{encodeHeld}
-use Rattle.table.specs.declared.FrameHeader.{FrameHeader}
-use Rattle.table.specs.Tables.{headersIn, framesOf, framesIn, partsIn}
+use Rattle.tables.specs.declared.FrameHeader.{FrameHeader}
+use Rattle.tables.specs.Tables.{headersIn, framesOf, framesIn, partsIn}
 use Rattle.index.specs.Index.{kindsOk}
 use Rattle.parts.specs.declared.Counts.{Counts}
 use Rattle.parts.specs.declared.Placed.{Placed}

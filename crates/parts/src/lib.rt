@@ -1,20 +1,22 @@
 // The part rule over lent tables: which parts are stored, and how.
+pub mod admits;
+
+use crate::admits::alike;
+use crate::admits::passed_over;
 use field::and;
 use field::copy_part;
 use field::min_u64;
 use field::or;
 use field::same;
-use part_questions::alike;
-use part_questions::passed_over;
-use part_records::write_header;
-use part_records::write_held;
 use rules::FrameKind;
 use rules::Held;
 use rules::MAX_FRAME_BYTES;
-use table::FrameHeader;
-use table::get_header;
-use table::read_header;
-use table::read_held;
+use tables::FrameHeader;
+use tables::get_header;
+use tables::part_records::write_header;
+use tables::part_records::write_held;
+use tables::read_header;
+use tables::read_held;
 ghost use mathlib.Core.Path.{_≡_};
 ghost use mathlib.Core.Bool.{Bool, false, _||_, _&&_};
 ghost use mathlib.Core.List.{List, _++_};
@@ -27,7 +29,7 @@ ghost use Rattle.rules.specs.Tests.{agrees, lastOr};
 ghost use Rattle.rules.specs.Values.{maxFrame, noHeld, used};
 ghost use Rattle.rules.specs.PartRule.{stores, addPart, addParts};
 ghost use Rattle.rules.specs.File.{unsigned32, kindNumber, encodeHeld};
-ghost use Rattle.table.specs.Tables.{headersIn, headerAt, framesIn, partsIn};
+ghost use Rattle.tables.specs.Tables.{headersIn, headerAt, framesIn, partsIn};
 ghost use Rattle.parts.specs.Parts.{partTables, storedIn, pieceIn, held, heldFrom};
 ghost use Rattle.parts.specs.Needs.{Ready, Room, joinsIn, placedIn, Puts, putIn, Lent, offsetTo, wanted, heldPiece, addedBy};
 

@@ -17,10 +17,10 @@ use Rattle.rules.specs.declared.Held.{Held}
 use Rattle.rules.specs.Values.{Frame, used}
 use Rattle.rules.specs.File.{decodeHeld}
 use Rattle.rules.specs.Plan.{offsetOf, assemblyOf}
-use Rattle.table.specs.declared.FrameHeader.{FrameHeader}
-use Rattle.table.specs.Tables.{headerAt, framesOf, partsIn}
-use Rattle.table.proofs.Frames.{stretch-length, frames-used, weight}
-use Rattle.table.proofs.Walk.{records-turn}
+use Rattle.tables.specs.declared.FrameHeader.{FrameHeader}
+use Rattle.tables.specs.Tables.{headerAt, framesOf, partsIn}
+use Rattle.tables.proofs.Frames.{stretch-length, frames-used, weight}
+use Rattle.tables.proofs.Walk.{records-turn}
 use Rattle.plan.specs.Needs.{storedOf}
 
 -- ---- the bytes of the frames before one

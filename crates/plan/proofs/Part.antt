@@ -21,7 +21,7 @@ use Rattle.rules.specs.Sections.{partsOk}
 use Rattle.rules.specs.File.{decodeHeld}
 use Rattle.rules.specs.Plan.{offsetOf, assemblyOf, planFrom, planOr, planned, bytesAt}
 use Rattle.rules.proofs.Tests.{test, all→, after→, accepted→}
-use Rattle.scanlaws.proofs.Parts.{part→}
+use Rattle.laws.proofs.scans.Parts.{part→}
 use Rattle.rules.proofs.Walk.{walk-at}
 use Rattle.index.specs.Index.{Tables, indexIn, refusal}
 use Rattle.index.specs.Needs.{Passes}

@@ -13,8 +13,8 @@ use Rattle.rules.specs.Tests.{walk}
 use Rattle.rules.specs.Values.{noCheckpoint, checkpointAt}
 use Rattle.rules.specs.Sections.{Passed, passed, begun, checkpointOk, checkpointsOk}
 use Rattle.rules.specs.File.{decodeCheckpoint}
-use Rattle.table.specs.Tables.{checkpointsIn}
-use Rattle.plan_questions.specs.Search.{Rising}
+use Rattle.tables.specs.Tables.{checkpointsIn}
+use Rattle.plan.specs.Search.{Rising}
 use Rattle.index.proofs.Numbers.{test, first, second}
 
 grown : (k : ℕ) (s : Passed) (c : Checkpoint) → checkpointOk k s c ≡ true → s .threshold ≤ c .threshold

@@ -17,13 +17,13 @@ use Rattle.rules.specs.Tests.{each, firstNo, Accepted, after}
 use Rattle.rules.specs.Values.{checkpointAt, lsnOf}
 use Rattle.rules.specs.File.{decodeCheckpoint}
 use Rattle.rules.specs.Plan.{lastNotAbove, assemblyOf, planFrom, planOr, planned, plan}
-use Rattle.table.specs.Tables.{checkpointsIn, framesIn, partsIn}
+use Rattle.tables.specs.Tables.{checkpointsIn, framesIn, partsIn}
 use Rattle.plan.specs.declared.Planned.the-variants as variants
 use Rattle.index.specs.Index.{Tables, indexIn, refusal}
 use Rattle.sections.specs.Numbers.{endIn}
 use Rattle.plan.specs.Calls.{plannedOf, planIn}
 use Rattle.index.specs.Needs.{Passes}
-use Rattle.plan_questions.specs.Search.{lastIn}
+use Rattle.plan.specs.Search.{lastIn}
 use Rattle.plan.specs.Needs.{Ready, resumeIn, withinOf, planOf}
 use Rattle.index.proofs.Four.{kinded-index}
 use Rattle.index.proofs.Questions.{range, passes-long, checkpoints-hold}

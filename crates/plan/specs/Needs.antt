@@ -10,7 +10,7 @@ use Rattle.rules.specs.declared.Plan.{Plan}
 use Rattle.rules.specs.Values.{Frame}
 use Rattle.rules.specs.Plan.{offsetOf, lastNotAbove, resume, planFrom, planned, plan}
 use Rattle.index.specs.Index.{Tables, tables, indexIn}
-use Rattle.plan_questions.specs.Search.{Rising}
+use Rattle.plan.specs.Search.{Rising}
 
 -- what a plan reads of the tables
 pub record Ready (x : AreaIndex) (cs fs ps : List ℕ) : Type 0 where

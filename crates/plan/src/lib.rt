@@ -1,8 +1,10 @@
 // Where to start for a frame.
+pub mod search;
+
+use crate::search::at_end;
+use crate::search::is_none;
+use crate::search::not_above;
 use index::refuses;
-use plan_questions::at_end;
-use plan_questions::is_none;
-use plan_questions::not_above;
 use rules::AreaIndex;
 use rules::Assembly;
 use rules::End;
@@ -11,15 +13,15 @@ use rules::HeldPart;
 use rules::Plan;
 use rules::Resume;
 use sections::lsn_at;
-use table::get_checkpoint;
-use table::get_header;
-use table::read_held;
+use tables::get_checkpoint;
+use tables::get_header;
+use tables::read_held;
 ghost use mathlib.Core.Path.{_≡_};
 ghost use mathlib.Core.List.{List};
 ghost use Prim.Native.Nat.{ℕ, _*_, _≤_};
 ghost use lib.ListN.{length};
 ghost use Rattle.rules.specs.Plan.{offsetOf, assemblyOf};
-ghost use Rattle.table.specs.Tables.{framesIn, partsIn};
+ghost use Rattle.tables.specs.Tables.{framesIn, partsIn};
 ghost use Rattle.index.specs.Index.{tables};
 ghost use Rattle.plan.specs.Calls.{plannedOf, planIn};
 ghost use Rattle.plan.specs.Needs.{Ready, storedOf, resumeIn, withinOf, planOf};

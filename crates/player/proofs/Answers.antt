@@ -8,25 +8,25 @@ use Rattle.rules.specs.declared.AreaIndex.{AreaIndex}
 use Rattle.rules.specs.declared.First.{First}
 use Rattle.rules.specs.FirstRecord.{firstRecord}
 use Rattle.rules.specs.Tests.{Accepted}
-use Rattle.head.specs.Head.{indexWords}
+use Rattle.blocks.specs.Head.{indexWords}
 use Rattle.index.specs.Index.{Tables, out}
 use Rattle.index.specs.declared.Made.{Made}
-use Rattle.create.specs.Calls.{madeOf, newIn, boundIn}
+use Rattle.index.specs.Calls.{madeOf, newIn, boundIn}
 use Rattle.plan.specs.Calls.{plannedOf, planIn}
 use Rattle.plan.specs.declared.Planned.{Planned}
 use Rattle.load.specs.Load.{loadIn}
 use Rattle.merge.specs.Merge.{mergeIn}
 use Rattle.adds.specs.Brings.{addsOf, addsIn}
 use Rattle.adds.specs.declared.Added.{Added}
-use Rattle.adding.specs.Added.{addHintsIn}
+use Rattle.add_hints.specs.Added.{addHintsIn}
 use Rattle.save.specs.Save.{made, saveIn}
 use Rattle.save.specs.declared.Saved.{Saved}
 use Rattle.sizes.specs.declared.FileArea.{FileArea}
 use Rattle.sizes.specs.declared.Sized.{Sized}
 use Rattle.sizes.specs.Sizes.{sizedOf, newSizes, fileSizes, fileAreaOf, fileArea, fileLength}
-use Rattle.block.specs.Block.{called, into, headIndex, planWords, firstWords, sizeWords, areaWords, bringsWords, savedNumber}
+use Rattle.player.specs.Block.{called, into, headIndex, planWords, firstWords, sizeWords, areaWords, bringsWords, savedNumber}
 use Rattle.player.specs.Calls.{calledOver, outInto, firstCall, sizesCall, fileAreaCall, fileSizesCall, newCall, loadCall, fingerprintCall, planCall, lengthCall, saveCall, mergeCall, addsCall, addHintsCall}
-use Rattle.block.proofs.Blocks.{long-enough}
+use Rattle.player.proofs.block.Blocks.{long-enough}
 
 -- ---- the block is the answer's
 module _ (b b' : List ℕ) (n : ℕ) (l : 192 ≤ length b) where

@@ -4,17 +4,17 @@ use mathlib.Core.List.{List}
 use Rattle.rules.specs.declared.Area.{Area}
 use Rattle.rules.specs.FirstRecord.{firstRecord}
 use Rattle.rules.specs.Tests.{Accepted}
-use Rattle.head.specs.Head.{indexWords}
+use Rattle.blocks.specs.Head.{indexWords}
 use Rattle.index.specs.Index.{Tables, Out}
-use Rattle.create.specs.Calls.{madeOf, newIn, boundIn}
+use Rattle.index.specs.Calls.{madeOf, newIn, boundIn}
 use Rattle.plan.specs.Calls.{planIn}
 use Rattle.load.specs.Load.{loadIn}
 use Rattle.merge.specs.Merge.{mergeIn}
 use Rattle.adds.specs.Brings.{addsIn}
-use Rattle.adding.specs.Added.{addHintsIn}
+use Rattle.add_hints.specs.Added.{addHintsIn}
 use Rattle.save.specs.Save.{saveIn}
 use Rattle.sizes.specs.Sizes.{newSizes, fileSizes, fileArea, fileLength}
-use Rattle.block.specs.Block.{Called, called, into, inBlock, headIndex, planWords, firstWords, sizeWords, areaWords, bringsWords, savedInto}
+use Rattle.player.specs.Block.{Called, called, into, inBlock, headIndex, planWords, firstWords, sizeWords, areaWords, bringsWords, savedInto}
 
 -- ---- sectors and sizes; the block is the answer's
 unfoldable pub firstCall : List ℕ → List ℕ → Called

@@ -1,18 +1,20 @@
 // What the player's C program calls for lists: each call over blocks and lent tables, answered by a number.
-use block::area_from;
-use block::index_in;
-use block::put_area;
-use block::put_brings;
-use block::put_first;
-use block::put_made;
-use block::put_plan;
-use block::put_sizes;
-use block::saved_number;
-use head::HEAD_BYTES;
+pub mod block;
+
+use crate::block::area_from;
+use crate::block::index_in;
+use crate::block::put_area;
+use crate::block::put_brings;
+use crate::block::put_first;
+use crate::block::put_made;
+use crate::block::put_plan;
+use crate::block::put_sizes;
+use crate::block::saved_number;
+use blocks::HEAD_BYTES;
 ghost use mathlib.Core.Path.{_≡_};
 ghost use Rattle.fnv.specs.Fnv.{fnv64};
 ghost use Rattle.index.specs.Index.{tables};
-ghost use Rattle.block.specs.Block.{called, areaFrom};
+ghost use Rattle.player.specs.Block.{called, areaFrom};
 ghost use Rattle.player.specs.Calls.{calledOver, mergeCall, addsCall, addHintsCall, newCall, loadCall, fingerprintCall, planCall, saveCall, lengthCall, sizesCall, fileSizesCall, fileAreaCall, firstCall};
 
 // ---- sums, sectors and sizes
@@ -126,7 +128,7 @@ pub extern "C" fn seek_raw_new(
         return 3;
     }
     let area = area_from(slot, channels, key_start, key_end, sectors, start, end);
-    let made = create::new(
+    let made = index::create::new(
         area,
         interval,
         budget,
@@ -204,7 +206,7 @@ pub extern "C" fn seek_raw_fingerprint(
         return 3;
     }
     let x = index_in(head);
-    let made = create::bind_fingerprint(
+    let made = index::create::bind_fingerprint(
         x,
         value,
         checkpoints,
@@ -443,7 +445,7 @@ pub extern "C" fn seek_raw_add_hints(
         return 3;
     }
     let x = index_in(head);
-    let made = adding::add_hints(
+    let made = add_hints::add_hints(
         x,
         list,
         checkpoints,

@@ -8,17 +8,17 @@ use Rattle.rules.specs.declared.AreaIndex.{AreaIndex}
 use Rattle.index.specs.Index.{Tables}
 use Rattle.save.specs.Save.{made}
 use Rattle.save.specs.declared.Saved.{Saved}
-use Rattle.block.specs.Block.{called, into, headIndex, savedNumber}
-use Rattle.block.proofs.Blocks.{long-enough}
-use Rattle.disc_table.specs.declared.Contents.{Contents}
-use Rattle.disc_table.specs.Contents.{contentsIn}
+use Rattle.player.specs.Block.{called, into, headIndex, savedNumber}
+use Rattle.player.proofs.block.Blocks.{long-enough}
+use Rattle.disc_load.specs.declared.contents.Contents.{Contents}
+use Rattle.disc_load.specs.Contents.{contentsIn}
 use Rattle.disc_load.specs.declared.Loaded.{Loaded}
 use Rattle.disc_load.specs.Calls.{discOut, loadDiscIn}
 use Rattle.disc_save.specs.Calls.{saveOneIn, saveBothIn}
-use Rattle.disc_sizes.specs.declared.DiscSized.{DiscSized}
-use Rattle.disc_sizes.specs.Sizes.{discSizes, discSizedOf}
-use Rattle.disc_length.specs.Length.{oneLength, bothLength}
-use Rattle.disc_block.specs.Block.{calledLists, contentsInto, discSizeWords, loadedInto}
+use Rattle.disc_load.specs.declared.table_sizes.DiscSized.{DiscSized}
+use Rattle.disc_load.specs.Sizes.{discSizes, discSizedOf}
+use Rattle.disc_save.specs.Length.{oneLength, bothLength}
+use Rattle.player_disc.specs.Block.{calledLists, contentsInto, discSizeWords, loadedInto}
 use Rattle.player_disc.specs.Calls.{discContentsCall, discSizesCall, discLengthCall, discLengthBothCall, discSaveCall, discSaveBothCall, calledDisc, discLoadCall}
 
 -- ---- the block is the answer's

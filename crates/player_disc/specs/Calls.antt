@@ -3,13 +3,13 @@ use Prim.Native.Nat.{ℕ}
 use mathlib.Core.List.{List}
 use Rattle.rules.specs.declared.Area.{Area}
 use Rattle.index.specs.Index.{Tables}
-use Rattle.block.specs.Block.{Called, called, into, inBlock, headIndex, savedInto}
-use Rattle.disc_table.specs.Contents.{contentsIn}
+use Rattle.player.specs.Block.{Called, called, into, inBlock, headIndex, savedInto}
+use Rattle.disc_load.specs.Contents.{contentsIn}
 use Rattle.disc_load.specs.Calls.{DiscOut, loadDiscIn}
 use Rattle.disc_save.specs.Calls.{saveOneIn, saveBothIn}
-use Rattle.disc_sizes.specs.Sizes.{discSizes}
-use Rattle.disc_length.specs.Length.{oneLength, bothLength}
-use Rattle.disc_block.specs.Block.{CalledLists, calledLists, contentsInto, discSizeWords, loadedInto}
+use Rattle.disc_load.specs.Sizes.{discSizes}
+use Rattle.disc_save.specs.Length.{oneLength, bothLength}
+use Rattle.player_disc.specs.Block.{CalledLists, calledLists, contentsInto, discSizeWords, loadedInto}
 
 -- ---- the block is the answer's
 unfoldable pub discContentsCall : List ℕ → List ℕ → Called

@@ -1,15 +1,17 @@
 // What the player's C program calls for disc files: each call over blocks and lent tables, answered by a number.
-use block::area_from;
-use block::index_in;
-use block::saved_number;
-use disc_block::put_contents;
-use disc_block::put_disc_sizes;
-use disc_block::put_loaded;
-use head::HEAD_BYTES;
+pub mod block;
+
+use crate::block::put_contents;
+use crate::block::put_disc_sizes;
+use crate::block::put_loaded;
+use blocks::HEAD_BYTES;
+use player::block::area_from;
+use player::block::index_in;
+use player::block::saved_number;
 ghost use mathlib.Core.Path.{_≡_};
 ghost use Rattle.index.specs.Index.{tables};
-ghost use Rattle.block.specs.Block.{called, areaFrom};
-ghost use Rattle.disc_block.specs.Block.{calledLists};
+ghost use Rattle.player.specs.Block.{called, areaFrom};
+ghost use Rattle.player_disc.specs.Block.{calledLists};
 ghost use Rattle.player_disc.specs.Calls.{discContentsCall, discSizesCall, discLengthCall, discLengthBothCall, discSaveCall, discSaveBothCall, calledDisc, discLoadCall};
 
 // ---- what a disc file holds
@@ -21,7 +23,7 @@ pub extern "C" fn seek_raw_disc_contents(file: &[u8], answer: &mut [u8]) -> u32
     if answer.len() < HEAD_BYTES {
         return 3;
     }
-    let contents = disc_table::read_contents(file);
+    let contents = disc_load::contents::read_contents(file);
     put_contents(answer, contents)
 }
 
@@ -69,7 +71,7 @@ pub extern "C" fn seek_raw_disc_sizes(
         start1,
         end1,
     );
-    let sized = disc_sizes::disc_sizes(area0, area1, file, limit);
+    let sized = disc_load::table_sizes::disc_sizes(area0, area1, file, limit);
     put_disc_sizes(answer, sized)
 }
 
@@ -181,7 +183,7 @@ pub extern "C" fn seek_raw_disc_saved_length(
         return 3;
     }
     let x = index_in(head);
-    disc_length::one_length(
+    disc_save::length::one_length(
         x,
         checkpoints,
         frames,
@@ -223,7 +225,7 @@ pub extern "C" fn seek_raw_disc_saved_length_both(
     }
     let x = index_in(head);
     let y = index_in(other);
-    disc_length::both_length(
+    disc_save::length::both_length(
         x,
         y,
         checkpoints,

@@ -11,12 +11,12 @@ use Rattle.rules.specs.declared.UnderAssembly.{UnderAssembly}
 use Rattle.index.specs.Index.{Tables}
 use Rattle.recorder.specs.declared.Recorded.{Recorded}
 use Rattle.recorder.specs.Recorder.{RecorderTables, startedIn, finishedIn}
-use Rattle.record.specs.Record.{recorderOut, recordIn}
+use Rattle.recorder.specs.Record.{recorderOut, recordIn}
 use Rattle.absorb.specs.declared.Absorbed.{Absorbed}
 use Rattle.absorb.specs.Absorb.{out, absorbIn}
-use Rattle.recorder_block.specs.Block.{calledBoth, absorbedInto}
-use Rattle.block.specs.Block.{called, headIndex, headRecorder}
-use Rattle.block.proofs.Blocks.{long-enough}
+use Rattle.player_record.specs.Block.{calledBoth, absorbedInto}
+use Rattle.player.specs.Block.{called, headIndex, headRecorder}
+use Rattle.player.proofs.block.Blocks.{long-enough}
 use Rattle.player_record.specs.Calls.{calledFour, recordedInto, recorderCall, recordCall, finishCall, calledAbsorbed, absorbCall}
 
 module _ (b b' : List ℕ) (n : ℕ) (l : 192 ≤ length b) (q : Recorded) (p : called n b' ≡ recordedInto b q) where

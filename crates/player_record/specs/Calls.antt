@@ -4,14 +4,14 @@ use mathlib.Core.List.{List}
 use Rattle.rules.specs.declared.EndState.{EndState}
 use Rattle.rules.specs.declared.ImageId.{ImageId}
 use Rattle.rules.specs.declared.UnderAssembly.{UnderAssembly}
-use Rattle.head.specs.Head.{recorderWords}
+use Rattle.blocks.specs.Head.{recorderWords}
 use Rattle.index.specs.Index.{Tables}
 use Rattle.recorder.specs.declared.Recorded.{Recorded}
 use Rattle.recorder.specs.Recorder.{RecorderTables, startedIn, finishedIn}
-use Rattle.record.specs.Record.{RecorderOut, recordIn}
+use Rattle.recorder.specs.Record.{RecorderOut, recordIn}
 use Rattle.absorb.specs.Absorb.{absorbIn}
-use Rattle.block.specs.Block.{Called, called, into, inBlock, headIndex, headRecorder}
-use Rattle.recorder_block.specs.Block.{CalledBoth, calledBoth, recordedOf, absorbedInto}
+use Rattle.player.specs.Block.{Called, called, into, inBlock, headIndex, headRecorder}
+use Rattle.player_record.specs.Block.{CalledBoth, calledBoth, recordedOf, absorbedInto}
 
 abbrev pub endState : ℕ → ℕ → EndState
 endState threshold malformed = record { threshold = threshold; malformed = malformed }

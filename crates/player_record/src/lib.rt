@@ -1,18 +1,21 @@
 // What the player's C program calls for recorders: each call over blocks and lent tables, answered by a number.
-use block::index_in;
-use block::recorder_in;
-use head::HEAD_BYTES;
-use recorder_block::frame_from;
-use recorder_block::image_given;
-use recorder_block::put_absorbed;
-use recorder_block::put_recorded;
+pub mod block;
+pub mod hint_calls;
+
+use crate::block::frame_from;
+use crate::block::image_given;
+use crate::block::put_absorbed;
+use crate::block::put_recorded;
+use blocks::HEAD_BYTES;
+use player::block::index_in;
+use player::block::recorder_in;
 use rules::EndState;
 ghost use mathlib.Core.Path.{_≡_};
-ghost use Rattle.head_from.specs.From.{imageFrom};
+ghost use Rattle.blocks.specs.From.{imageFrom};
 ghost use Rattle.index.specs.Index.{tables};
 ghost use Rattle.recorder.specs.Recorder.{recorderTables};
-ghost use Rattle.block.specs.Block.{called};
-ghost use Rattle.recorder_block.specs.Block.{frameFrom};
+ghost use Rattle.player.specs.Block.{called};
+ghost use Rattle.player_record.specs.Block.{frameFrom};
 ghost use Rattle.player_record.specs.Calls.{calledFour, endState, recorderCall, recordCall, finishCall, calledAbsorbed, absorbCall};
 
 // The recorder of a list, from an LSN on, into its block.
@@ -78,7 +81,7 @@ pub extern "C" fn seek_raw_record(
     }
     let r = recorder_in(block);
     let frame = frame_from(mark, start, number, kind, remaining);
-    let made = record::record(
+    let made = recorder::record::record(
         r,
         lsn,
         threshold,

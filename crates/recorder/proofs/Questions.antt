@@ -16,8 +16,8 @@ use Rattle.rules.specs.Values.{boundaries}
 use Rattle.rules.specs.Sections.{checkpointsOk, framesOk, partsOk, endingOk}
 use Rattle.rules.specs.Questions.{areaOk, numbersOk, scanRoom, heldOk, endOf, recorderQuestion1, recorderQuestion2, recorderQuestion3, recorderQuestion4}
 use Rattle.rules.specs.File.{decodeCheckpoint, decodeHeld}
-use Rattle.filelaws.proofs.Ranges.{boundaries-small}
-use Rattle.scanlaws.proofs.Record.{interval-pos}
+use Rattle.laws.proofs.Ranges.{boundaries-small}
+use Rattle.laws.proofs.scans.Record.{interval-pos}
 use Rattle.index.specs.Needs.{scanSpace}
 use Rattle.index.proofs.Four.{one-bits}
 use Rattle.index.proofs.Numbers.{within24, within8, test}

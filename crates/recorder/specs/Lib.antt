@@ -1,2 +1,4 @@
-pub mod Recorder
 pub mod Needs
+pub mod Record
+pub mod RecordNeeds
+pub mod Recorder

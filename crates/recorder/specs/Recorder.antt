@@ -14,7 +14,7 @@ use Rattle.rules.specs.Questions.{recorderFour}
 use Rattle.rules.specs.Create.{recorder}
 use Rattle.rules.specs.Record.{finish}
 use Rattle.rules.specs.File.{encodeCheckpoint, encodeFrameHeader, encodeHeld, over}
-use Rattle.table.specs.Tables.{checkpointsIn, framesIn, partsIn}
+use Rattle.tables.specs.Tables.{checkpointsIn, framesIn, partsIn}
 use Rattle.index.specs.Index.{Tables, roomOf, indexIn, kindsOk, kindsIn, kindedNumber, kinded, storeOf}
 use Rattle.recorder.specs.declared.Recorded.{Recorded}
 use Rattle.recorder.specs.declared.Recorded.the-variants as recorded

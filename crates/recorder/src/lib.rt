@@ -1,16 +1,16 @@
 // A recorder: its numbers by value, and its lists in four lent tables. Questions 1 to 4, the recorder of an index, and finish.
-use checks::check_checkpoints;
-use checks::check_frames;
+pub mod asked;
+pub mod modes;
+pub mod record;
+
+use crate::modes::at_end;
+use crate::modes::mode_of;
 use field::and;
 use field::or;
 use index::refuses;
+use index::room::question1;
+use index::room::question2;
 use index::scan_room;
-use index_questions::question1;
-use index_questions::question2;
-use kinds::check_kinds;
-use part_checks::check_parts;
-use recorder_modes::at_end;
-use recorder_modes::mode_of;
 use rules::AreaIndex;
 use rules::End;
 use rules::EndState;
@@ -19,6 +19,10 @@ use rules::Recorder;
 use sections::area_boundaries;
 use sections::ending_ok;
 use sections::last_checkpoint;
+use sections::part_records::check_parts;
+use sections::records::check_checkpoints;
+use sections::records::check_frames;
+use tables::kinds::check_kinds;
 ghost use mathlib.Core.Path.{_≡_};
 ghost use mathlib.Core.List.{List};
 ghost use Prim.Native.Nat.{ℕ};

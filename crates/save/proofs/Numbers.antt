@@ -11,12 +11,12 @@ use Rattle.field.proofs.Records.{records-length}
 use Rattle.rules.specs.declared.AreaIndex.{AreaIndex}
 use Rattle.rules.specs.Values.{used}
 use Rattle.rules.specs.File.{decodeHint, decodeConfirmation, hasHinting, versionOf, headerBytes, headerOf, hintSection, confirmedSection, bodyOf, savedLength}
-use Rattle.table.specs.Tables.{framesIn}
+use Rattle.tables.specs.Tables.{framesIn}
 use Rattle.index.specs.Index.{Tables, indexIn, tables}
-use Rattle.output.specs.Output.{Put}
-use Rattle.output.proofs.Stretches.{put-both}
-use Rattle.layout.specs.Layout.{hintHeaderOf}
-use Rattle.layout.proofs.Numbers.{length-is, version-any}
+use Rattle.save.specs.Output.{Put}
+use Rattle.save.proofs.output.Stretches.{put-both}
+use Rattle.save.specs.Layout.{hintHeaderOf}
+use Rattle.save.proofs.layout.Numbers.{length-is, version-any}
 use Rattle.save.specs.Steps.{hintBytes, confirmedBytes, hintIndex, hintingSize, scanBytes, scanSize}
 
 -- the length by its parts

@@ -12,18 +12,18 @@ use Rattle.rules.specs.Tests.{each, ask, firstNo, Accepted, after}
 use Rattle.rules.specs.Sections.{framesOk}
 use Rattle.rules.specs.Questions.{question3, scanRoom}
 use Rattle.rules.specs.File.{saved, savedLength, save, over}
-use Rattle.table.specs.Tables.{headersIn, framesIn}
-use Rattle.table.proofs.Frames.{frames-by}
-use Rattle.scanlaws.proofs.Parts.{frames-used}
+use Rattle.tables.specs.Tables.{headersIn, framesIn}
+use Rattle.tables.proofs.Frames.{frames-by}
+use Rattle.laws.proofs.scans.Parts.{frames-used}
 use Rattle.rules.proofs.Tests.{and-left, and-right, all→}
-use Rattle.filelaws.proofs.Facts.{numbersOk→, scanOk→}
-use Rattle.filelaws.proofs.Length.{savedLength-is}
+use Rattle.laws.proofs.Facts.{numbersOk→, scanOk→}
+use Rattle.laws.proofs.Length.{savedLength-is}
 use Rattle.index.specs.Needs.{Passes, scanIn, hintingIn, hintCounts}
 use Rattle.index.proofs.Four.{kinded-index}
 use Rattle.index.proofs.Questions.{passes, passes-long, held-is, hinting-is, hints-long, hint-space}
 use Rattle.index.specs.Index.{Tables, indexIn, kindsOk, refusal, roomIn}
 use Rattle.save.specs.declared.Saved.the-variants.{Refused, Length}
-use Rattle.layout.specs.Layout.{Framed}
+use Rattle.save.specs.Layout.{Framed}
 use Rattle.save.specs.Save.{made, saveOut, saveIn}
 use Rattle.save.specs.Steps.{Scanned, Hinted}
 

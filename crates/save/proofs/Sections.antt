@@ -11,10 +11,10 @@ use Rattle.fnv.specs.Fnv.{fnv64}
 use Rattle.rules.specs.declared.Header.{Header}
 use Rattle.rules.specs.declared.HintHeader.{HintHeader}
 use Rattle.rules.specs.File.{headerBytes, encodeHint, decodeHint, encodeConfirmation, decodeConfirmation, over}
-use Rattle.filelaws.proofs.Layouts.{header-length, hint-layout, confirmation-layout}
-use Rattle.output.specs.Output.{Put}
-use Rattle.write.proofs.Sections.{records-size}
-use Rattle.output.proofs.Stretches.{put-both, put-one, put-copy, put-over}
+use Rattle.laws.proofs.Layouts.{header-length, hint-layout, confirmation-layout}
+use Rattle.save.specs.Output.{Put}
+use Rattle.save.proofs.write.Sections.{records-size}
+use Rattle.save.proofs.output.Stretches.{put-both, put-one, put-copy, put-over}
 use Rattle.save.specs.Steps.{hintBytes, confirmedBytes}
 
 -- ---- sections with a header

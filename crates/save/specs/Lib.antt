@@ -1,2 +1,4 @@
+pub mod Layout
+pub mod Output
 pub mod Save
 pub mod Steps

@@ -11,11 +11,11 @@ use Rattle.rules.specs.declared.AreaIndex.{AreaIndex}
 use Rattle.rules.specs.declared.HintHeader.{HintHeader}
 use Rattle.rules.specs.Values.{Index, used}
 use Rattle.rules.specs.File.{encodeCheckpoint, encodeFrame, encodeHeld, encodeLsn, encodeHint, encodeConfirmation, versionOf}
-use Rattle.table.specs.Tables.{checkpointsIn, partsIn, lsnsIn, hintsIn, confirmationsIn, framesIn}
+use Rattle.tables.specs.Tables.{checkpointsIn, partsIn, lsnsIn, hintsIn, confirmationsIn, framesIn}
 use Rattle.index.specs.Index.{indexIn, kindsOk, tables}
 use Rattle.index.specs.Needs.{Long}
-use Rattle.layout.specs.Layout.{Framed}
-use Rattle.output.specs.Output.{hintHeader}
+use Rattle.save.specs.Layout.{Framed}
+use Rattle.save.specs.Output.{hintHeader}
 
 -- the hint section with the first hints of a table
 abbrev pub hintBytes : HintHeader → List ℕ → List ℕ

@@ -11,7 +11,7 @@ use Rattle.rules.specs.declared.Area.{Area}
 use Rattle.rules.specs.Tests.{Ask, all, firstNo}
 use Rattle.rules.specs.Questions.{areaOk}
 use Rattle.rules.specs.Values.{boundaries}
-use Rattle.table.proofs.Tests.{product-most}
+use Rattle.tables.proofs.Tests.{product-most}
 use Rattle.sections.specs.Asked.{asked}
 
 -- an area has no more boundaries than sectors

@@ -1,18 +1,21 @@
 // Rules that join the sections of a list: counts, held parts, frontier, end state and malformed LSNs; and questions asked in order.
-use checks::check_frames;
-use checks::check_lsns;
+pub mod part_records;
+pub mod records;
+
+use crate::part_records::check_parts;
+use crate::records::check_frames;
+use crate::records::check_lsns;
 use field::and;
 use field::min_u64;
 use field::not;
 use field::or;
-use part_checks::check_parts;
 use rules::Area;
 use rules::Checkpoint;
 use rules::End;
 use rules::EndState;
 use rules::MAX_MALFORMED_WARNINGS;
 use rules::MAX_NEXT_ACCEPTABLE;
-use table::get_checkpoint;
+use tables::get_checkpoint;
 ghost use mathlib.Core.Path.{_≡_};
 ghost use mathlib.Core.Bool.{true, _&&_};
 ghost use mathlib.Core.List.{List};
@@ -23,7 +26,7 @@ ghost use Rattle.rules.specs.Values.{boundaries, lsnOf, frontierOf, counted, la
 ghost use Rattle.rules.specs.Sections.{countsOk, endOk, endingOk, malformedOk};
 ghost use Rattle.rules.specs.Questions.{areaOk, heldOk};
 ghost use Rattle.rules.specs.declared.Checkpoint.{Checkpoint};
-ghost use Rattle.table.specs.Tables.{checkpointsIn, framesIn, partsIn, lsnsIn};
+ghost use Rattle.tables.specs.Tables.{checkpointsIn, framesIn, partsIn, lsnsIn};
 ghost use Rattle.sections.specs.Numbers.{endIn};
 ghost use Rattle.sections.specs.Asked.{asked, stretch};
 

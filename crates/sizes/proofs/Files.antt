@@ -16,13 +16,13 @@ use Rattle.rules.specs.declared.AreaIndex.{AreaIndex}
 use Rattle.rules.specs.declared.Header.{Header}
 use Rattle.rules.specs.File.{readHeader, savedLength}
 use Rattle.rules.specs.Load.{bodyIn, keyOf, fromBytes, limited}
-use Rattle.filelaws.proofs.Loaded.{loaded-valid}
+use Rattle.laws.proofs.Loaded.{loaded-valid}
 use Rattle.index.specs.Index.{Tables, indexIn, refusal, numbersFrom}
 use Rattle.inspect.specs.declared.Found.{Found}
 use Rattle.inspect.specs.declared.Inspected.the-variants as inspected
 use Rattle.inspect.specs.Inspect.{foundIn, inspectionOf, inspection}
-use Rattle.table_sizes.specs.declared.TableSizes.{TableSizes}
-use Rattle.table_sizes.specs.Sizes.{limitedSizes, rangeOf}
+use Rattle.sizes.specs.declared.lengths.TableSizes.{TableSizes}
+use Rattle.sizes.specs.LengthsSizes.{limitedSizes, rangeOf}
 use Rattle.sizes.specs.declared.FileArea.the-variants as found
 use Rattle.sizes.specs.declared.Sized.the-variants as sized
 use Rattle.sizes.specs.Sizes.{sizedOf, fileSizes, fileLength, fileArea, fileAreaOf}

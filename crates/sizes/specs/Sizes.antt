@@ -13,8 +13,8 @@ use Rattle.rules.specs.Questions.{areaOk, numbersOk}
 use Rattle.rules.specs.File.{readHeader, magicBytes, savedLength}
 use Rattle.rules.specs.Load.{keyOf, bodyIn, fromBytes, limited}
 use Rattle.index.specs.Index.{Tables, indexIn, refusal}
-use Rattle.table_sizes.specs.declared.TableSizes.{TableSizes}
-use Rattle.table_sizes.specs.Sizes.{sizesOf, rangeOf}
+use Rattle.sizes.specs.declared.lengths.TableSizes.{TableSizes}
+use Rattle.sizes.specs.LengthsSizes.{sizesOf, rangeOf}
 use Rattle.sizes.specs.declared.Sized.{Sized}
 use Rattle.sizes.specs.declared.Sized.the-variants as sized
 use Rattle.sizes.specs.declared.FileArea.{FileArea}

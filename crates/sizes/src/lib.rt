@@ -1,20 +1,22 @@
 // How long the tables of a list have to be, how long its file is, and the area that a file is of.
+pub mod lengths;
+
+use crate::lengths::TableSizes;
+use crate::lengths::area_of;
+use crate::lengths::limited_sizes;
+use crate::lengths::table_sizes;
 use field::min_u64;
 use header::read_header;
 use index::refuses;
-use index_questions::question1;
-use index_questions::question2;
+use index::room::question1;
+use index::room::question2;
 use inspect::Inspected;
 use inspect::inspect;
-use layout::saved_length;
 use rules::Area;
 use rules::AreaIndex;
 use rules::MAGIC;
 use rules::MAX_HINTS;
-use table_sizes::TableSizes;
-use table_sizes::area_of;
-use table_sizes::limited_sizes;
-use table_sizes::table_sizes;
+use save::layout::saved_length;
 ghost use mathlib.Core.Path.{_≡_};
 ghost use Rattle.sizes.specs.Sizes.{fileLength, sizedOf, newSizes, fileSizes, fileAreaOf, fileArea};
 ghost use Rattle.index.specs.Index.{tables, refusal};

@@ -28,12 +28,12 @@ use Rattle.rules.specs.Merge.{merge, merged}
 use Rattle.rules.specs.Load.{load, limited, fromBytes}
 use Rattle.rules.proofs.Tests.{choose, given, and-left, and-right, →all, later, asked, asked→, accepted→, accepted-eq, bind→}
 use Rattle.rules.proofs.Walk.{length-snoc}
-use Rattle.scanlaws.specs.Kept.{Sound}
-use Rattle.scanlaws.proofs.Theorems.{absorb-sound}
-use Rattle.scanlaws.proofs.Scans.{scan-of}
-use Rattle.scanlaws.proofs.Record.{recorder-sound, record-sound, finish-sound, stopped-sound}
-use Rattle.hintlaws.proofs.Calls.{HintingHolds, Answered, four→, taken, new-holds, bind-holds, add-hints-holds, keep-holds}
-use Rattle.filelaws.proofs.Loaded.{loaded-valid}
+use Rattle.laws.specs.Kept.{Sound}
+use Rattle.laws.proofs.scans.Theorems.{absorb-sound}
+use Rattle.laws.proofs.scans.Scans.{scan-of}
+use Rattle.laws.proofs.scans.Record.{recorder-sound, record-sound, finish-sound, stopped-sound}
+use Rattle.laws.proofs.hint_lists.Calls.{HintingHolds, Answered, four→, taken, new-holds, bind-holds, add-hints-holds, keep-holds}
+use Rattle.laws.proofs.Loaded.{loaded-valid}
 use Rattle.theorems.proofs.CutLaws.{merged-one, merged-two, merged-three, merged-four, limited-two, limited-four}
 use Rattle.theorems.specs.Terms.{Valid, ValidRecorder, ValidHintRecorder}
 use Rattle.theorems.specs.Closure.{Closure}

@@ -18,12 +18,12 @@ use Rattle.rules.specs.Merge.{question41, question42, question43, further, take
 use Rattle.rules.specs.Load.{limited}
 use Rattle.rules.specs.Sizes.{sized}
 use Rattle.rules.specs.Run.{Reading, checkpointsOf, endStateOf, Cut}
-use Rattle.hintlaws.proofs.Closure as hinting
-use Rattle.hintlaws.proofs.Calls.{merged-numbers, holds-of, merged-holds}
-use Rattle.scanlaws.proofs.Scans.{ScanIs, scan-of, scan→}
-use Rattle.scanlaws.proofs.Merge.{appended, further-prefix}
-use Rattle.scanlaws.proofs.Theorems.{merge-closed, merge-bytes, limit-closed, limit-bytes}
-use Rattle.scanlaws.proofs.Sizes.{merged-sized, limited-sized}
+use Rattle.laws.proofs.hint_lists.Closure as hinting
+use Rattle.laws.proofs.hint_lists.Calls.{merged-numbers, holds-of, merged-holds}
+use Rattle.laws.proofs.scans.Scans.{ScanIs, scan-of, scan→}
+use Rattle.laws.proofs.scans.Merge.{appended, further-prefix}
+use Rattle.laws.proofs.scans.Theorems.{merge-closed, merge-bytes, limit-closed, limit-bytes}
+use Rattle.laws.proofs.scans.Sizes.{merged-sized, limited-sized}
 use Rattle.rules.proofs.Tests.{never, choose, both, all→, →all, agrees-take, agree-none, asks}
 use Rattle.rules.proofs.Same.{sameCheckpoint-self, sameEnd-self, sameArea-self, sameArea-eq}
 use Rattle.theorems.proofs.ScanLaws.{Counts, counts, one, level}

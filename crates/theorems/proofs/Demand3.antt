@@ -16,13 +16,13 @@ use Rattle.rules.specs.Merge.{question42, merged, merge}
 use Rattle.rules.specs.File.{savedLength, saved, save}
 use Rattle.rules.specs.Load.{limited, load}
 use Rattle.rules.specs.Run.{Reading, Cut, Place, Call, mergeCall, saveCall, loadCall, Saved, State, begin, answered, mergeInto, mergeRefusal, justSaved, loadInto, step, run, Furthest}
-use Rattle.filelaws.proofs.Limit.{limited-load}
-use Rattle.hintlaws.proofs.Closure.{unmarked-stated}
+use Rattle.laws.proofs.Limit.{limited-load}
+use Rattle.laws.proofs.hint_lists.Closure.{unmarked-stated}
 use Rattle.theorems.specs.Terms.{SameRead, AllCut, afterCalls}
 use Rattle.theorems.specs.Demand3.{Outcome, Demand3, PartsAgree, NoneRefused}
 use Rattle.rules.proofs.Tests.{test, all→, →all, agree-none, asked}
 use Rattle.theorems.proofs.ScanLaws.{one, level, merged-level}
-use Rattle.hintlaws.proofs.Closure.{merged-stated}
+use Rattle.laws.proofs.hint_lists.Closure.{merged-stated}
 use Rattle.theorems.proofs.CutLaws.{same-level, merged-three, limited-three, cut-scan, cut-counts, cut-read, cut-merged, cut-limited, not-refused}
 
 one-most : (b : Bool) → one b ≤ 1

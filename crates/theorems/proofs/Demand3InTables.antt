@@ -23,8 +23,8 @@ use Rattle.rules.specs.Questions.{question1, question2, four}
 use Rattle.rules.specs.Plan.{offsetOf, assemblyOf, lastNotAbove, planFrom, planOr, planned, plan, startOf, bytesAt}
 use Rattle.rules.specs.Run.{Reading, Content, Cut, State, mergeRefusal}
 use Rattle.rules.proofs.Tests.{test, asked, both, accepted→, and-left}
-use Rattle.scanlaws.proofs.Parts.{part-at}
-use Rattle.scanlaws.proofs.Scans.{scan-of, scan→}
+use Rattle.laws.proofs.scans.Parts.{part-at}
+use Rattle.laws.proofs.scans.Scans.{scan-of, scan→}
 use Rattle.index.specs.Index.{roomOf, roomIn, indexIn, kindsIn}
 use Rattle.index.specs.Needs.{Passes, heldQuestion4}
 use Rattle.plan.specs.Calls.{planIn}

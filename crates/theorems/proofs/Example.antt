@@ -28,10 +28,10 @@ use Rattle.rules.specs.Sizes.{keySized, frameSized, scanSized, knownSized, hint
 use Rattle.rules.specs.File.{encodeCheckpoint, encodeFrameHeader, encodeHeld, encodeLsn, encodeHint, encodeConfirmation, over}
 use Rattle.rules.specs.Run.{Reading, Cut, Place, countedFrom, Call, mergeRefusal}
 use Rattle.rules.proofs.Tests.{test}
-use Rattle.filelaws.specs.Statements.{Savable}
-use Rattle.filelaws.proofs.Facts.{SizeFacts, sized→, facts}
-use Rattle.filelaws.proofs.Layouts.{checkpoint-layout, lsn-layout, hint-layout, confirmation-layout, held-bytes}
-use Rattle.filelaws.proofs.Readers.{each-bytes}
+use Rattle.laws.specs.Statements.{Savable}
+use Rattle.laws.proofs.Facts.{SizeFacts, sized→, facts}
+use Rattle.laws.proofs.Layouts.{checkpoint-layout, lsn-layout, hint-layout, confirmation-layout, held-bytes}
+use Rattle.laws.proofs.Readers.{each-bytes}
 use Rattle.index.specs.Index.{Tables, tables, roomOf, numbersFrom, tablesFrom, storeOf}
 use Rattle.index.proofs.Standing.{stands, kinds-from, within, room-from}
 use Rattle.theorems.specs.Terms.{AllCut, afterCalls}

@@ -16,11 +16,11 @@ use Rattle.rules.specs.Sections.{hintLsn, hintOk, hintsOk}
 use Rattle.rules.specs.Hints.{insert, heldHint, inArea, insertAll, question13, addHints}
 use Rattle.rules.proofs.Tests.{test, both, never, order, and-right}
 use Rattle.rules.proofs.Walk.{rising-at, rising-rises}
-use Rattle.hintlaws.proofs.Lists.{Sub, empty, same, skip, All, Passes, each→, all-at, all-insert, insert-none, insert-cases}
-use Rattle.hintlaws.proofs.Hints.{insertAll-keeps, hints-insert}
-use Rattle.hintlaws.proofs.Thinning as thinning
-use Rattle.hintlaws.proofs.Closure.{hinting→}
-use Rattle.hintlaws.proofs.Calls.{holds-of, four→}
+use Rattle.laws.proofs.hint_lists.Lists.{Sub, empty, same, skip, All, Passes, each→, all-at, all-insert, insert-none, insert-cases}
+use Rattle.laws.proofs.hint_lists.Hints.{insertAll-keeps, hints-insert}
+use Rattle.laws.proofs.hint_lists.Thinning as thinning
+use Rattle.laws.proofs.hint_lists.Closure.{hinting→}
+use Rattle.laws.proofs.hint_lists.Calls.{holds-of, four→}
 use Rattle.theorems.specs.Hints.{One, AtLsn, FirstAt, Joined, HintsJoined, ThinLength, ThinAmong}
 
 -- ---- P holds of one, by cases

@@ -22,10 +22,10 @@ use Rattle.rules.specs.Merge.{question43, further, takenScan, mergedScan, merge
 use Rattle.rules.specs.Plan.{lastNotAbove, planFrom, planOr, planned, startOf, jump}
 use Rattle.theorems.specs.Jump.{JumpNotBack}
 use Rattle.rules.proofs.Tests.{test, never, all→, and-left, accepted→}
-use Rattle.hintlaws.proofs.Calls.{Taken, taken}
-use Rattle.scanlaws.proofs.Record.{interval-pos}
-use Rattle.scanlaws.proofs.Scans.{ScanIs, scan-of, scan→, in-boundary}
-use Rattle.scanlaws.proofs.Merge.{appended, further-count, further-prefix}
+use Rattle.laws.proofs.hint_lists.Calls.{Taken, taken}
+use Rattle.laws.proofs.scans.Record.{interval-pos}
+use Rattle.laws.proofs.scans.Scans.{ScanIs, scan-of, scan→, in-boundary}
+use Rattle.laws.proofs.scans.Merge.{appended, further-count, further-prefix}
 use Rattle.theorems.proofs.ScanLaws.{counts}
 
 -- two lists that a merge accepts, as far as the scans go

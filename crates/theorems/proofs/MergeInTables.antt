@@ -10,9 +10,9 @@ use Rattle.rules.specs.Questions.{question1, question2}
 use Rattle.rules.specs.Merge.{merged, merge, mergeNumber}
 use Rattle.rules.specs.Sizes.{sized}
 use Rattle.rules.proofs.Tests.{asked, accepted→, and-right}
-use Rattle.hintlaws.proofs.Calls.{taken}
-use Rattle.filelaws.specs.Statements.{Savable}
-use Rattle.filelaws.proofs.Facts.{facts}
+use Rattle.laws.proofs.hint_lists.Calls.{taken}
+use Rattle.laws.specs.Statements.{Savable}
+use Rattle.laws.proofs.Facts.{facts}
 use Rattle.index.specs.declared.Made.the-variants as made
 use Rattle.index.specs.Index.{Tables, roomOf, indexIn, kindsIn, kinded, numbersFrom, tablesCleared, Out, out, outOf}
 use Rattle.index.proofs.Lent.{sized-in}

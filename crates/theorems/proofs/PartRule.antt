@@ -18,9 +18,9 @@ use Rattle.rules.specs.Sections.{partOk}
 use Rattle.rules.specs.PartRule.{Stored, stores, addPart, piece, addParts}
 use Rattle.rules.specs.Run.{Content, contentOf}
 use Rattle.rules.proofs.Walk.{arrived, length-snoc, walk-head, walk-tail, walk-left, walk-right, walk-rises}
-use Rattle.scanlaws.specs.Kept.{Keeps, Says}
-use Rattle.scanlaws.proofs.Parts.{keep, atAfter, part→, follows→, HeldIs, held→, →held, part-at}
-use Rattle.scanlaws.proofs.PartRule.{Taken, onward, content-kept, keeps-self, added-keeps, addPart-passed, addPart-added, addParts-add, addParts-start, addParts-on, addParts-ok, onward-piece, take-add, next-part}
+use Rattle.laws.specs.Kept.{Keeps, Says}
+use Rattle.laws.proofs.scans.Parts.{keep, atAfter, part→, follows→, HeldIs, held→, →held, part-at}
+use Rattle.laws.proofs.scans.PartRule.{Taken, onward, content-kept, keeps-self, added-keeps, addPart-passed, addPart-added, addParts-add, addParts-start, addParts-on, addParts-ok, onward-piece, take-add, next-part}
 use Rattle.theorems.specs.Terms.{Stays, Holds}
 use Rattle.theorems.specs.PartRule.{PartClosed, PartStored, PartPassedOver, Admits, PartsAdmitted}
 

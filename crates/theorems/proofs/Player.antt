@@ -16,15 +16,15 @@ use Rattle.rules.specs.Questions.{recorderQuestion3, scanRoom}
 use Rattle.rules.specs.Create.{emptyHintRecorder, hintRecorder}
 use Rattle.rules.specs.File.{saved, savedLength, save}
 use Rattle.rules.proofs.Tests.{test, never}
-use Rattle.filelaws.proofs.Length.{savedLength-is}
+use Rattle.laws.proofs.Length.{savedLength-is}
 use Rattle.index.specs.Index.{indexIn, orFour, kindedNumber, kinded, refusal}
-use Rattle.hinting.specs.declared.Created.the-variants as created
-use Rattle.hinting.specs.Recorder.{createdOf, hintRecorderIn}
+use Rattle.hint_recorder.specs.declared.Created.the-variants as created
+use Rattle.hint_recorder.specs.Recorder.{createdOf, hintRecorderIn}
 use Rattle.save.specs.declared.Saved.the-variants as told
 use Rattle.save.specs.Save.{saveOut, saveIn}
-use Rattle.table_sizes.specs.Sizes.{sizesOf}
+use Rattle.sizes.specs.LengthsSizes.{sizesOf}
 use Rattle.sizes.specs.Sizes.{fileLength}
-use Rattle.block.specs.Block.{savedNumber}
+use Rattle.player.specs.Block.{savedNumber}
 use Rattle.theorems.specs.Player.{Told, SaveNumber, LengthIsSaved, hasFour, RecorderRoomIsSizes, HintListIsSize, MadeHasSpacing}
 use Rattle.theorems.proofs.Sizes.{fits24, fits8}
 

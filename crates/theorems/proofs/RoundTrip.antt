@@ -13,14 +13,14 @@ use Rattle.rules.specs.Sizes.{sized}
 use Rattle.rules.specs.File.{saved, savedLength, save, bodyOf, headerOf, hintSection, confirmedSection, versionOf, hasHinting}
 use Rattle.rules.specs.Load.{limited, load}
 use Rattle.rules.proofs.Tests.{accepted-eq}
-use Rattle.hintlaws.proofs.Closure.{unmarked-stated}
-use Rattle.hintlaws.proofs.Calls.{Answered, four→}
-use Rattle.filelaws.specs.Statements.{stripped, Savable}
-use Rattle.filelaws.proofs.Limit.{limited-load, large-limit}
-use Rattle.filelaws.proofs.Loaded.{own-bytes, loaded-valid}
-use Rattle.filelaws.proofs.Length.{savedLength-is}
-use Rattle.filelaws.proofs.Facts.{sized→}
-use Rattle.filelaws.proofs.Question4.{saved-bytes, four-stripped}
+use Rattle.laws.proofs.hint_lists.Closure.{unmarked-stated}
+use Rattle.laws.proofs.hint_lists.Calls.{Answered, four→}
+use Rattle.laws.specs.Statements.{stripped, Savable}
+use Rattle.laws.proofs.Limit.{limited-load, large-limit}
+use Rattle.laws.proofs.Loaded.{own-bytes, loaded-valid}
+use Rattle.laws.proofs.Length.{savedLength-is}
+use Rattle.laws.proofs.Facts.{sized→}
+use Rattle.laws.proofs.Question4.{saved-bytes, four-stripped}
 use Rattle.theorems.specs.Terms.{Ample}
 use Rattle.theorems.specs.Questions.{Question4IsLoading}
 use Rattle.theorems.specs.RoundTrip.{SavedLoads, LimitedLoads, LoadedSaves}

@@ -18,20 +18,20 @@ use Rattle.rules.specs.Questions.{areaOk, question1, question3, four}
 use Rattle.rules.specs.File.{saved, savedLength, save, over}
 use Rattle.rules.specs.Load.{fromBytes, limited, load}
 use Rattle.rules.proofs.Tests.{after→, accepted→, accepted-eq, asked→, →asked, bind→}
-use Rattle.filelaws.specs.Statements.{stripped, Savable}
-use Rattle.filelaws.proofs.Facts.{facts, sized→}
-use Rattle.filelaws.proofs.Length.{savedLength-is}
-use Rattle.filelaws.proofs.Limit.{limited-load, large-limit}
-use Rattle.filelaws.proofs.Loaded.{own-bytes, loaded-valid}
-use Rattle.filelaws.proofs.Question4.{saved-bytes}
-use Rattle.filelaws.proofs.Saved.{load-of-save}
+use Rattle.laws.specs.Statements.{stripped, Savable}
+use Rattle.laws.proofs.Facts.{facts, sized→}
+use Rattle.laws.proofs.Length.{savedLength-is}
+use Rattle.laws.proofs.Limit.{limited-load, large-limit}
+use Rattle.laws.proofs.Loaded.{own-bytes, loaded-valid}
+use Rattle.laws.proofs.Question4.{saved-bytes}
+use Rattle.laws.proofs.Saved.{load-of-save}
 use Rattle.index.specs.declared.Made.the-variants as made
 use Rattle.index.specs.Index.{Tables, roomOf, indexIn, numbersFrom, tablesFrom, kindsIn, kinded, refusal, Out, out, outOf}
 use Rattle.index.specs.Lent.{Typed, TableBytes}
 use Rattle.index.proofs.Lent.{passes-savable}
 use Rattle.index.proofs.Questions.{passes}
 use Rattle.index.proofs.Standing.{stands, kinds-from, within, room-from}
-use Rattle.limit.proofs.Limit.{plain}
+use Rattle.load.proofs.limit.Limit.{plain}
 use Rattle.save.specs.declared.Saved.the-variants.{Length}
 use Rattle.save.specs.declared.Saved.the-variants as answer
 use Rattle.save.specs.Save.{SaveOut, made, saveOut, saveIn}

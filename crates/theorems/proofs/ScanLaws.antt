@@ -10,8 +10,8 @@ use borrow.Author.Tests.{ltb-true, ltb-false, lt-ltb, le-ltb}
 use Rattle.rules.specs.Values.{Scan, boundaries, count, complete}
 use Rattle.rules.specs.Merge.{further, mergedScan}
 use Rattle.rules.proofs.Tests.{test}
-use Rattle.scanlaws.proofs.Scans.{ScanIs}
-use Rattle.scanlaws.proofs.Merge.{further-count}
+use Rattle.laws.proofs.scans.Scans.{ScanIs}
+use Rattle.laws.proofs.scans.Merge.{further-count}
 
 -- what question 4 says of the count
 pub record Counts (x : Scan) : Type 0 where

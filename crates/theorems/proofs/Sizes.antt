@@ -13,8 +13,8 @@ use Rattle.rules.specs.Values.{Index, boundaries}
 use Rattle.rules.specs.Questions.{areaOk, question3, scanRoom, hintingRoom}
 use Rattle.rules.specs.Load.{fromBytes, limited, load}
 use Rattle.index.specs.Index.{Tables, roomOf}
-use Rattle.table_sizes.specs.declared.TableSizes.{TableSizes}
-use Rattle.table_sizes.specs.Sizes.{sizesOf}
+use Rattle.sizes.specs.declared.lengths.TableSizes.{TableSizes}
+use Rattle.sizes.specs.LengthsSizes.{sizesOf}
 use Rattle.sizes.specs.Sizes.{sizesFor, hasSizes, fileSizes}
 use Rattle.theorems.specs.Player.{RoomIsSizes, loadWithout3, LoadFits, LoadRefused}
 

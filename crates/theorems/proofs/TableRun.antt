@@ -19,9 +19,9 @@ use Rattle.rules.specs.Load.{limited, load}
 use Rattle.rules.specs.Merge.{merged, merge, mergeNumber}
 use Rattle.rules.specs.Run.{Reading, Cut, Place, Call, Saved, State, begin, answered, mergeInto, mergeRefusal, justSaved, loadInto, step, run, replace}
 use Rattle.rules.proofs.Tests.{test, all→, asked, and-left}
-use Rattle.filelaws.specs.Statements.{Savable}
-use Rattle.filelaws.proofs.Facts.{facts}
-use Rattle.filelaws.proofs.Limit.{limited-load}
+use Rattle.laws.specs.Statements.{Savable}
+use Rattle.laws.proofs.Facts.{facts}
+use Rattle.laws.proofs.Limit.{limited-load}
 use Rattle.index.specs.Index.{Tables, roomOf, indexIn, kindsIn, kinded, numbersFrom, tablesFrom, tablesCleared, outOf}
 use Rattle.index.proofs.Standing.{stands, stands-cleared, kinds-from, within, room-from, room-cleared}
 use Rattle.save.specs.Save.{saveOut, saveIn}

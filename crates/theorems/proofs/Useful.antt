@@ -25,13 +25,13 @@ use Rattle.rules.specs.Load.{limited}
 use Rattle.rules.specs.Plan.{lastNotAbove, planFrom, planOr, planned, plan}
 use Rattle.rules.proofs.Tests.{test, never, all→, or-right, asked, accepted→}
 use Rattle.rules.proofs.Same.{sameArea-eq}
-use Rattle.scanlaws.proofs.Parts.{HeldIs}
-use Rattle.scanlaws.proofs.Scans.{ScanIs, scan-of, scan→, recorder→}
-use Rattle.scanlaws.proofs.Merge.{appended}
-use Rattle.scanlaws.proofs.Absorb.{absorb-asked, unstopped}
-use Rattle.hintlaws.proofs.Calls.{taken}
-use Rattle.filelaws.proofs.Limit.{limited-load}
-use Rattle.filelaws.proofs.Length.{savedLength-is}
+use Rattle.laws.proofs.scans.Parts.{HeldIs}
+use Rattle.laws.proofs.scans.Scans.{ScanIs, scan-of, scan→, recorder→}
+use Rattle.laws.proofs.scans.Merge.{appended}
+use Rattle.laws.proofs.scans.Absorb.{absorb-asked, unstopped}
+use Rattle.laws.proofs.hint_lists.Calls.{taken}
+use Rattle.laws.proofs.Limit.{limited-load}
+use Rattle.laws.proofs.Length.{savedLength-is}
 use Rattle.theorems.specs.Terms.{storedIn}
 use Rattle.theorems.specs.PartRule.{Admits}
 use Rattle.theorems.specs.Useful.{LoadKeeps, MergeOf, MergeTakes, AbsorbOf, AbsorbTakes, SaveTells, PlanLooks, HintLooks}

@@ -15,15 +15,15 @@ use Rattle.rules.specs.Questions.{areaOk, question3, recorderQuestion3}
 use Rattle.rules.specs.Load.{fromBytes, limited, load}
 use Rattle.index.specs.Index.{Tables, roomOf}
 use Rattle.recorder.specs.Recorder.{RecorderTables, recorderRoom}
-use Rattle.hinting.specs.declared.Created.the-variants as created
-use Rattle.hinting.specs.Recorder.{hintRecorderIn}
+use Rattle.hint_recorder.specs.declared.Created.the-variants as created
+use Rattle.hint_recorder.specs.Recorder.{hintRecorderIn}
 use Rattle.save.specs.declared.Saved.{Saved}
 use Rattle.save.specs.declared.Saved.the-variants as saved
 use Rattle.save.specs.Save.{saveIn}
-use Rattle.table_sizes.specs.declared.TableSizes.{TableSizes}
-use Rattle.table_sizes.specs.Sizes.{sizesOf}
+use Rattle.sizes.specs.declared.lengths.TableSizes.{TableSizes}
+use Rattle.sizes.specs.LengthsSizes.{sizesOf}
 use Rattle.sizes.specs.Sizes.{sizesFor, hasSizes, fileSizes, fileLength}
-use Rattle.block.specs.Block.{savedNumber}
+use Rattle.player.specs.Block.{savedNumber}
 
 -- ---- saving
 -- a refusal number is 1 to 40, a length at least 88: one number tells both

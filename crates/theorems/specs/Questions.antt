@@ -9,7 +9,7 @@ use Rattle.rules.specs.Questions.{question1, question2, question3, question4}
 use Rattle.rules.specs.Sizes.{sized}
 use Rattle.rules.specs.File.{saved}
 use Rattle.rules.specs.Load.{load}
-use Rattle.filelaws.specs.Statements.{stripped}
+use Rattle.laws.specs.Statements.{stripped}
 use Rattle.theorems.specs.Terms.{Ample}
 
 -- "4 do they hold what loading would accept": a list passes 4 exactly when its saved bytes load as the same list

@@ -12,7 +12,7 @@ use Rattle.rules.specs.Questions.{question3}
 use Rattle.rules.specs.Sizes.{sized}
 use Rattle.rules.specs.File.{save}
 use Rattle.rules.specs.Load.{limited, fromBytes, load}
-use Rattle.filelaws.specs.Statements.{stripped}
+use Rattle.laws.specs.Statements.{stripped}
 use Rattle.theorems.specs.Terms.{Ample}
 
 -- a saved list loads as itself, image id and checked mark apart, in tables that are long enough and under a limit that drops nothing

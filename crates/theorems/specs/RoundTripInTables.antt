@@ -11,7 +11,7 @@ use Rattle.rules.specs.Tests.{Accepted}
 use Rattle.rules.specs.Values.{Index}
 use Rattle.rules.specs.Questions.{question3}
 use Rattle.rules.specs.Load.{fromBytes}
-use Rattle.filelaws.specs.Statements.{stripped}
+use Rattle.laws.specs.Statements.{stripped}
 use Rattle.index.specs.declared.Made.the-variants as made
 use Rattle.rules.specs.File.{over}
 use Rattle.index.specs.Index.{Tables, roomOf, indexIn, Out, out}

@@ -1,1 +1,2 @@
 // Theorems about the definitions, on values; no function.
+pub mod disc;

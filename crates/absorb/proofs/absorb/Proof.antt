@@ -1,6 +1,6 @@
 use Rattle.index.specs.Index.{Tables, tables}
 use Rattle.index.specs.Lent.{TableBytes}
-use Rattle.absorb_commit.proofs.Facts.{ready}
+use Rattle.absorb.proofs.committed.Facts.{ready}
 use Rattle.absorb.proofs.Calls.{absorb-left, absorbs, few, absorb-done}
 use borrow.Author.Needs.{needs}
 use Rattle.absorb.proofs.absorb.Statement.{statement}

@@ -1,5 +1,5 @@
 use Rattle.adds.proofs.Answers.{adds-refused, adds-done}
-use Rattle.join.proofs.Refusal.{joins}
+use Rattle.merge.proofs.questions.Refusal.{joins}
 use borrow.Author.Needs.{needs}
 use Rattle.adds.proofs.adds.Statement.{statement}
 use Rattle.adds.proofs.adds.Tie as tie

@@ -1,7 +1,7 @@
 use Rattle.adds.proofs.Seeking.{Seeking, seek-start, seek-end, source-ready, part-inside, seek-found, seek-on}
 use Rattle.adds.specs.Needs.{someStored}
 use Rattle.parts.specs.Parts.{partTables, storedIn}
-use Rattle.table.specs.Tables.{framesIn, partsIn}
+use Rattle.tables.specs.Tables.{framesIn, partsIn}
 use native.Mathlib.Omega.{arith}
 use Prim.Native.Nat.{_-_}
 use borrow.Author.Needs.{needs}

@@ -4,8 +4,8 @@ use mathlib.Core.Path.{_∙_}
 use native.Mathlib.Omega.{arith}
 use Rattle.rules.specs.File.{decodeHint}
 use Rattle.rules.specs.Hints.{firstFrom}
-use Rattle.table.specs.Tables.{hintsIn}
-use Rattle.hintplace.proofs.Rest.{Rest, rest-start, rest-on, rest-stop, rest-end}
+use Rattle.tables.specs.Tables.{hintsIn}
+use Rattle.hint.proofs.nearest.Rest.{Rest, rest-start, rest-on, rest-stop, rest-end}
 use Rattle.hint.specs.Needs.{laterEnd}
 use Rattle.hint.proofs.Later.{later-on, later-near, later-far, later-none}
 use borrow.Author.Needs.{needs}

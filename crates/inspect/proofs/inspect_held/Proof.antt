@@ -1,6 +1,6 @@
 use lib.ListN.{drop}
-use Rattle.table.specs.Tables.{checkpointsIn}
-use Rattle.table.specs.Files.{framesRead}
+use Rattle.tables.specs.Tables.{checkpointsIn}
+use Rattle.tables.specs.Files.{framesRead}
 use Rattle.inspect.proofs.Sections.{tail-is, past-inside, TookParts, parts-taken, taken-refused}
 use Rattle.inspect.proofs.Tails.{stops, goes-behind}
 use Rattle.inspect.specs.Tails.{fromParts}

@@ -6,9 +6,9 @@ use lib.ListN.{length, drop}
 use Rattle.field.specs.Records.{bytesOf}
 use Rattle.rules.specs.Values.{used}
 use Rattle.rules.specs.File.{encodeFrameHeader}
-use Rattle.table.specs.Files.{framesRead}
+use Rattle.tables.specs.Files.{framesRead}
 use Rattle.index.specs.Index.{storeOf}
-use Rattle.limit.proofs.Frames.{Moving, move-start, move-room, move-on, move-end, moved-all}
+use Rattle.load.proofs.limit.Frames.{Moving, move-start, move-room, move-on, move-end, moved-all}
 use borrow.Author.Needs.{needs}
 use Rattle.load.proofs.commit_frames.Statement.{statement}
 use Rattle.load.proofs.commit_frames.Tie as tie

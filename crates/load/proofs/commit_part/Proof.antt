@@ -1,4 +1,4 @@
-use Rattle.limit.proofs.Parts.{part-bytes-room}
+use Rattle.load.proofs.limit.Parts.{part-bytes-room}
 use borrow.Author.Needs.{needs}
 use Rattle.load.proofs.commit_part.Statement.{statement}
 use Rattle.load.proofs.commit_part.Tie as tie

@@ -1,5 +1,5 @@
 use Rattle.merge.proofs.Steps.{merge-refused, merge-done}
-use Rattle.join.proofs.Refusal.{joins}
+use Rattle.merge.proofs.questions.Refusal.{joins}
 use borrow.Author.Needs.{needs}
 use Rattle.merge.proofs.merge.Statement.{statement}
 use Rattle.merge.proofs.merge.Tie as tie

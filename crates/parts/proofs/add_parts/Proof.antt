@@ -3,7 +3,7 @@ use native.Mathlib.Omega.{arith}
 use mathlib.Core.Path.{_≡_, refl}
 use lib.ListN.{length}
 use Rattle.rules.specs.PartRule.{addParts}
-use Rattle.table.specs.Tables.{framesIn, partsIn}
+use Rattle.tables.specs.Tables.{framesIn, partsIn}
 use Rattle.parts.specs.Parts.{partTables, storedIn}
 use Rattle.parts.proofs.Adding.{Adding, adding-start, source-ready, one-ready, adding-on, adding-end}
 use borrow.Author.Needs.{needs}

@@ -4,8 +4,8 @@ use native.Mathlib.Omega.{arith}
 use mathlib.Core.Path.{_≡_, _∙_}
 use mathlib.Core.List.{[]}
 use lib.ListN.{drop}
-use Rattle.table.specs.Tables.{headersIn}
-use Rattle.table.proofs.Frames.{weight, weight-on, weight-end, frames-used}
+use Rattle.tables.specs.Tables.{headersIn}
+use Rattle.tables.proofs.Frames.{weight, weight-on, weight-end, frames-used}
 use borrow.Author.Needs.{needs}
 use Rattle.parts.proofs.used_bytes.Statement.{statement}
 use Rattle.parts.proofs.used_bytes.Tie as tie

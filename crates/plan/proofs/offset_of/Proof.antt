@@ -1,8 +1,8 @@
 use Rattle.rules.specs.Values.{used}
-use Rattle.table.specs.Tables.{framesOf}
+use Rattle.tables.specs.Tables.{framesOf}
 use Rattle.plan.proofs.Held.{weight-next, weight-offset}
-use Rattle.table.proofs.Frames.{weight}
-use Rattle.table.specs.Tables.{headersIn}
+use Rattle.tables.proofs.Frames.{weight}
+use Rattle.tables.specs.Tables.{headersIn}
 use lib.ListN.{take}
 use native.Mathlib.Omega.{arith}
 use Prim.Native.Nat.{_-_, _*_, _≤_}

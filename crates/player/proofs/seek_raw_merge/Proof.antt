@@ -1,6 +1,6 @@
 use Rattle.index.specs.Index.{Tables, tables}
 use Rattle.player.specs.Calls.{mergeCall}
-use Rattle.block.proofs.Blocks.{too-short, long-enough}
+use Rattle.player.proofs.block.Blocks.{too-short, long-enough}
 use Rattle.player.proofs.Answers.{merge-done}
 use borrow.Author.Needs.{needs}
 use Rattle.player.proofs.seek_raw_merge.Statement.{statement}

@@ -1,5 +1,5 @@
 use Rattle.player.specs.Calls.{lengthCall}
-use Rattle.block.proofs.Blocks.{too-short}
+use Rattle.player.proofs.block.Blocks.{too-short}
 use Rattle.player.proofs.Answers.{length-done}
 use borrow.Author.Needs.{needs}
 use Rattle.player.proofs.seek_raw_saved_length.Statement.{statement}

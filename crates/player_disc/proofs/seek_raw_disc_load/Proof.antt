@@ -1,8 +1,8 @@
 use Rattle.rules.specs.declared.Area.{Area}
 use Rattle.index.specs.Index.{Tables, tables}
-use Rattle.block.specs.Block.{areaFrom}
+use Rattle.player.specs.Block.{areaFrom}
 use Rattle.player_disc.specs.Calls.{discLoadCall}
-use Rattle.block.proofs.Blocks.{too-short, long-enough}
+use Rattle.player.proofs.block.Blocks.{too-short, long-enough}
 use Rattle.player_disc.proofs.Answers.{load-done}
 use borrow.Author.Needs.{needs}
 use Rattle.player_disc.proofs.seek_raw_disc_load.Statement.{statement}

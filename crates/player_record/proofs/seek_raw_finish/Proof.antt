@@ -1,5 +1,5 @@
 use Rattle.player_record.specs.Calls.{finishCall}
-use Rattle.block.proofs.Blocks.{too-short}
+use Rattle.player.proofs.block.Blocks.{too-short}
 use Rattle.player_record.proofs.Answers.{finish-done}
 use borrow.Author.Needs.{needs}
 use Rattle.player_record.proofs.seek_raw_finish.Statement.{statement}

@@ -1,7 +1,7 @@
 use mir.Syntax.{w32}
 use mir.ValLaws.{toZ-ofZ}
 use Rattle.player_record.specs.Calls.{recordCall}
-use Rattle.block.proofs.Blocks.{too-short}
+use Rattle.player.proofs.block.Blocks.{too-short}
 use Rattle.player_record.proofs.Answers.{record-done}
 use borrow.Author.Needs.{needs}
 use Rattle.player_record.proofs.seek_raw_record.Statement.{statement}

@@ -1,5 +1,5 @@
 use Rattle.player_record.specs.Calls.{recorderCall}
-use Rattle.block.proofs.Blocks.{too-short, long-enough}
+use Rattle.player.proofs.block.Blocks.{too-short, long-enough}
 use Rattle.player_record.proofs.Answers.{recorder-done}
 use borrow.Author.Needs.{needs}
 use Rattle.player_record.proofs.seek_raw_recorder.Statement.{statement}

@@ -1,4 +1,4 @@
-use Rattle.output.proofs.Stretches.{put-both}
+use Rattle.save.proofs.output.Stretches.{put-both}
 use native.Mathlib.Omega.{arith}
 use borrow.Author.Needs.{needs}
 use Rattle.save.proofs.put_scan.Statement.{statement}

@@ -1,4 +1,4 @@
-use Rattle.output.proofs.Stretches.{put-both}
+use Rattle.save.proofs.output.Stretches.{put-both}
 use Rattle.save.proofs.Sections.{put-same, put-header}
 use Rattle.save.proofs.Numbers.{sizes-are, body-is}
 use native.Mathlib.Omega.{arith}

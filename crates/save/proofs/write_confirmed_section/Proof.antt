@@ -1,4 +1,4 @@
-use Rattle.output.proofs.Stretches.{put-both, put-one, put-over}
+use Rattle.save.proofs.output.Stretches.{put-both, put-one, put-over}
 use native.Mathlib.Omega.{arith}
 use borrow.Author.Needs.{needs}
 use Rattle.save.proofs.write_confirmed_section.Statement.{statement}

@@ -1,4 +1,4 @@
-use Rattle.output.proofs.Stretches.{put-both, put-over}
+use Rattle.save.proofs.output.Stretches.{put-both, put-over}
 use borrow.Author.Needs.{needs}
 use Rattle.save.proofs.write_hint_section.Statement.{statement}
 use Rattle.save.proofs.write_hint_section.Tie as tie

@@ -1,4 +1,4 @@
-use Rattle.filelaws.proofs.Length.{length-body, savedLength-is}
+use Rattle.laws.proofs.Length.{length-body, savedLength-is}
 use Rattle.save.proofs.Sections.{summed}
 use native.Mathlib.Omega.{arith}
 use Rattle.rules.specs.File.{saved}

@@ -1,5 +1,5 @@
 use Rattle.sections.proofs.Questions.{lsn-fits}
-use Rattle.table.proofs.Tests.{product-fits}
+use Rattle.tables.proofs.Tests.{product-fits}
 use borrow.Author.Needs.{needs}
 use Rattle.sections.proofs.lsn_at.Statement.{statement}
 use Rattle.sections.proofs.lsn_at.Tie as tie

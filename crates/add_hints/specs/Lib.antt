@@ -1,0 +1,6 @@
+pub mod Added
+pub mod Digits
+pub mod JoinedMerged
+pub mod Merged
+pub mod Needs
+pub mod SortNeeds

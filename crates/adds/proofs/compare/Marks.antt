@@ -1,0 +1,134 @@
+-- The marked list: its hints are the merged list's, and its held ones the held list. Assumes nothing.
+use mathlib.Core.Path.{_≡_, refl, sym, ap, _∙_}
+use mathlib.Core.Bool.{Bool, true, false, not, cond}
+use mathlib.Core.List.{List, [], _∷_, _++_, append-nil}
+use Prim.Native.Nat.{ℕ, zero, suc, _+_, _<_, _≤_}
+use native.Mathlib.Omega.{arith}
+use lib.ListN.{length, getD, take}
+use lib.Seq.{take-suc, take-length}
+use borrow.Author.Tests.{lt-ltb, le-ltb}
+use Rattle.rules.specs.declared.Hint.{Hint}
+use Rattle.rules.specs.Values.{noHint, max32}
+use Rattle.rules.specs.Sections.{hintLsn}
+use Rattle.rules.specs.Hints.{kept}
+use Rattle.rules.proofs.Tests.{test, order, never}
+use Rattle.laws.specs.Adding.{mergedBy}
+use Rattle.laws.proofs.hint_lists.Adding.{nil-merged, merged-nil, merged-left, merged-right, merged-both}
+use Rattle.laws.proofs.hint_lists.Thinning.{kept-none, kept-yes, kept-no}
+use Rattle.adds.specs.Marks.{Marked, mark, marksOf, marked, lsnFrom}
+
+-- ---- one step of the merge
+pub nil-marked : (ys : List Hint) → marked [] ys ≡ marksOf true ys
+unfolding marked
+nil-marked ys = refl
+
+pub marked-nil : (xs : List Hint) → marked xs [] ≡ marksOf false xs
+unfolding marked marksOf
+marked-nil [] = refl
+marked-nil (x ∷ xs) = refl
+
+module _ (x y : Hint) (xs ys : List Hint) where
+  marked-left : x .lsn < y .lsn → marked (x ∷ xs) (y ∷ ys) ≡ mark false x ∷ marked xs (y ∷ ys)
+  unfolding marked
+  marked-left h = rw (lt-ltb (x .lsn) (y .lsn) h)
+
+  marked-right : y .lsn < x .lsn → marked (x ∷ xs) (y ∷ ys) ≡ mark true y ∷ marked (x ∷ xs) ys
+  unfolding marked
+  marked-right h = rw (le-ltb (x .lsn) (y .lsn) (omega arith), lt-ltb (y .lsn) (x .lsn) h)
+
+  marked-both : x .lsn ≡ y .lsn → marked (x ∷ xs) (y ∷ ys) ≡ mark false x ∷ marked xs ys
+  unfolding marked
+  marked-both h = rw (le-ltb (x .lsn) (y .lsn) (omega arith), le-ltb (y .lsn) (x .lsn) (omega arith))
+
+-- the next of the merge by the first LSNs, which are no more than 32 bits
+pub next-new : (xs : List Hint) (y : Hint) (ys : List Hint) → lsnFrom (y ∷ ys) < lsnFrom xs → marked xs (y ∷ ys) ≡ mark true y ∷ marked xs ys
+unfolding lsnFrom marked marksOf
+next-new [] y ys h = refl
+next-new (x ∷ xs) y ys h = marked-right x y xs ys h
+
+pub next-held : (x : Hint) (xs ys : List Hint) → lsnFrom (x ∷ xs) < lsnFrom ys → marked (x ∷ xs) ys ≡ mark false x ∷ marked xs ys
+unfolding lsnFrom marked marksOf
+next-held x xs [] h = rw (marked-nil xs)
+next-held x xs (y ∷ ys) h = marked-left x y xs ys h
+
+pub next-both : (x y : Hint) (xs ys : List Hint) → lsnFrom (x ∷ xs) ≡ lsnFrom (y ∷ ys) → marked (x ∷ xs) (y ∷ ys) ≡ mark false x ∷ marked xs ys
+unfolding lsnFrom
+next-both x y xs ys h = marked-both x y xs ys h
+
+-- ---- the hints of marked ones
+abbrev pub hintsOf : List Marked → List Hint
+hintsOf [] = []
+hintsOf (m ∷ ms) = m .hint ∷ hintsOf ms
+
+-- those that are held
+abbrev pub heldOf : List Marked → List Hint
+heldOf [] = []
+heldOf (m ∷ ms) = cond (m .new) (heldOf ms) (m .hint ∷ heldOf ms)
+
+abbrev pub noMark : Marked
+noMark = mark false noHint
+
+-- is the one at place i new?
+abbrev pub newAt : List Marked → ℕ → Bool
+newAt ms i = getD ms i noMark .new
+
+pub hints-length : (ms : List Marked) → length (hintsOf ms) ≡ length ms
+hints-length [] = refl
+hints-length (m ∷ ms) = ap suc (hints-length ms)
+
+pub hints-at : (ms : List Marked) (i : ℕ) → getD (hintsOf ms) i noHint ≡ getD ms i noMark .hint
+hints-at [] i = refl
+hints-at (m ∷ ms) zero = refl
+hints-at (m ∷ ms) (suc i) = hints-at ms i
+
+marks-hints : (b : Bool) (hs : List Hint) → hintsOf (marksOf b hs) ≡ hs
+unfolding marksOf
+marks-hints b [] = refl
+marks-hints b (h ∷ hs) = rw (marks-hints b hs)
+
+-- the merged list
+pub marked-hints : (xs ys : List Hint) → hintsOf (marked xs ys) ≡ mergedBy hintLsn xs ys
+marked-hints [] ys = rw (nil-marked ys, marks-hints true ys, nil-merged hintLsn ys)
+marked-hints (x ∷ xs) [] = rw (marked-nil (x ∷ xs), marks-hints false (x ∷ xs), merged-nil hintLsn (x ∷ xs))
+marked-hints (x ∷ xs) (y ∷ ys) =
+    order (x .lsn) (y .lsn)
+    (λ l. rw (marked-left x y xs ys l, merged-left hintLsn x y xs ys l) (ap (λ (z : List Hint). x ∷ z) (marked-hints xs (y ∷ ys))))
+    (λ l. rw (marked-right x y xs ys l, merged-right hintLsn x y xs ys l) (ap (λ (z : List Hint). y ∷ z) (marked-hints (x ∷ xs) ys)))
+    (λ e. rw (marked-both x y xs ys e, merged-both hintLsn x y xs ys e) (ap (λ (z : List Hint). x ∷ z) (marked-hints xs ys)))
+
+-- the held list
+none-held : (ys : List Hint) → heldOf (marksOf true ys) ≡ []
+unfolding marksOf
+none-held [] = refl
+none-held (y ∷ ys) = none-held ys
+
+all-held : (xs : List Hint) → heldOf (marksOf false xs) ≡ xs
+unfolding marksOf
+all-held [] = refl
+all-held (x ∷ xs) = rw (all-held xs)
+
+pub marked-held : (xs ys : List Hint) → heldOf (marked xs ys) ≡ xs
+marked-held [] ys = rw (nil-marked ys) (none-held ys)
+marked-held (x ∷ xs) [] = rw (marked-nil (x ∷ xs)) (all-held (x ∷ xs))
+marked-held (x ∷ xs) (y ∷ ys) =
+    order (x .lsn) (y .lsn) (λ l. rw (marked-left x y xs ys l) (ap (λ (z : List Hint). x ∷ z) (marked-held xs (y ∷ ys))))
+    (λ l. rw (marked-right x y xs ys l) (marked-held (x ∷ xs) ys)) (λ e. rw (marked-both x y xs ys e) (ap (λ (z : List Hint). x ∷ z) (marked-held xs ys)))
+
+-- keeping the places of the held ones leaves them
+held-append : (ms ns : List Marked) → heldOf (ms ++ ns) ≡ heldOf ms ++ heldOf ns
+held-append [] ns = refl
+held-append (m ∷ ms) ns = test (m .new) (λ e. rw e (held-append ms ns)) (λ e. rw e (ap (λ (z : List Hint). m .hint ∷ z) (held-append ms ns)))
+
+pub kept-held : (ms : List Marked) (n : ℕ) → n ≤ length ms → kept (λ i. not (newAt ms i)) (hintsOf ms) n ≡ heldOf (take n ms)
+kept-held ms zero l = kept-none (λ i. not (newAt ms i)) (hintsOf ms)
+kept-held ms (suc n) l =
+    let p : ℕ → Bool = λ i. not (newAt ms i) in
+    let r = kept-held ms n (omega arith) in
+    let s : heldOf (take (suc n) ms) ≡ heldOf (take n ms) ++ cond (newAt ms n) [] (getD ms n noMark .hint ∷ []) =
+    rw (take-suc ms n noMark l) (held-append (take n ms) (getD ms n noMark ∷ [])) in
+    test (newAt ms n) (λ e. kept-no p (hintsOf ms) n (rw e) ∙ r ∙ sym (s ∙ rw e (append-nil (heldOf (take n ms)))))
+    (λ e. kept-yes p (hintsOf ms) n (rw e) ∙ rw (r, hints-at ms n) (sym (s ∙ rw e)))
+
+pub kept-all-held : (xs ys : List Hint) → kept (λ i. not (newAt (marked xs ys) i)) (hintsOf (marked xs ys)) (length (marked xs ys)) ≡ xs
+kept-all-held xs ys =
+    let ms = marked xs ys in kept-held ms (length ms) (omega arith) ∙ rw (take-length ms) (marked-held xs ys)

@@ -1,0 +1,262 @@
+-- The passes over two tables of hints, and over two of confirmations. Assumes nothing.
+use mathlib.Core.Path.{_≡_, refl, sym, ap, _∙_}
+use mathlib.Core.Bool.{Bool, true, false, _&&_, not, cond}
+use mathlib.Core.List.{List, [], _∷_}
+use Prim.Native.Nat.{ℕ, _+_, _-_, _*_, _/_, _<_, _≤_, min}
+use native.Mathlib.Omega.{arith}
+use lib.Dec.{eqb, leb, ltb}
+use native.Mathlib.Numerals.{add-one}
+use lib.ListN.{length, getD, drop, drop-of-length-le}
+use lib.Seq.{drop-cons}
+use borrow.Author.Tests.{leb-true, leb-false, eqb-true, eqb-false, eq-eqb, ne-eqb, lt-ltb, le-ltb, le-leb, lt-leb, not-true, not-false}
+use Rattle.field.specs.Records.{records, recordAt}
+use Rattle.field.proofs.Records.{records-length}
+use Rattle.rules.specs.declared.Area.{Area}
+use Rattle.rules.specs.declared.Confirmation.{Confirmation}
+use Rattle.rules.specs.declared.Hint.{Hint}
+use Rattle.rules.specs.Values.{max32, noHint, noConfirmation}
+use Rattle.rules.specs.Tests.{all}
+use Rattle.rules.specs.Sections.{hintsOk, confirmationsOk}
+use Rattle.rules.specs.File.{decodeHint, decodeConfirmation}
+use Rattle.rules.specs.Hints.{heldConfirmation, joinedHints, keepAll, keepsNothing}
+use Rattle.rules.proofs.Tests.{test, never}
+use Rattle.rules.proofs.Same.{eqb-self}
+use Rattle.laws.proofs.hint_lists.Hints.{joined-none}
+use Rattle.tables.specs.Tables.{hintsIn, confirmationsIn}
+use Rattle.tables.proofs.Walk.{records-turn}
+use Rattle.adds.specs.declared.compare.Turn.{Turn}
+use Rattle.adds.specs.declared.compare.Weighed.{Weighed}
+use Rattle.adds.specs.Same.{sameList, sameHint, sameConfirmation}
+use Rattle.adds.specs.Marks.{mark, marked, marksOf, lsnFrom, unweighed, weighOne, weighed, changedBy}
+use Rattle.adds.specs.Confirmed.{absorbed, unmovedBy, fromLow, arriving, confirmedChange}
+use Rattle.adds.specs.Answers.{LsnAt, Turned, HintsAnswered, ConfirmedAnswered}
+use Rattle.adds.proofs.compare.Same.{sameList-self, sameHint-self}
+use Rattle.adds.proofs.compare.Marks.{next-new, next-held, next-both}
+use Rattle.adds.proofs.compare.Hints.{hints-change}
+use Rattle.adds.proofs.compare.Confirmed.{confirmed-change}
+
+-- ---- the next of two lists of hints
+module _ (n : ℕ) (t : List ℕ) where
+  pub lsn-here : {h : Hint} (i : ℕ) → i < n → h ≡ recordAt 8 decodeHint t i → h .lsn < 4294967296 → LsnAt (hintsIn n t) n i (h .lsn)
+  unfolding lsnFrom
+  lsn-here {h} i l e f = record {
+    is = sym (rw (records-turn 8 decodeHint n t i l, ← e));
+    inside = λ k. omega arith;
+    past = λ k. let z : ⊥ = omega arith in absurd z;
+  }
+
+  pub lsn-none : (i : ℕ) → n ≤ i → LsnAt (hintsIn n t) n i (max32 + 1)
+  unfolding lsnFrom
+  lsn-none i l = record {
+    is = sym (ap lsnFrom (drop-of-length-le (hintsIn n t) (let k : length (hintsIn n t) ≤ i = rw records-length l in k)));
+    inside = λ k. let z : ⊥ = omega arith in absurd z;
+    past = λ k. refl;
+  }
+
+-- a record that was read is the next of its list
+pub read-turn : {A : Type 0} {x : A} (w : ℕ) (d : List ℕ → A) (n : ℕ) (t : List ℕ) (i : ℕ) → i < n → x ≡ recordAt w d t i
+    → drop i (records w d n t) ≡ x ∷ drop (i + 1) (records w d n t)
+read-turn w d n t i l e = records-turn w d n t i l ∙ rw (← e)
+
+module _ {xs ys : List Hint} {n m i j a b : ℕ} (p : LsnAt xs n i a) (q : LsnAt ys m j b) where
+  -- the other list goes on where its LSN is lower
+  pub other-inside : i ≤ n → b < a → j < m
+  other-inside h l =
+      test (leb m j)
+      (λ e. let u = q .past (leb-true m j e) in
+      let z : ⊥ = test (leb n i) (λ f. let v = p .past (leb-true n i f) in omega arith) (λ f. let v = p .inside (leb-false n i f) in omega arith) in absurd z)
+      (λ e. leb-false m j e)
+
+  -- else the own one does
+  pub own-inside : j ≤ m → i + j < n + m → a ≤ b → i < n
+  own-inside h g l =
+      test (leb n i)
+      (λ e. let u = p .past (leb-true n i e) in
+      let z : ⊥ = test (leb m j) (λ f. let v = leb-true m j f in let w = leb-true n i e in omega arith) (λ f. let v = q .inside (leb-false m j f) in omega arith) in absurd z)
+      (λ e. leb-false n i e)
+
+  both-inside : i < n → a ≡ b → j < m
+  both-inside h e =
+      let u = p .inside h in
+      test (leb m j) (λ f. let v = q .past (leb-true m j f) in let z : ⊥ = omega arith in absurd z) (λ f. leb-false m j f)
+
+  module _ (hi : i ≤ n) (hj : j ≤ m) where
+    pub turn-new : {y : Hint} → b < a → drop j ys ≡ y ∷ drop (j + 1) ys → Turned xs ys n m i j (record { new = true; number = y .number; own = i; other = j + 1 })
+    turn-new {y} l d =
+        let k = other-inside hi l in
+        let w : lsnFrom (y ∷ drop (j + 1) ys) < lsnFrom (drop i xs) = rw (← d, ← q .is, ← p .is) l in
+        record {
+          hint = y;
+          next = ap (marked (drop i xs)) d ∙ next-new (drop i xs) y (drop (j + 1) ys) w;
+          number = refl;
+          own = hi;
+          other = omega arith;
+          on = omega arith;
+        }
+
+    module _ {x : Hint} (k : i < n) (d : drop i xs ≡ x ∷ drop (i + 1) xs) where
+      pub turn-held : a < b → Turned xs ys n m i j (record { new = false; number = x .number; own = i + 1; other = j })
+      turn-held l =
+          let w : lsnFrom (x ∷ drop (i + 1) xs) < lsnFrom (drop j ys) = rw (← d, ← q .is, ← p .is) l in
+          record {
+            hint = x;
+            next = ap (λ (z : List Hint). marked z (drop j ys)) d ∙ next-held x (drop (i + 1) xs) (drop j ys) w;
+            number = refl;
+            own = omega arith;
+            other = hj;
+            on = omega arith;
+          }
+
+      pub turn-both : length ys ≡ m → b ≤ a → a ≤ b → Turned xs ys n m i j (record { new = false; number = x .number; own = i + 1; other = j + 1 })
+      turn-both len l g =
+          let z : a ≡ b = omega arith in
+          let f = both-inside k z in
+          let y = getD ys j noHint in
+          let f' : j < length ys = omega arith in
+          let c : drop j ys ≡ y ∷ drop (j + 1) ys = drop-cons ys j noHint f' ∙ rw (add-one j) in
+          let w : lsnFrom (x ∷ drop (i + 1) xs) ≡ lsnFrom (y ∷ drop (j + 1) ys) = sym (ap lsnFrom d) ∙ sym (p .is) ∙ z ∙ q .is ∙ ap lsnFrom c in
+          record {
+            hint = x;
+            next = ap (λ (u : List Hint). marked u (drop j ys)) d ∙ ap (marked (x ∷ drop (i + 1) xs)) c ∙ next-both x y (drop (i + 1) xs) (drop (j + 1) ys) w;
+            number = refl;
+            own = omega arith;
+            other = omega arith;
+            on = omega arith;
+          }
+
+-- ---- all of them
+pub record Weighing (xs ys : List Hint) (n m : ℕ) (s : Weighed) (i j : ℕ) : Type 0 where
+  pub own : i ≤ n
+  pub other : j ≤ m
+  pub few : s .place ≤ i + j
+  pub rest : weighed s (marked (drop i xs) (drop j ys)) ≡ weighed unweighed (marked xs ys)
+
+pub weigh-start : {s : Weighed} (xs ys : List Hint) (n m : ℕ) → s ≡ unweighed → Weighing xs ys n m s 0 0
+weigh-start xs ys n m e = record { own = omega arith; other = omega arith; few = rw e (omega arith); rest = rw e }
+
+weigh-place : (s : Weighed) (b : Bool) (k : ℕ) → weighOne s b k .place ≡ s .place + 1
+unfolding weighOne
+weigh-place s b k = refl
+
+pub weigh-on : {xs ys : List Hint} {n m i j : ℕ} {s s' : Weighed} {r : Turn} → Weighing xs ys n m s i j → Turned xs ys n m i j r → s' ≡ weighOne s (r .new) (r .number)
+    → Weighing xs ys n m s' (r .own) (r .other)
+unfolding weighed
+weigh-on {xs} {ys} {n} {m} {i} {j} {s} {s'} {r} w t e =
+    let f = w .few in let o = t .on in let q = weigh-place s (r .new) (r .number) in
+    let z = sym (ap (weighed s) (t .next)) ∙ w .rest in
+    let y : weighed (weighOne s (r .new) (r .number)) (marked (drop (r .own) xs) (drop (r .other) ys)) ≡ weighed unweighed (marked xs ys) = rw (t .number) at z in
+    record { own = t .own; other = t .other; few = rw e (omega arith); rest = rw e y }
+
+pub weigh-end : {xs ys : List Hint} {n m i j : ℕ} {s : Weighed} → length xs ≡ n → length ys ≡ m → Weighing xs ys n m s i j → n + m ≤ i + j → s ≡ weighed unweighed (marked xs ys)
+unfolding weighed marked marksOf
+weigh-end {xs} {ys} {n} {m} {i} {j} {s} f g w l =
+    let o = w .own in let p = w .other in
+    let x : drop i xs ≡ [] = drop-of-length-le xs (let k : length xs ≤ i = omega arith in k) in
+    let y : drop j ys ≡ [] = drop-of-length-le ys (let k : length ys ≤ j = omega arith in k) in
+    rw (x, y) at (w .rest)
+
+module _ {most : ℕ} (xs ys : List Hint) where
+  pub hints-none : most ≡ 0 → HintsAnswered most xs ys false
+  hints-none e a h g = sym (rw (e, joined-none a xs ys, sameList-self sameHint sameHint-self xs))
+
+  pub hints-answered : {w : Weighed} {r : Bool} {n : ℕ} → length xs ≡ n → n ≤ most → (most ≡ 0 → ⊥) → w ≡ weighed unweighed (marked xs ys) → r ≡ changedBy w n most → HintsAnswered most xs ys r
+  hints-answered {w} {r} {n} k l z e f a h g = f ∙ rw (e, ← k) (sym (hints-change a xs ys h g most (omega arith) (omega (arith, z))))
+
+-- ---- confirmations
+pub stays-is : (c d : Confirmation) → (eqb (c .digest) (d .digest) && leb (c .threshold) (d .threshold)) ≡ sameConfirmation c (heldConfirmation c d)
+unfolding sameConfirmation heldConfirmation all
+stays-is c d =
+    test (eqb (c .digest) (d .digest))
+    (λ e. rw (e, eqb-self (c .lsn), eqb-self (c .digest))
+    (test (leb (c .threshold) (d .threshold))
+    (λ f. let l = leb-true (c .threshold) (d .threshold) f in let z : min (c .threshold) (d .threshold) ≡ c .threshold = omega arith in rw (f, z, eqb-self (c .threshold)))
+    (λ f. let l = leb-false (c .threshold) (d .threshold) f in rw (f, ne-eqb (c .threshold) (min (c .threshold) (d .threshold)) (λ z. omega arith)))))
+    (λ e. rw (e, e) (test (eqb (c .lsn) (d .lsn)) (λ f. rw f (test (eqb (c .threshold) (d .threshold)) (λ g. rw g) (λ g. rw g))) (λ f. rw f)))
+
+-- a turn of the pass: i and j are passed, and the answer is to be r
+pub record Absorbing (cs ds : List Confirmation) (r : Bool) (n m i j : ℕ) : Type 0 where
+  pub own : i ≤ n
+  pub other : j ≤ m
+  pub rest : absorbed (drop i cs) (drop j ds) ≡ r
+
+module _ {cs ds : List Confirmation} {r : Bool} {n m i j : ℕ} (w : Absorbing cs ds r n m i j) where
+  pub absorb-end : length ds ≡ m → m ≤ j → true ≡ r
+  unfolding absorbed
+  absorb-end g l =
+      let y : drop j ds ≡ [] = drop-of-length-le ds (let k : length ds ≤ j = omega arith in k) in
+      rw y at (w .rest)
+
+  module _ {d : Confirmation} (q : drop j ds ≡ d ∷ drop (j + 1) ds) where
+    pub absorb-short : length cs ≡ n → n ≤ i → false ≡ r
+    unfolding absorbed
+    absorb-short f l =
+        let x : drop i cs ≡ [] = drop-of-length-le cs (let k : length cs ≤ i = omega arith in k) in
+        rw (x, q) at (w .rest)
+
+    module _ {c : Confirmation} (p : drop i cs ≡ c ∷ drop (i + 1) cs) where
+      pub absorb-moved : {u : Bool} → u ≡ unmovedBy c d → not u ≡ true → false ≡ r
+      unfolding unmovedBy absorbed
+      absorb-moved {u} e f =
+          let g : unmovedBy c d ≡ false = sym e ∙ not-true u f in
+          let z = rw (p, q) at (w .rest) in
+          test (ltb (c .lsn) (d .lsn)) (λ a. never {b = true} refl (rw a at g))
+          (λ a. test (ltb (d .lsn) (c .lsn)) (λ b. rw (a, b) at z) (λ b. let h : sameConfirmation c (heldConfirmation c d) ≡ false = rw (a, b) at g in rw (a, b, h) at z))
+
+      pub absorb-on : {u : Bool} {k : ℕ} → i < n → j < m → u ≡ unmovedBy c d → not u ≡ false → k ≡ cond (ltb (c .lsn) (d .lsn)) j (j + 1) → Absorbing cs ds r n m (i + 1) k
+      unfolding unmovedBy absorbed
+      absorb-on {u} {k} li lj e f g =
+          let h : unmovedBy c d ≡ true = sym e ∙ not-false u f in
+          let z = rw (p, q) at (w .rest) in
+          test (ltb (c .lsn) (d .lsn))
+          (λ a. let y : k ≡ j = rw a at g in record { own = omega arith; other = omega arith; rest = rw (y, q) (rw a at z) })
+          (λ a. let y : k ≡ j + 1 = rw a at g in
+          test (ltb (d .lsn) (c .lsn)) (λ b. never {b = false} (rw (a, b) at h) refl)
+          (λ b. let t : sameConfirmation c (heldConfirmation c d) ≡ true = rw (a, b) at h in record { own = omega arith; other = omega arith; rest = rw y (rw (a, b, t) at z) }))
+
+-- those below low: j are passed
+pub record Skipping (ds : List Confirmation) (low m j : ℕ) : Type 0 where
+  pub within : j ≤ m
+  pub rest : fromLow low (drop j ds) ≡ fromLow low ds
+
+module _ {ds : List Confirmation} {low m j : ℕ} (w : Skipping ds low m j) where
+  pub skip-end : length ds ≡ m → m ≤ j → drop j ds ≡ fromLow low ds
+  unfolding fromLow
+  skip-end g l =
+      let y : drop j ds ≡ [] = drop-of-length-le ds (let k : length ds ≤ j = omega arith in k) in
+      y ∙ rw y at (w .rest)
+
+  module _ {d : Confirmation} (q : drop j ds ≡ d ∷ drop (j + 1) ds) where
+    pub skip-stop : low ≤ d .lsn → drop j ds ≡ fromLow low ds
+    unfolding fromLow
+    skip-stop l = q ∙ rw (q, le-ltb (d .lsn) low l) at (w .rest)
+
+    pub skip-on : j < m → d .lsn < low → Skipping ds low m (j + 1)
+    unfolding fromLow
+    skip-on h l = record { within = omega arith; rest = rw (q, lt-ltb (d .lsn) low l) at (w .rest) }
+
+module _ (most n : ℕ) (cs ds : List Confirmation) (k : length cs ≡ n) where
+  pub arriving-all : (n ≡ most → ⊥) → ds ≡ arriving most cs ds
+  unfolding arriving
+  arriving-all h = sym (rw (k, ne-eqb n most h))
+
+  pub arriving-low : {c : Confirmation} {x : List Confirmation} → n ≡ most → 1 ≤ most → drop 0 cs ≡ c ∷ drop 1 cs → x ≡ fromLow (c .lsn) ds → x ≡ arriving most cs ds
+  unfolding arriving
+  arriving-low {c} h l p e =
+      let z : getD cs 0 noConfirmation ≡ c = ap (λ (y : List Confirmation). getD y 0 noConfirmation) p in
+      e ∙ sym (rw (k, eq-eqb n most h, z))
+
+module _ (checked : Bool) {most n : ℕ} (cs ds : List Confirmation) (k : length cs ≡ n) (l : n ≤ most) where
+  answered-by : {r : Bool} → r ≡ confirmedChange checked most cs ds → ConfirmedAnswered checked most cs ds r
+  answered-by e a h g = e ∙ sym (confirmed-change a checked most cs ds h g (omega arith))
+
+  pub confirmed-unchecked : not checked ≡ true → ConfirmedAnswered checked most cs ds false
+  unfolding confirmedChange
+  confirmed-unchecked e = answered-by (sym (rw e))
+
+  pub confirmed-none : most ≡ 0 → ConfirmedAnswered checked most cs ds false
+  unfolding confirmedChange
+  confirmed-none e = answered-by (sym (test checked (λ f. rw (f, e)) (λ f. rw f)))
+
+  pub confirmed-some : {from : List Confirmation} {u : Bool} → not checked ≡ false → (most ≡ 0 → ⊥) → from ≡ arriving most cs ds → u ≡ absorbed cs from → ConfirmedAnswered checked most cs ds (not u)
+  unfolding confirmedChange
+  confirmed-some e z f g = answered-by (sym (rw (e, ne-eqb most 0 z, ← f, ← g)))

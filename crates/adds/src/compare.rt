@@ -1,0 +1,279 @@
+// What another list's hints and confirmations would change, decided over lent tables that are only read.
+use field::and;
+use field::or;
+use rules::Confirmation;
+use rules::MAX_U32;
+use tables::read_confirmation;
+use tables::read_hint;
+use thin::gaps::rise_of;
+ghost use mathlib.Core.Path.{_≡_};
+ghost use mathlib.Core.Bool.{_&&_, cond};
+ghost use Prim.Native.Nat.{_+_, _*_, _≤_, _<_};
+ghost use lib.Dec.{leb, ltb};
+ghost use lib.ListN.{length, drop};
+ghost use Rattle.rules.specs.Hints.{rise, heldConfirmation};
+ghost use Rattle.tables.specs.Tables.{hintsIn, confirmationsIn};
+ghost use Rattle.adds.specs.Same.{sameConfirmation};
+ghost use Rattle.adds.specs.Marks.{marked, lower, unweighed, weighOne, weighed, changedBy};
+ghost use Rattle.adds.specs.Confirmed.{absorbed, unmovedBy, fromLow, arriving};
+ghost use Rattle.adds.specs.Answers.{LsnAt, Turned, HintsAnswered, ConfirmedAnswered};
+
+// The gap at a place of a list of hints, and the place.
+pub struct Pair {
+    pub gap: u64,
+    pub place: u64,
+}
+
+// Of the hints passed so far: how many, the last one's number, the largest pair of a new one and the smallest of a held one.
+pub struct Weighed {
+    pub place: u64,
+    pub before: u32,
+    pub new: Pair,
+    pub held: Pair,
+}
+
+// The next hint of two lists merged: whether it is new, its number, and how many of each list are passed then.
+pub struct Turn {
+    pub new: bool,
+    pub number: u32,
+    pub own: usize,
+    pub other: usize,
+}
+
+// ---- hints
+// The LSN of hint i, above every LSN where there is none.
+fn lsn_at(t: &[u8], n: usize, i: usize) -> u64
+    requires { ⌜ n * 8 ≤ length (now t) ⌝ }
+    ensures { λ r. ⌜ LsnAt (hintsIn n (now (t .entry))) n i r ⌝ }
+{
+    if i < n {
+        let h = read_hint(t, i);
+        return h.lsn as u64;
+    }
+    MAX_U32 + 1
+}
+
+// The next of the hints from i and j on.
+fn next_hint(own: &[u8], n: usize, other: &[u8], m: usize, i: usize, j: usize) -> Turn
+    requires { ⌜ (n * 8 ≤ length (now own)) × (m * 8 ≤ length (now other)) × (i ≤ n) × (j ≤ m) × (i + j < n + m) ⌝ }
+    ensures { λ r. ⌜ Turned (hintsIn n (now (own .entry))) (hintsIn m (now (other .entry))) n m i j r ⌝ }
+{
+    let a = lsn_at(own, n, i);
+    let b = lsn_at(other, m, j);
+    if b < a {
+        let y = read_hint(other, j);
+        return Turn {
+            new: true,
+            number: y.number,
+            own: i,
+            other: j + 1,
+        };
+    }
+    let x = read_hint(own, i);
+    if a < b {
+        return Turn {
+            new: false,
+            number: x.number,
+            own: i + 1,
+            other: j,
+        };
+    }
+    Turn {
+        new: false,
+        number: x.number,
+        own: i + 1,
+        other: j + 1,
+    }
+}
+
+// p where it counts and is no smaller, else q.
+fn larger(go: bool, p: Pair, q: Pair) -> Pair
+    ensures { λ r. ⌜ r ≡ cond (go && leb (q .gap) (p .gap)) p q ⌝ }
+{
+    if and(go, q.gap <= p.gap) { p } else { q }
+}
+
+// p where it counts and is smaller, else q.
+fn smaller(go: bool, p: Pair, q: Pair) -> Pair
+    ensures { λ r. ⌜ r ≡ cond (go && ltb (p .gap) (q .gap)) p q ⌝ }
+{
+    if and(go, p.gap < q.gap) { p } else { q }
+}
+
+fn weigh_one(s: Weighed, new: bool, number: u32) -> Weighed
+    requires { ⌜ s .place < 18446744073709551615 ⌝ }
+    ensures { λ r. ⌜ r ≡ weighOne s new number ⌝ }
+{
+    let p = Pair {
+        gap: rise_of(s.before, number),
+        place: s.place,
+    };
+    let a = s.new;
+    let b = s.held;
+    Weighed {
+        place: s.place + 1,
+        before: number,
+        new: larger(new, p, a),
+        held: smaller(!new, p, b),
+    }
+}
+
+fn nothing_weighed() -> Weighed
+    ensures { λ r. ⌜ r ≡ unweighed ⌝ }
+{
+    Weighed {
+        place: 0,
+        before: MAX_U32 as u32,
+        new: Pair { gap: 0, place: 0 },
+        held: Pair {
+            gap: MAX_U32 + 1,
+            place: 0,
+        },
+    }
+}
+
+// One pass over both lists.
+fn weigh(own: &[u8], n: usize, other: &[u8], m: usize) -> Weighed
+    requires { ⌜ (n * 8 ≤ length (now own)) × (m * 8 ≤ length (now other)) ⌝ }
+    ensures { λ r. ⌜ r ≡ weighed unweighed (marked (hintsIn n (now (own .entry))) (hintsIn m (now (other .entry)))) ⌝ }
+{
+    let mut s = nothing_weighed();
+    let mut i = 0;
+    let mut j = 0;
+    while i + j < n + m {
+        let t = next_hint(own, n, other, m, i, j);
+        s = weigh_one(s, t.new, t.number);
+        i = t.own;
+        j = t.other;
+    }
+    s
+}
+
+fn lower_pair(p: Pair, q: Pair) -> bool
+    ensures { λ r. ⌜ r ≡ lower p q ⌝ }
+{
+    or(p.gap < q.gap, and(p.gap == q.gap, p.place < q.place))
+}
+
+fn changed_by(w: Weighed, n: u32, most: u32) -> bool
+    ensures { λ r. ⌜ r ≡ changedBy w n most ⌝ }
+{
+    if w.place == n as u64 {
+        return false;
+    }
+    if w.place <= most as u64 {
+        return true;
+    }
+    if n != most - most / 4 {
+        return true;
+    }
+    let p = w.new;
+    let q = w.held;
+    !lower_pair(p, q)
+}
+
+// Would the m hints of another list change the n held ones, at the limit most?
+pub fn changes_hints(most: u32, own: &[u8], n: u32, other: &[u8], m: u32) -> bool
+    requires { ⌜ (n * 8 ≤ length (now own)) × (m * 8 ≤ length (now other)) × (n ≤ most) ⌝ }
+    ensures { λ r. ⌜ HintsAnswered most (hintsIn n (now (own .entry))) (hintsIn m (now (other .entry))) r ⌝ }
+{
+    if most == 0 {
+        return false;
+    }
+    let w = weigh(own, n as usize, other, m as usize);
+    changed_by(w, n, most)
+}
+
+// ---- confirmations
+// Does c stay as it is where d arrives at its LSN?
+fn stays(c: Confirmation, d: Confirmation) -> bool
+    ensures { λ r. ⌜ r ≡ sameConfirmation c (heldConfirmation c d) ⌝ }
+{
+    and(c.digest == d.digest, c.threshold <= d.threshold)
+}
+
+// Is d of a later LSN than c, or of the same one and c stays?
+fn unmoved(c: Confirmation, d: Confirmation) -> bool
+    ensures { λ r. ⌜ r ≡ unmovedBy c d ⌝ }
+{
+    if c.lsn < d.lsn {
+        return true;
+    }
+    if d.lsn < c.lsn {
+        return false;
+    }
+    stays(c, d)
+}
+
+// Past the other's confirmation number j, where c meets it.
+fn met(c: Confirmation, d: Confirmation, j: usize) -> usize
+    requires { ⌜ j < 18446744073709551615 ⌝ }
+    ensures { λ r. ⌜ r ≡ cond (ltb (c .lsn) (d .lsn)) j (j + 1) ⌝ }
+{
+    if c.lsn < d.lsn { j } else { j + 1 }
+}
+
+// Is each of the other's confirmations from number first on held, which stays as it is?
+fn absorbs(own: &[u8], n: usize, other: &[u8], m: usize, first: usize) -> bool
+    requires { ⌜ (n * 16 ≤ length (now own)) × (m * 16 ≤ length (now other)) × (first ≤ m) ⌝ }
+    ensures { λ r. ⌜ r ≡ absorbed (confirmationsIn n (now (own .entry))) (drop first (confirmationsIn m (now (other .entry)))) ⌝ }
+{
+    let mut i = 0;
+    let mut j = first;
+    while j < m {
+        if n <= i {
+            return false;
+        }
+        let c = read_confirmation(own, i);
+        let d = read_confirmation(other, j);
+        if !unmoved(c, d) {
+            return false;
+        }
+        j = met(c, d, j);
+        i += 1;
+    }
+    true
+}
+
+// How many of the m confirmations come before the first whose LSN is low or more.
+fn below(t: &[u8], m: usize, low: u32) -> usize
+    requires { ⌜ m * 16 ≤ length (now t) ⌝ }
+    ensures { λ r. ⌜ (r ≤ m) × (drop r (confirmationsIn m (now (t .entry))) ≡ fromLow low (confirmationsIn m (now (t .entry)))) ⌝ }
+{
+    let mut j = 0;
+    while j < m {
+        let d = read_confirmation(t, j);
+        if low <= d.lsn {
+            return j;
+        }
+        j += 1;
+    }
+    j
+}
+
+// The first of the other's confirmations that can change the held ones.
+fn first_arriving(most: u32, own: &[u8], n: u32, other: &[u8], m: u32) -> usize
+    requires { ⌜ (n * 16 ≤ length (now own)) × (m * 16 ≤ length (now other)) × (1 ≤ most) ⌝ }
+    ensures { λ r. ⌜ (r ≤ m) × (drop r (confirmationsIn m (now (other .entry))) ≡ arriving most (confirmationsIn n (now (own .entry))) (confirmationsIn m (now (other .entry)))) ⌝ }
+{
+    if n != most {
+        return 0;
+    }
+    let c = read_confirmation(own, 0);
+    below(other, m as usize, c.lsn)
+}
+
+// Would the m confirmations of another list change the n held ones, at the limit most?
+pub fn changes_confirmed(checked: bool, most: u32, own: &[u8], n: u32, other: &[u8], m: u32) -> bool
+    requires { ⌜ (n * 16 ≤ length (now own)) × (m * 16 ≤ length (now other)) × (n ≤ most) ⌝ }
+    ensures { λ r. ⌜ ConfirmedAnswered checked most (confirmationsIn n (now (own .entry))) (confirmationsIn m (now (other .entry))) r ⌝ }
+{
+    if !checked {
+        return false;
+    }
+    if most == 0 {
+        return false;
+    }
+    let first = first_arriving(most, own, n, other, m);
+    !absorbs(own, n as usize, other, m as usize, first)
+}

@@ -1,0 +1,166 @@
+-- What is written into a head is read from it again. Assumes nothing.
+use mathlib.Core.Path.{_≡_, refl, ap, _∙_}
+use mathlib.Core.List.{List, [], _∷_}
+use Prim.Native.Nat.{ℕ, _%_, _<_}
+use native.Mathlib.Omega.{arith}
+use lib.ListN.{length}
+use Rattle.field.proofs.Format.{Each, none, one, numbers, records-bytes}
+use Rattle.rules.specs.declared.End.{End}
+use Rattle.rules.specs.declared.End.the-variants.{Open, Closed}
+use Rattle.rules.specs.declared.Fingerprint.{Fingerprint}
+use Rattle.rules.specs.declared.Fingerprint.the-variants.{Unknown, Held, Checked}
+use Rattle.rules.specs.declared.ImageId.{ImageId}
+use Rattle.rules.specs.declared.ImageId.the-variants.{Anonymous, Id}
+use Rattle.rules.specs.declared.LastListed.{LastListed}
+use Rattle.rules.specs.declared.LastListed.the-variants.{Never, Number}
+use Rattle.rules.specs.declared.Mode.{Mode}
+use Rattle.rules.specs.declared.Mode.the-variants.{Running, Finished, Stopped}
+use Rattle.rules.specs.declared.Tail.{Tail}
+use Rattle.rules.specs.declared.Tail.the-variants as tail
+use Rattle.rules.specs.File.{over}
+use Rattle.blocks.specs.From.{areaFrom, endFrom, fingerprintFrom, imageFrom, modeFrom, lastFrom, tailFrom, indexFrom, recorderFrom, hintRecorderFrom}
+use Rattle.blocks.specs.Head.{wordsIn, blockOf, endWords, fingerprintWords, imageWords, modeWords, lastWords, tailWords, indexWords, recorderWords, hintRecorderWords}
+use Rattle.blocks.specs.RoundTrip.{Fits8, Fits32, Fits64, IndexBack, RecorderBack, HintRecorderBack}
+
+words-back : (ws b : List ℕ) → Each Fits64 ws → wordsIn (length ws) (over (blockOf ws) b) ≡ ws
+words-back ws b f = records-bytes (numbers 8) _ f
+
+low8 : (v : ℕ) → Fits8 v → v % 256 ≡ v
+low8 v h = omega arith
+
+low32 : (v : ℕ) → Fits32 v → v % 4294967296 ≡ v
+low32 v h = omega arith
+
+wide8 : {v : ℕ} → Fits8 v → Fits64 v
+wide8 h = omega arith
+
+wide32 : {v : ℕ} → Fits32 v → Fits64 v
+wide32 h = omega arith
+
+zero : Fits64 0
+zero = omega arith
+
+-- ---- things that may be unknown
+mark-fits : (e : End) → Fits64 (endWords e .mark)
+unfolding endWords
+mark-fits Open = omega arith
+mark-fits (Closed s) = omega arith
+
+end-back : (e : End) → Fits32 (endWords e .first) → endFrom (endWords e .mark) (endWords e .first) (endWords e .second) ≡ e
+unfolding endFrom endWords
+end-back Open h = refl
+end-back (Closed s) h = rw (low32 (s .threshold) h)
+
+print-fits : (f : Fingerprint) → Fits64 (fingerprintWords f .mark)
+unfolding fingerprintWords
+print-fits Unknown = omega arith
+print-fits (Held v) = omega arith
+print-fits (Checked v) = omega arith
+
+print-back : (f : Fingerprint) → fingerprintFrom (fingerprintWords f .mark) (fingerprintWords f .first) ≡ f
+unfolding fingerprintFrom fingerprintWords
+print-back Unknown = refl
+print-back (Held v) = refl
+print-back (Checked v) = refl
+
+image-fits : (i : ImageId) → Fits64 (imageWords i .mark)
+unfolding imageWords
+image-fits Anonymous = omega arith
+image-fits (Id v) = omega arith
+
+image-back : (i : ImageId) → imageFrom (imageWords i .mark) (imageWords i .first) ≡ i
+unfolding imageFrom imageWords
+image-back Anonymous = refl
+image-back (Id v) = refl
+
+mode-fits : (m : Mode) → Fits64 (modeWords m .mark)
+unfolding modeWords
+mode-fits Running = omega arith
+mode-fits (Finished s) = omega arith
+mode-fits Stopped = omega arith
+
+mode-back : (m : Mode) → Fits32 (modeWords m .first) → modeFrom (modeWords m .mark) (modeWords m .first) (modeWords m .second) ≡ m
+unfolding modeFrom modeWords
+mode-back Running h = refl
+mode-back (Finished s) h = rw (low32 (s .threshold) h)
+mode-back Stopped h = refl
+
+last-fits : (l : LastListed) → Fits64 (lastWords l .mark)
+unfolding lastWords
+last-fits Never = omega arith
+last-fits (Number t) = omega arith
+
+last-back : (l : LastListed) → Fits32 (lastWords l .first) → lastFrom (lastWords l .mark) (lastWords l .first) ≡ l
+unfolding lastFrom lastWords
+last-back Never h = refl
+last-back (Number t) h = rw (low32 t h)
+
+tail-fits : (t : Tail) → Fits64 (tailWords t .mark)
+unfolding tailWords
+tail-fits tail.Empty = omega arith
+tail-fits (tail.Hint h) = omega arith
+
+tail-back : (t : Tail) → Fits32 (tailWords t .first) → Fits32 (tailWords t .second) → tailFrom (tailWords t .mark) (tailWords t .first) (tailWords t .second) ≡ t
+unfolding tailFrom tailWords
+tail-back tail.Empty g h = refl
+tail-back (tail.Hint k) g h = rw (low32 (k .lsn) g, low32 (k .number) h)
+
+-- ---- heads
+pub index-back : IndexBack
+unfolding indexFrom indexWords areaFrom
+index-back x b f =
+    let a = f .area in
+    let s : Each Fits64 (indexWords x) =
+    one (wide8 (a .slot)) (one (wide8 (a .channels)) (one (wide32 (a .keyStart)) (one (wide32 (a .keyEnd)) (one (a .sectors) (one (a .start) (one (a .end) (one (wide32 (f .interval)) (one (f .budget) (one (wide32 (f .spacing)) (one (wide32 (f .most)) (one (wide32 (f .checkpoints)) (one (wide32 (f .frames)) (one (wide32 (f .parts)) (one (wide32 (f .malformed)) (one (wide32 (f .hints)) (one (wide32 (f .confirmed)) (one (mark-fits (x .ending)) (one (wide32 (f .threshold)) (one (f .counted) (one (print-fits (x .fingerprint)) (one (f .fingerprint) (one (image-fits (x .image)) (one (f .image) (none)))))))))))))))))))))))) in
+    rw (
+      words-back (indexWords x) b s,
+      low8 _ (a .slot),
+      low8 _ (a .channels),
+      low32 _ (a .keyStart),
+      low32 _ (a .keyEnd),
+      low32 _ (f .interval),
+      low32 _ (f .spacing),
+      low32 _ (f .most),
+      low32 _ (f .checkpoints),
+      low32 _ (f .frames),
+      low32 _ (f .parts),
+      low32 _ (f .malformed),
+      low32 _ (f .hints),
+      low32 _ (f .confirmed),
+      end-back (x .ending) (f .threshold),
+      print-back (x .fingerprint),
+      image-back (x .image),
+    )
+
+pub recorder-back : RecorderBack
+unfolding recorderFrom recorderWords areaFrom
+recorder-back r b f =
+    let a = f .area in
+    let s : Each Fits64 (recorderWords r) =
+    one (wide8 (a .slot)) (one (wide8 (a .channels)) (one (wide32 (a .keyStart)) (one (wide32 (a .keyEnd)) (one (a .sectors) (one (a .start) (one (a .end) (one (wide32 (f .interval)) (one (f .budget) (one (wide32 (f .first)) (one (f .from) (one (wide32 (f .checkpoints)) (one (wide32 (f .frames)) (one (wide32 (f .parts)) (one (mode-fits (r .mode)) (one (wide32 (f .threshold)) (one (f .counted) (one (zero) (one (zero) (one (zero) (one (zero) (one (zero) (one (zero) (one (zero) (none)))))))))))))))))))))))) in
+    rw (
+      words-back (recorderWords r) b s,
+      low8 _ (a .slot),
+      low8 _ (a .channels),
+      low32 _ (a .keyStart),
+      low32 _ (a .keyEnd),
+      low32 _ (f .interval),
+      low32 _ (f .first),
+      low32 _ (f .checkpoints),
+      low32 _ (f .frames),
+      low32 _ (f .parts),
+      mode-back (r .mode) (f .threshold),
+    )
+
+pub hint-recorder-back : HintRecorderBack
+unfolding hintRecorderFrom hintRecorderWords
+hint-recorder-back r b f =
+    let s : Each Fits64 (hintRecorderWords r) =
+    one (wide32 (f .spacing)) (one (last-fits (r .last)) (one (wide32 (f .last)) (one (tail-fits (r .tail)) (one (wide32 (f .lsn)) (one (wide32 (f .number)) (one (wide32 (f .count)) (one (zero) (one (zero) (one (zero) (one (zero) (one (zero) (one (zero) (one (zero) (one (zero) (one (zero) (one (zero) (one (zero) (one (zero) (one (zero) (one (zero) (one (zero) (one (zero) (one (zero) (none)))))))))))))))))))))))) in
+    rw (
+      words-back (hintRecorderWords r) b s,
+      low32 _ (f .spacing),
+      last-back (r .last) (f .last),
+      tail-back (r .tail) (f .lsn) (f .number),
+      low32 _ (f .count),
+    )

@@ -1,0 +1,24 @@
+use Rattle.blocks.specs.Head.{endWords}
+use borrow.Author.Needs.{needs}
+use Rattle.blocks.proofs.end_words.Statement.{statement}
+use Rattle.blocks.proofs.end_words.Tie as tie
+
+enum-told : tie.Need-enum-told
+enum-told c = search needs
+
+enum-known-e : tie.Need-enum-known-e
+enum-known-e c = search needs
+
+cast-t4 : tie.Need-cast-t4
+cast-t4 c = search needs
+
+returns : tie.Need-returns
+unfolding endWords
+returns c = simp (c .enum-told .given .1)
+
+returns-2 : tie.Need-returns-2
+unfolding endWords
+returns-2 c = simp (c .before .before .e .given .1)
+
+pub end-words-spec : {M : Type 1} → statement M
+end-words-spec = tie.close (tie.spec enum-told enum-known-e cast-t4 returns returns-2)

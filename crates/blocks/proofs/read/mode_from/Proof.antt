@@ -1,0 +1,23 @@
+use borrow.Author.Tests.{eq-eqb, ne-eqb}
+use Rattle.blocks.specs.From.{modeFrom}
+use borrow.Author.Needs.{needs}
+use Rattle.blocks.proofs.read.mode_from.Statement.{statement}
+use Rattle.blocks.proofs.read.mode_from.Tie as tie
+
+returns : tie.Need-returns
+unfolding modeFrom
+returns c = simp (eq-eqb _ 0 (c .if1 .taken))
+
+cast-t6 : tie.Need-cast-t6
+cast-t6 c = search needs
+
+returns-2 : tie.Need-returns-2
+unfolding modeFrom
+returns-2 c = simp (ne-eqb _ 0 (c .before .if1 .left), eq-eqb _ 1 (c .if2 .taken))
+
+returns-3 : tie.Need-returns-3
+unfolding modeFrom
+returns-3 c = simp (ne-eqb _ 0 (c .before .if1 .left), ne-eqb _ 1 (c .if2 .left))
+
+pub mode-from-spec : {M : Type 1} → statement M
+mode-from-spec = tie.close (tie.spec returns cast-t6 returns-2 returns-3)

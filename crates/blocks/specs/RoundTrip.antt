@@ -1,0 +1,76 @@
+-- Decode of encode is the identity: what is proved of heads.
+use mathlib.Core.Path.{_≡_}
+use mathlib.Core.List.{List}
+use Prim.Native.Nat.{ℕ, _<_}
+use Rattle.rules.specs.declared.Area.{Area}
+use Rattle.rules.specs.declared.AreaIndex.{AreaIndex}
+use Rattle.rules.specs.declared.HintRecorder.{HintRecorder}
+use Rattle.rules.specs.declared.Recorder.{Recorder}
+use Rattle.rules.specs.File.{over}
+use Rattle.blocks.specs.From.{indexFrom, recorderFrom, hintRecorderFrom}
+use Rattle.blocks.specs.Head.{wordsIn, blockOf, endWords, fingerprintWords, imageWords, modeWords, lastWords, tailWords, indexWords, recorderWords, hintRecorderWords}
+
+-- numbers have the widths of their types
+abbrev pub Fits8 : ℕ → Type 0
+Fits8 v = v < 256
+
+abbrev pub Fits32 : ℕ → Type 0
+Fits32 v = v < 4294967296
+
+abbrev pub Fits64 : ℕ → Type 0
+Fits64 v = v < 18446744073709551616
+
+pub record AreaFits (a : Area) : Type 0 where
+  pub slot : Fits8 (a .key .slot)
+  pub channels : Fits8 (a .key .channels)
+  pub keyStart : Fits32 (a .key .start)
+  pub keyEnd : Fits32 (a .key .end)
+  pub sectors : Fits64 (a .key .sectors)
+  pub start : Fits64 (a .start)
+  pub end : Fits64 (a .end)
+
+pub record IndexFits (x : AreaIndex) : Type 0 where
+  pub area : AreaFits (x .area)
+  pub interval : Fits32 (x .interval)
+  pub budget : Fits64 (x .budget)
+  pub spacing : Fits32 (x .spacing)
+  pub most : Fits32 (x .most)
+  pub checkpoints : Fits32 (x .checkpoints)
+  pub frames : Fits32 (x .frames)
+  pub parts : Fits32 (x .parts)
+  pub malformed : Fits32 (x .malformed)
+  pub hints : Fits32 (x .hints)
+  pub confirmed : Fits32 (x .confirmed)
+  pub threshold : Fits32 (endWords (x .ending) .first)
+  pub counted : Fits64 (endWords (x .ending) .second)
+  pub fingerprint : Fits64 (fingerprintWords (x .fingerprint) .first)
+  pub image : Fits64 (imageWords (x .image) .first)
+
+pub record RecorderFits (r : Recorder) : Type 0 where
+  pub area : AreaFits (r .area)
+  pub interval : Fits32 (r .interval)
+  pub budget : Fits64 (r .budget)
+  pub first : Fits32 (r .first)
+  pub from : Fits64 (r .from)
+  pub checkpoints : Fits32 (r .checkpoints)
+  pub frames : Fits32 (r .frames)
+  pub parts : Fits32 (r .parts)
+  pub threshold : Fits32 (modeWords (r .mode) .first)
+  pub counted : Fits64 (modeWords (r .mode) .second)
+
+pub record HintRecorderFits (r : HintRecorder) : Type 0 where
+  pub spacing : Fits32 (r .spacing)
+  pub last : Fits32 (lastWords (r .last) .first)
+  pub lsn : Fits32 (tailWords (r .tail) .first)
+  pub number : Fits32 (tailWords (r .tail) .second)
+  pub count : Fits32 (r .count)
+
+-- what is written over a block is read from it again
+abbrev pub IndexBack : Type 0
+IndexBack = (x : AreaIndex) (b : List ℕ) → IndexFits x → indexFrom (wordsIn 24 (over (blockOf (indexWords x)) b)) ≡ x
+
+abbrev pub RecorderBack : Type 0
+RecorderBack = (r : Recorder) (b : List ℕ) → RecorderFits r → recorderFrom (wordsIn 24 (over (blockOf (recorderWords r)) b)) ≡ r
+
+abbrev pub HintRecorderBack : Type 0
+HintRecorderBack = (r : HintRecorder) (b : List ℕ) → HintRecorderFits r → hintRecorderFrom (wordsIn 24 (over (blockOf (hintRecorderWords r)) b)) ≡ r

@@ -1,9 +1,0 @@
--- The definitions give what the examples should be. Assumes nothing.
-use mathlib.Core.Path.{refl}
-use Rattle.rules.specs.Examples.{Hold}
-use Rattle.rules.proofs.Examples.{evaluated}
-use Rattle.bounds.specs.Bounds.{endNumbers, bounds}
-
-pub bounds-hold : Hold bounds
-unfolding evaluated endNumbers bounds
-bounds-hold = refl

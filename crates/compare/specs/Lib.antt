@@ -1,4 +1,0 @@
-pub mod Same
-pub mod Marks
-pub mod Confirmed
-pub mod Answers

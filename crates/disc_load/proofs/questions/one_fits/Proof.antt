@@ -1,0 +1,10 @@
+use Rattle.disc_load.proofs.questions.Entries.{one-listed}
+use borrow.Author.Needs.{needs}
+use Rattle.disc_load.proofs.questions.one_fits.Statement.{statement}
+use Rattle.disc_load.proofs.questions.one_fits.Tie as tie
+
+returns : tie.Need-returns
+returns c = one-listed _ _
+
+pub one-fits-spec : {M : Type 1} → statement M
+one-fits-spec = tie.close (tie.spec returns)

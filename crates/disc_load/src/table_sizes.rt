@@ -1,0 +1,90 @@
+// How long the tables of both lists of a disc file have to be.
+use crate::contents::Contents;
+use crate::contents::Place;
+use crate::contents::read_contents;
+use crate::questions::areas_ok;
+use rules::Area;
+use sizes::Sized;
+use sizes::file_sizes;
+use sizes::lengths::TableSizes;
+ghost use mathlib.Core.Path.{_≡_};
+ghost use mathlib.Core.Option.{some};
+ghost use Rattle.rules.specs.Tests.{Accepted, bind};
+ghost use Rattle.rules_disc.specs.Disc.{bodyOf};
+ghost use Rattle.disc_load.specs.Contents.{entryIn};
+ghost use Rattle.disc_load.specs.Inside.{Inside};
+ghost use Rattle.sizes.specs.Sizes.{sizedOf};
+ghost use Rattle.disc_load.specs.Sizes.{bodySizes, bothSizes, discSizes, bodySizedOf, discSizedOf};
+
+// The sizes of a slot's tables; none where the file has no list of it.
+pub enum SlotSizes {
+    Absent,
+    Sizes(TableSizes),
+}
+
+// What is told of one slot: a refusal number, or its sizes.
+pub enum BodySized {
+    Refused(u32),
+    Passed(SlotSizes),
+}
+
+// What is told of the file: a refusal number, or the sizes of slots 0 and 1.
+pub enum DiscSized {
+    Refused(u32),
+    Sizes(SlotSizes, SlotSizes),
+}
+
+fn body_sized(sized: Sized) -> BodySized
+    ensures { λ r. ⌜ bodySizedOf r ≡ bind (sizedOf sized) (λ s. Accepted (some s)) ⌝ }
+{
+    match sized {
+        Sized::Refused(n) => BodySized::Refused(n),
+        Sized::Sizes(s) => BodySized::Passed(SlotSizes::Sizes(s)),
+    }
+}
+
+// The sizes for the body of a slot; an absent one needs none.
+fn body_sizes(place: Place, area: Area, bytes: &[u8], limit: u64) -> BodySized
+    requires { ⌜ Inside (now bytes) place ⌝ }
+    ensures { λ r. ⌜ bodySizedOf r ≡ bodySizes area limit (bodyOf (now (bytes .entry)) (entryIn place)) ⌝ }
+{
+    match place {
+        Place::Absent => BodySized::Passed(SlotSizes::Absent),
+        Place::At(e) => {
+            let from = e.offset as usize;
+            let to = from + e.len as usize;
+            body_sized(file_sizes(area, &bytes[from..to], limit))
+        }
+    }
+}
+
+// The first failing body's own number, or the sizes of both.
+fn both_sized(first: BodySized, second: BodySized) -> DiscSized
+    ensures { λ r. ⌜ discSizedOf r ≡ bothSizes (bodySizedOf first) (bodySizedOf second) ⌝ }
+{
+    match first {
+        BodySized::Refused(n) => DiscSized::Refused(n),
+        BodySized::Passed(x) => match second {
+            BodySized::Refused(n) => DiscSized::Refused(n),
+            BodySized::Passed(y) => DiscSized::Sizes(x, y),
+        },
+    }
+}
+
+// 1 of both areas, 54, then 20 to 38 of each body, as loading asks them.
+pub fn disc_sizes(area0: Area, area1: Area, bytes: &[u8], limit: u64) -> DiscSized
+    ensures { λ r. ⌜ discSizedOf r ≡ discSizes area0 area1 (now (bytes .entry)) limit ⌝ }
+{
+    if !areas_ok(area0, area1) {
+        return DiscSized::Refused(1);
+    }
+    let contents = read_contents(bytes);
+    match contents {
+        Contents::Broken => DiscSized::Refused(54),
+        Contents::Lists(first, second) => {
+            let x = body_sizes(first, area0, bytes, limit);
+            let y = body_sizes(second, area1, bytes, limit);
+            both_sized(x, y)
+        }
+    }
+}

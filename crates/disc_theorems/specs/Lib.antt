@@ -1,3 +1,0 @@
-pub mod DiscFile
-pub mod DiscInTables
-pub mod Player

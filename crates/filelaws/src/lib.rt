@@ -1,1 +1,0 @@
-// Theorems on saving and loading; this crate has no function.

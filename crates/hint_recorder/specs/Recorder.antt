@@ -1,0 +1,82 @@
+-- How the numbers of a hint recorder and its lent table stand for its value, and what its calls answer.
+use Prim.Native.Nat.{ℕ, _/_}
+use mathlib.Core.List.{List}
+use mathlib.Core.Option.{Option, none, some}
+use lib.ListN.{length}
+use Rattle.field.specs.Records.{bytesOf}
+use Rattle.rules.specs.declared.AreaIndex.{AreaIndex}
+use Rattle.rules.specs.declared.Hint.{Hint}
+use Rattle.rules.specs.declared.HintRecorder.{HintRecorder}
+use Rattle.rules.specs.declared.LastListed.{LastListed}
+use Rattle.rules.specs.declared.LastListed.the-variants.{Never, Number}
+use Rattle.rules.specs.declared.Tail.{Tail}
+use Rattle.rules.specs.declared.Tail.the-variants as tail
+use Rattle.rules.specs.Tests.{Answer, Refused, Accepted}
+use Rattle.rules.specs.Values as values
+use Rattle.rules.specs.Create.{hintRecorder}
+use Rattle.rules.specs.File.{encodeHint, over}
+use Rattle.rules.specs.Hints.{see, flush, takeList}
+use Rattle.rules.specs.Hints as rules
+use Rattle.tables.specs.Tables.{hintsIn}
+use Rattle.index.specs.Index.{Tables, roomOf, indexIn, kindsIn, kinded}
+use Rattle.hint_recorder.specs.Numbers.{lastIn}
+use Rattle.hint_recorder.specs.declared.Seen.{Seen}
+use Rattle.hint_recorder.specs.declared.Seen.the-variants as seen
+use Rattle.hint_recorder.specs.declared.Taken.{Taken}
+use Rattle.hint_recorder.specs.declared.Taken.the-variants as taken
+use Rattle.hint_recorder.specs.declared.Created.{Created}
+use Rattle.hint_recorder.specs.declared.Created.the-variants as created
+
+-- ---- the value that numbers and the table stand for
+unfoldable pub tailIn : Tail → Option Hint
+tailIn tail.Empty = none
+tailIn (tail.Hint h) = some h
+
+abbrev pub recorderIn : HintRecorder → List ℕ → values.HintRecorder
+recorderIn r t = record { spacing = r .spacing; last = lastIn (r .last); tail = tailIn (r .tail); list = hintsIn (r .count) t }
+
+-- ---- the numbers of a value
+unfoldable pub lastFrom : Option ℕ → LastListed
+lastFrom none = Never
+lastFrom (some n) = Number n
+
+unfoldable pub tailFrom : Option Hint → Tail
+tailFrom none = tail.Empty
+tailFrom (some h) = tail.Hint h
+
+abbrev pub numbersFrom : values.HintRecorder → HintRecorder
+numbersFrom r = record { spacing = r .spacing; last = lastFrom (r .last); tail = tailFrom (r .tail); count = length (r .list) }
+
+-- ---- answers, and the list's table afterwards
+pub record Out : Type 0 where
+  pub answer : Seen
+  pub list : List ℕ
+
+abbrev pub out : Seen → List ℕ → Out
+out r t = record { answer = r; list = t }
+
+-- a refusal changes nothing; an accepted recorder's list is put into the table
+unfoldable pub outOf : List ℕ → Answer values.HintRecorder → Out
+outOf t (Refused n) = out (seen.Refused n) t
+outOf t (Accepted r) = out (seen.Recorder (numbersFrom r)) (over (bytesOf encodeHint (r .list)) t)
+
+unfoldable pub seeIn : HintRecorder → List ℕ → ℕ → List ℕ → Out
+seeIn r t lsn sector = outOf t (see (length t / 8) (recorderIn r t) lsn sector)
+
+unfoldable pub flushIn : HintRecorder → List ℕ → Out
+flushIn r t = outOf t (flush (length t / 8) (recorderIn r t))
+
+unfoldable pub takenOf : Answer rules.Taken → Taken
+takenOf (Refused n) = taken.Refused n
+takenOf (Accepted k) = taken.List (record { count = length (k .list); recorder = numbersFrom (k .recorder) })
+
+unfoldable pub takeIn : HintRecorder → List ℕ → Taken
+takeIn r t = takenOf (takeList (length t / 8) (recorderIn r t))
+
+unfoldable pub createdOf : Answer (Option values.HintRecorder) → Created
+createdOf (Refused n) = created.Refused n
+createdOf (Accepted none) = created.Nothing
+createdOf (Accepted (some r)) = created.Recorder (numbersFrom r)
+
+unfoldable pub hintRecorderIn : AreaIndex → Tables → Created
+hintRecorderIn x t = createdOf (kinded (kindsIn x t) (hintRecorder (roomOf t) (indexIn x t)))

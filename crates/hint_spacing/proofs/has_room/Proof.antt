@@ -1,9 +1,0 @@
-use mathlib.Core.Path.{refl}
-use Rattle.hint_spacing.proofs.has_room.Statement.{statement}
-use Rattle.hint_spacing.proofs.has_room.Tie as tie
-
-returns : tie.Need-returns
-returns c = refl
-
-pub has-room-spec : {M : Type 1} → statement M
-has-room-spec = tie.close (tie.spec returns)

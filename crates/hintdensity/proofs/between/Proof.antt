@@ -1,9 +1,0 @@
-use borrow.Author.Needs.{needs}
-use Rattle.hintdensity.proofs.between.Statement.{statement}
-use Rattle.hintdensity.proofs.between.Tie as tie
-
-returns : tie.Need-returns
-returns c = cc
-
-pub between-spec : {M : Type 1} → statement M
-between-spec = tie.close (tie.spec (λ c κs. search needs) (λ c κs. search needs) returns)

@@ -1,2 +1,0 @@
-pub mod Recorder
-pub mod Needs

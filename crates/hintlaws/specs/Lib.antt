@@ -1,5 +1,0 @@
-pub mod Adding
-pub mod Cutoff
-pub mod Merging
-pub mod Order
-pub mod Passes

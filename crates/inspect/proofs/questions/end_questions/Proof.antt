@@ -1,0 +1,35 @@
+use mathlib.Core.Path.{refl}
+use native.Mathlib.Omega.{arith}
+use Rattle.rules.specs.Load.{endNumber}
+use Rattle.sections.proofs.Questions.{asked-all, ordered}
+use borrow.Author.Needs.{needs}
+use Rattle.inspect.proofs.questions.end_questions.Statement.{statement}
+use Rattle.inspect.proofs.questions.end_questions.Tie as tie
+
+ending-ok-requires : tie.Need-ending-ok-requires
+ending-ok-requires c κs = let o = ordered (c .before .before .before .args .area) (c .before .before .before .pre) in search needs
+
+cast-ask-2 : tie.Need-cast-ask-2
+cast-ask-2 c = omega (arith, (c .struct-known2 .given))
+
+returns : tie.Need-returns
+unfolding endNumber
+returns c = λ cs ps e f. let p = c .before .before .before .counted .ensures cs e in let q = c .before .before .before .before .before .before .before .ending-ok .ensures cs e in asked-all _ refl (cc)
+
+pub end-questions-spec : {M : Type 1} → statement M
+end-questions-spec =
+    tie.close
+    (tie.spec
+    (λ c κs. search needs)
+    (λ c. search needs)
+    (λ c. search needs)
+    (λ c κs. search needs)
+    ending-ok-requires
+    (λ c κs. search needs)
+    (λ c κs. search needs)
+    (λ c κs. search needs)
+    (λ c κs. search needs)
+    (λ c κs. search needs)
+    cast-ask-2
+    (λ c κs. search needs)
+    returns)

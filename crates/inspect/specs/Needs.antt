@@ -1,0 +1,54 @@
+-- Frames and parts one at a time: what only the proofs of this crate and its callers use.
+use mathlib.Core.Path.{_≡_}
+use Prim.Native.Nat.{ℕ, _*_, _≤_}
+use mathlib.Core.Bool.{Bool, true, cond}
+use mathlib.Core.List.{List}
+use lib.ListN.{length}
+use Rattle.rules.specs.declared.Area.{Area}
+use Rattle.rules.specs.declared.Header.{Header}
+use Rattle.rules.specs.declared.Held.{Held}
+use Rattle.rules.specs.Tests.{Answer, Refused, Accepted}
+use Rattle.rules.specs.Values.{Frame}
+use Rattle.rules.specs.Sections.{partOk}
+use Rattle.rules.specs.Load.{Read}
+use Rattle.tables.specs.Tables.{checkpointsIn, before}
+use Rattle.tables.specs.Files.{placeAt, framesRead}
+use Rattle.inspect.specs.declared.scan.OneFrame.{OneFrame}
+use Rattle.inspect.specs.declared.scan.OneFrame.the-variants as frame
+use Rattle.inspect.specs.declared.scan.OnePart.{OnePart}
+use Rattle.inspect.specs.declared.scan.OnePart.the-variants as part
+use Rattle.inspect.specs.declared.scan.Placed.{Placed}
+
+-- the header of a frame that was read
+unfoldable pub oneFrame : Answer (Read Frame) → OneFrame
+oneFrame (Refused n) = frame.Refused n
+oneFrame (Accepted t) = frame.Header (record { start = t .value .start; len = length (t .value .bytes) })
+
+-- a part, and where its frame begins in frames
+abbrev pub placed : List ℕ → Held → Placed
+placed frames p = record { part = p; place = placeAt frames 0 (p .frame) }
+
+-- a part that was read
+unfoldable pub onePart : List ℕ → Answer (Read Held) → OnePart
+onePart frames (Refused n) = part.Refused n
+onePart frames (Accepted t) = part.Part (placed frames (t .value))
+
+-- 32 where a part's rule does not hold
+unfoldable pub placedIf : List ℕ → Held → Bool → OnePart
+placedIf frames p ok = cond ok (part.Part (placed frames p)) (part.Refused 32)
+
+-- the rule of the part p of a header's checkpoints and frames; last is the part before it, unless p begins the section
+abbrev pub partRule : Area → Header → List ℕ → List ℕ → Bool → Placed → Held → Bool
+partRule a h checkpoints frames begins last p =
+    partOk a (h .interval) 0 (checkpointsIn (h .checkpoints) checkpoints) (framesRead (h .frames) frames) (before begins (last .part)) p
+
+-- the checkpoints and the frames of a header are there
+pub record Ready (a : Area) (h : Header) (checkpoints frames : List ℕ) : Type 0 where
+  pub small : a .start ≤ 4294967295
+  pub table : h .checkpoints * 24 ≤ length checkpoints
+  pub inside : placeAt frames 0 (h .frames) ≤ length frames
+
+-- the part before the next one; where there is none, frame 0 is the next
+pub record LastAt (frames : List ℕ) (begins : Bool) (last : Placed) : Type 0 where
+  pub place : last .place ≡ placeAt frames 0 (last .part .frame)
+  pub first : begins ≡ true → last .part .frame ≡ 0

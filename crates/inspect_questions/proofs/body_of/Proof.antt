@@ -1,9 +1,0 @@
-use borrow.Author.Needs.{needs}
-use Rattle.inspect_questions.proofs.body_of.Statement.{statement}
-use Rattle.inspect_questions.proofs.body_of.Tie as tie
-
-returns : tie.Need-returns
-returns c = c .cut .ensures
-
-pub body-of-spec : {M : Type 1} → statement M
-body-of-spec = tie.close (tie.spec (λ c. search needs) (λ c κs. search needs) returns)

@@ -1,9 +1,0 @@
-use mathlib.Core.Path.{refl}
-use Rattle.inspect_questions.proofs.left_over.Statement.{statement}
-use Rattle.inspect_questions.proofs.left_over.Tie as tie
-
-returns : tie.Need-returns
-returns c = refl
-
-pub left-over-spec : {M : Type 1} → statement M
-left-over-spec = tie.close (tie.spec returns)

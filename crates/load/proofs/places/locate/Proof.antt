@@ -1,0 +1,32 @@
+use Rattle.load.specs.Places.{placesIn}
+use borrow.Author.Needs.{needs}
+use Rattle.load.proofs.places.locate.Statement.{statement}
+use Rattle.load.proofs.places.locate.Tie as tie
+
+returns : tie.Need-returns
+unfolding placesIn
+returns c =
+    let after-parts-from : tie.After-parts-from = search in
+    let after-frames-from : tie.After-frames-from = search in
+    cc ((after-parts-from .parts-from .ensures), (after-frames-from .frames-from .ensures), (c .confirmed-size .ensures))
+
+pub locate-spec : {M : Type 1} → statement M
+locate-spec =
+    tie.close
+    (tie.spec
+    (λ c κs. search needs)
+    (λ c. search needs)
+    (λ c. search needs)
+    (λ c κs. search needs)
+    (λ c. search needs)
+    (λ c. search needs)
+    (λ c. search needs)
+    (λ c. search needs)
+    (λ c κs. search needs)
+    (λ c. search needs)
+    (λ c. search needs)
+    (λ c. search needs)
+    (λ c. search needs)
+    (λ c. search needs)
+    (λ c. search needs)
+    returns)

@@ -1,0 +1,14 @@
+use Rattle.merge.specs.Further.{furtherIn}
+use mathlib.Core.Path.{sym, _∙_}
+use borrow.Author.Needs.{needs}
+use Rattle.merge.proofs.goes_further.further.Statement.{statement}
+use Rattle.merge.proofs.goes_further.further.Tie as tie
+
+returns : tie.Need-returns
+unfolding furtherIn
+returns c = cc
+
+pub further-spec : {M : Type 1} → statement M
+further-spec =
+    tie.close
+    (tie.spec (λ c κs. search needs) (λ c κs. search needs) (λ c κs. search needs) (λ c κs. search needs) returns)

@@ -1,0 +1,15 @@
+use Rattle.merge.specs.QuestionsNeeds.{imageAgrees}
+use Rattle.rules.specs.Merge.{question42}
+use Rattle.rules.specs.Tests.{all}
+use mathlib.Core.Bool.{and-true}
+use borrow.Author.Needs.{needs}
+use Rattle.merge.proofs.questions.question42.Statement.{statement}
+use Rattle.merge.proofs.questions.question42.Tie as tie
+
+returns : tie.Need-returns
+unfolding imageAgrees question42 all
+returns c = simp and-true (cc)
+
+pub question42-spec : {M : Type 1} → statement M
+question42-spec =
+    tie.close (tie.spec (λ c κs. search needs) (λ c κs. search needs) (λ c κs. search needs) returns)

@@ -1,0 +1,15 @@
+use Rattle.merge.specs.QuestionsNeeds.{readingAgrees}
+use Rattle.rules.specs.Merge.{question43}
+use Rattle.rules.specs.Tests.{all}
+use mathlib.Core.Bool.{and-true}
+use borrow.Author.Needs.{needs}
+use Rattle.merge.proofs.questions.question43.Statement.{statement}
+use Rattle.merge.proofs.questions.question43.Tie as tie
+
+returns : tie.Need-returns
+unfolding readingAgrees question43 all
+returns c = simp and-true (cc)
+
+pub question43-spec : {M : Type 1} → statement M
+question43-spec =
+    tie.close (tie.spec (λ c κs. search needs) (λ c κs. search needs) (λ c κs. search needs) returns)

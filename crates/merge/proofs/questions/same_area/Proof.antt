@@ -1,0 +1,13 @@
+use Rattle.rules.specs.Values.{sameArea}
+use Rattle.rules.specs.Tests.{all}
+use mathlib.Core.Bool.{and-true}
+use borrow.Author.Needs.{needs}
+use Rattle.merge.proofs.questions.same_area.Statement.{statement}
+use Rattle.merge.proofs.questions.same_area.Tie as tie
+
+returns : tie.Need-returns
+unfolding sameArea all
+returns c = simp and-true (cc)
+
+pub same-area-spec : {M : Type 1} → statement M
+same-area-spec = tie.close (tie.spec (λ c κs. search needs) (λ c κs. search needs) (λ c κs. search needs) returns)

@@ -1,9 +1,0 @@
-use mathlib.Core.Path.{refl}
-use Rattle.output.proofs.long_enough.Statement.{statement}
-use Rattle.output.proofs.long_enough.Tie as tie
-
-returns : tie.Need-returns
-returns c = refl
-
-pub long-enough-spec : {M : Type 1} → statement M
-long-enough-spec = tie.close (tie.spec returns)

@@ -1,9 +1,0 @@
-use borrow.Author.Needs.{needs}
-use Rattle.part_checks.proofs.near_ok.Statement.{statement}
-use Rattle.part_checks.proofs.near_ok.Tie as tie
-
-returns : tie.Need-returns
-returns c = cc
-
-pub near-ok-spec : {M : Type 1} → statement M
-near-ok-spec = tie.close (tie.spec (λ c. search needs) (λ c κs. search needs) (λ c κs. search needs) returns)

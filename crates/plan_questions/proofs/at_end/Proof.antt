@@ -1,9 +1,0 @@
-use mathlib.Core.Path.{refl}
-use Rattle.plan_questions.proofs.at_end.Statement.{statement}
-use Rattle.plan_questions.proofs.at_end.Tie as tie
-
-returns : tie.Need-returns
-returns c = refl
-
-pub at-end-spec : {M : Type 1} → statement M
-at-end-spec = tie.close (tie.spec returns)

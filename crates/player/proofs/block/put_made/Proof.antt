@@ -1,0 +1,25 @@
+use Rattle.index.specs.Calls.{madeOf}
+use Rattle.player.specs.Block.{into}
+use borrow.Author.Needs.{needs}
+use Rattle.player.proofs.block.put_made.Statement.{statement}
+use Rattle.player.proofs.block.put_made.Tie as tie
+
+returns : tie.Need-returns
+unfolding into madeOf
+returns c = rw (c .before .made .given .1)
+
+returns-2 : tie.Need-returns-2
+unfolding into madeOf
+returns-2 c = rw (c .before .before .before .before .before .before .made2 .given .1, c .before .before .write-words .ensures, c .before .before .before .index-words .ensures)
+
+pub put-made-spec : {M : Type 1} → statement M
+put-made-spec =
+    tie.close
+    (tie.spec
+    (λ c. search needs)
+    (λ c. search needs)
+    (λ c κs. search needs)
+    (λ c κs. search needs)
+    returns
+    (λ c. search needs)
+    returns-2)

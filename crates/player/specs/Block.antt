@@ -1,0 +1,117 @@
+-- Answers as a number and a block of 192 bytes, 24 words.
+use Prim.Native.Nat.{ℕ}
+use mathlib.Core.Bool.{cond}
+use mathlib.Core.List.{List, [], _∷_}
+use lib.Dec.{leb}
+use lib.ListN.{length}
+use Rattle.rules.specs.declared.Area.{Area}
+use Rattle.rules.specs.declared.AreaIndex.{AreaIndex}
+use Rattle.rules.specs.declared.Assembly.{Assembly}
+use Rattle.rules.specs.declared.Assembly.the-variants.{Replayed, Stored}
+use Rattle.rules.specs.declared.First.{First}
+use Rattle.rules.specs.declared.First.the-variants as first
+use Rattle.rules.specs.declared.HintRecorder.{HintRecorder}
+use Rattle.rules.specs.declared.Plan.{Plan}
+use Rattle.rules.specs.declared.Plan.the-variants as plan
+use Rattle.rules.specs.declared.Recorder.{Recorder}
+use Rattle.rules.specs.File.{unsigned32, kindNumber, bit, over}
+use Rattle.rules.specs.Tests.{Answer, Refused, Accepted}
+use Rattle.adds.specs.declared.Brings.{Brings}
+use Rattle.blocks.specs.From.{indexFrom, recorderFrom, hintRecorderFrom}
+use Rattle.blocks.specs.Head.{wordsIn, blockOf}
+use Rattle.save.specs.declared.Saved.{Saved}
+use Rattle.save.specs.declared.Saved.the-variants as saved
+use Rattle.save.specs.Save.{SaveOut}
+use Rattle.sizes.specs.declared.lengths.TableSizes.{TableSizes}
+use Rattle.player.specs.declared.block.HeldWords.{HeldWords}
+
+-- ---- what a call answers in C: a number, and the block afterwards
+pub record Called : Type 0 where
+  pub number : ℕ
+  pub block : List ℕ
+
+abbrev pub called : ℕ → List ℕ → Called
+called n b = record { number = n; block = b }
+
+-- 0 and the words of what was accepted over the start of the block; a refusal leaves it
+unfoldable pub into : {A : Type 0} → (A → List ℕ) → List ℕ → Answer A → Called
+into words b (Refused n) = called n b
+into words b (Accepted x) = called 0 (over (blockOf (words x)) b)
+
+-- 3 where a block is too short, asked before anything else
+unfoldable pub inBlock : {A : Type 0} → List ℕ → A → A → A
+inBlock b short r = cond (leb 192 (length b)) r short
+
+-- ---- from blocks
+unfoldable pub headIndex : List ℕ → AreaIndex
+headIndex b = indexFrom (wordsIn 24 b)
+
+unfoldable pub headRecorder : List ℕ → Recorder
+headRecorder b = recorderFrom (wordsIn 24 b)
+
+unfoldable pub headHintRecorder : List ℕ → HintRecorder
+headHintRecorder b = hintRecorderFrom (wordsIn 24 b)
+
+-- an area's seven numbers
+abbrev pub areaFrom : ℕ → ℕ → ℕ → ℕ → ℕ → ℕ → ℕ → Area
+areaFrom slot channels ks ke sectors s e =
+    record { key = record { slot = slot; start = ks; end = ke; channels = channels; sectors = sectors }; start = s; end = e }
+
+-- ---- words of answers
+-- whether a part is held, its kind, frame number, remaining (as 32 bits), offset and length
+unfoldable pub assemblyWords : Assembly → HeldWords
+assemblyWords Replayed = record { held = 0; kind = 0; number = 0; remaining = 0; offset = 0; len = 0 }
+assemblyWords (Stored p) =
+    record {
+      held = 1;
+      kind = kindNumber (p .kind);
+      number = p .number;
+      remaining = unsigned32 (p .remaining);
+      offset = p .offset;
+      len = p .len;
+    }
+
+abbrev pub planArray : ℕ → ℕ → ℕ → ℕ → ℕ → ℕ → ℕ → HeldWords → List ℕ
+planArray place number lsn threshold back malformed digest h =
+    place ∷ number ∷ lsn ∷ threshold ∷ back ∷ malformed ∷ digest ∷ h .held ∷ h .kind ∷ h .number ∷ h .remaining ∷ h .offset ∷ h .len
+    ∷ 0 ∷ 0 ∷ 0 ∷ 0 ∷ 0 ∷ 0 ∷ 0 ∷ 0 ∷ 0 ∷ 0 ∷ 0 ∷ []
+
+-- 0 the area's start, 1 a checkpoint, 2 the area's end
+unfoldable pub planWords : Plan → List ℕ
+planWords plan.Start = planArray 0 0 0 0 0 0 0 (assemblyWords Replayed)
+planWords (plan.At r) =
+    planArray 1 (r .number) (r .lsn) (r .checkpoint .threshold) (r .checkpoint .back) (r .checkpoint .malformed) (r .checkpoint .digest)
+    (assemblyWords (r .assembly))
+planWords (plan.End e) = planArray 2 0 0 (e .threshold) 0 (e .malformed) 0 (assemblyWords Replayed)
+
+abbrev pub two : ℕ → ℕ → List ℕ
+two a b = a ∷ b ∷ 0 ∷ 0 ∷ 0 ∷ 0 ∷ 0 ∷ 0 ∷ 0 ∷ 0 ∷ 0 ∷ 0 ∷ 0 ∷ 0 ∷ 0 ∷ 0 ∷ 0 ∷ 0 ∷ 0 ∷ 0 ∷ 0 ∷ 0 ∷ 0 ∷ 0 ∷ []
+
+-- 1 and the frame number, or 0
+unfoldable pub firstWords : First → List ℕ
+firstWords first.Nothing = two 0 0
+firstWords (first.Number t) = two 1 t
+
+abbrev pub seven : ℕ → ℕ → ℕ → ℕ → ℕ → ℕ → ℕ → List ℕ
+seven a b c d e f g = a ∷ b ∷ c ∷ d ∷ e ∷ f ∷ g ∷ 0 ∷ 0 ∷ 0 ∷ 0 ∷ 0 ∷ 0 ∷ 0 ∷ 0 ∷ 0 ∷ 0 ∷ 0 ∷ 0 ∷ 0 ∷ 0 ∷ 0 ∷ 0 ∷ 0 ∷ []
+
+unfoldable pub sizeWords : TableSizes → List ℕ
+sizeWords s = seven (s .checkpoints) (s .frames) (s .store) (s .parts) (s .malformed) (s .hints) (s .confirmed)
+
+unfoldable pub areaWords : Area → List ℕ
+areaWords a = seven (a .key .slot) (a .key .channels) (a .key .start) (a .key .end) (a .key .sectors) (a .start) (a .end)
+
+-- 1 for each thing that a merge would bring
+unfoldable pub bringsWords : Brings → List ℕ
+bringsWords b =
+    bit (b .checkpoints) ∷ bit (b .ending) ∷ bit (b .parts) ∷ bit (b .malformed) ∷ bit (b .hints) ∷ bit (b .confirmed) ∷ bit (b .fingerprint) ∷ bit (b .image)
+    ∷ 0 ∷ 0 ∷ 0 ∷ 0 ∷ 0 ∷ 0 ∷ 0 ∷ 0 ∷ 0 ∷ 0 ∷ 0 ∷ 0 ∷ 0 ∷ 0 ∷ 0 ∷ 0 ∷ []
+
+-- the length saved, or the refusal number
+unfoldable pub savedNumber : Saved → ℕ
+savedNumber (saved.Refused n) = n
+savedNumber (saved.Length n) = n
+
+-- with the output as block
+abbrev pub savedInto : SaveOut → Called
+savedInto o = called (savedNumber (o .answer)) (o .out)

@@ -1,0 +1,450 @@
+// Answers of calls as a number and a block: 0 and words over the start of the block, or the refusal number and the block as it was.
+use adds::Added;
+use adds::Brings;
+use blocks::index_words;
+use blocks::read::hint_recorder_from;
+use blocks::read::index_from;
+use blocks::read::recorder_from;
+use blocks::read_words;
+use blocks::write_words;
+use index::Made;
+use plan::Planned;
+use rules::Area;
+use rules::AreaIndex;
+use rules::AreaKey;
+use rules::Assembly;
+use rules::First;
+use rules::HintRecorder;
+use rules::Plan;
+use rules::Recorder;
+use rules::Resume;
+use save::Saved;
+use sizes::FileArea;
+use sizes::Sized;
+use sizes::lengths::TableSizes;
+use tables::part_records::kind_number;
+use tables::part_records::unsigned;
+ghost use mathlib.Core.Path.{_≡_};
+ghost use mathlib.Core.List.{_∷_, []};
+ghost use Prim.Native.Nat.{_≤_};
+ghost use lib.ListN.{length};
+ghost use Rattle.rules.specs.File.{bit};
+ghost use Rattle.rules.specs.Tests.{Accepted};
+ghost use Rattle.blocks.specs.From.{indexFrom, recorderFrom, hintRecorderFrom};
+ghost use Rattle.blocks.specs.Head.{wordsIn, indexWords};
+ghost use Rattle.index.specs.Calls.{madeOf};
+ghost use Rattle.plan.specs.Calls.{plannedOf};
+ghost use Rattle.adds.specs.Brings.{addsOf};
+ghost use Rattle.sizes.specs.Sizes.{sizedOf, fileAreaOf};
+ghost use Rattle.player.specs.Block.{called, into, planArray, headIndex, headRecorder, headHintRecorder, areaFrom, assemblyWords, planWords, firstWords, sizeWords, areaWords, bringsWords, savedNumber};
+ghost use Rattle.player.specs.Needs.{resumeWords};
+
+// ---- from blocks
+pub fn index_in(head: &[u8]) -> AreaIndex
+    requires { ⌜ 192 ≤ length (now head) ⌝ }
+    ensures { λ r. ⌜ r ≡ headIndex (now (head .entry)) ⌝ }
+{
+    index_from(read_words(head))
+}
+
+pub fn recorder_in(head: &[u8]) -> Recorder
+    requires { ⌜ 192 ≤ length (now head) ⌝ }
+    ensures { λ r. ⌜ r ≡ headRecorder (now (head .entry)) ⌝ }
+{
+    recorder_from(read_words(head))
+}
+
+pub fn hint_recorder_in(head: &[u8]) -> HintRecorder
+    requires { ⌜ 192 ≤ length (now head) ⌝ }
+    ensures { λ r. ⌜ r ≡ headHintRecorder (now (head .entry)) ⌝ }
+{
+    hint_recorder_from(read_words(head))
+}
+
+// An area's seven numbers.
+pub fn area_from(
+    slot: u8,
+    channels: u8,
+    key_start: u32,
+    key_end: u32,
+    sectors: u64,
+    start: u64,
+    end: u64,
+) -> Area
+    ensures { λ r. ⌜ r ≡ areaFrom slot channels «key_start» «key_end» sectors start end ⌝ }
+{
+    let key = AreaKey {
+        slot,
+        start: key_start,
+        end: key_end,
+        channels,
+        sectors,
+    };
+    Area { key, start, end }
+}
+
+// ---- words of answers
+// A held part as words: whether there is one, its kind, frame number, remaining, offset and length.
+pub struct HeldWords {
+    pub held: u64,
+    pub kind: u64,
+    pub number: u64,
+    pub remaining: u64,
+    pub offset: u64,
+    pub len: u64,
+}
+
+fn assembly_words(a: Assembly) -> HeldWords
+    ensures { λ r. ⌜ r ≡ assemblyWords a ⌝ }
+{
+    match a {
+        Assembly::Replayed => HeldWords {
+            held: 0,
+            kind: 0,
+            number: 0,
+            remaining: 0,
+            offset: 0,
+            len: 0,
+        },
+        Assembly::Stored(p) => {
+            let kind = p.kind;
+            HeldWords {
+                held: 1,
+                kind: kind_number(kind) as u64,
+                number: p.number as u64,
+                remaining: unsigned(p.remaining) as u64,
+                offset: p.offset,
+                len: p.len as u64,
+            }
+        }
+    }
+}
+
+fn plan_array(
+    place: u64,
+    number: u64,
+    lsn: u64,
+    threshold: u64,
+    back: u64,
+    malformed: u64,
+    digest: u64,
+    h: HeldWords,
+) -> [u64; 24]
+    ensures { λ r. ⌜ r ≡ planArray place number lsn threshold back malformed digest h ⌝ }
+{
+    [
+        place,
+        number,
+        lsn,
+        threshold,
+        back,
+        malformed,
+        digest,
+        h.held,
+        h.kind,
+        h.number,
+        h.remaining,
+        h.offset,
+        h.len,
+        0,
+        0,
+        0,
+        0,
+        0,
+        0,
+        0,
+        0,
+        0,
+        0,
+        0,
+    ]
+}
+
+fn resume_words(r: Resume) -> [u64; 24]
+    ensures { λ w. ⌜ w ≡ resumeWords r ⌝ }
+{
+    let c = r.checkpoint;
+    let assembly = r.assembly;
+    let h = assembly_words(assembly);
+    plan_array(
+        1,
+        r.number as u64,
+        r.lsn,
+        c.threshold as u64,
+        c.back as u64,
+        c.malformed,
+        c.digest,
+        h,
+    )
+}
+
+// 0 the area's start, 1 a checkpoint, 2 the area's end.
+pub fn plan_words(p: Plan) -> [u64; 24]
+    ensures { λ r. ⌜ r ≡ planWords p ⌝ }
+{
+    match p {
+        Plan::Start => plan_array(0, 0, 0, 0, 0, 0, 0, assembly_words(Assembly::Replayed)),
+        Plan::At(r) => resume_words(r),
+        Plan::End(e) => plan_array(
+            2,
+            0,
+            0,
+            e.threshold as u64,
+            0,
+            e.malformed,
+            0,
+            assembly_words(Assembly::Replayed),
+        ),
+    }
+}
+
+fn first_words(f: First) -> [u64; 24]
+    ensures { λ r. ⌜ r ≡ firstWords f ⌝ }
+{
+    match f {
+        First::Nothing => [
+            0,
+            0,
+            0,
+            0,
+            0,
+            0,
+            0,
+            0,
+            0,
+            0,
+            0,
+            0,
+            0,
+            0,
+            0,
+            0,
+            0,
+            0,
+            0,
+            0,
+            0,
+            0,
+            0,
+            0,
+        ],
+        First::Number(t) => [
+            1,
+            t as u64,
+            0,
+            0,
+            0,
+            0,
+            0,
+            0,
+            0,
+            0,
+            0,
+            0,
+            0,
+            0,
+            0,
+            0,
+            0,
+            0,
+            0,
+            0,
+            0,
+            0,
+            0,
+            0,
+        ],
+    }
+}
+
+fn size_words(s: TableSizes) -> [u64; 24]
+    ensures { λ r. ⌜ r ≡ sizeWords s ⌝ }
+{
+    [
+        s.checkpoints,
+        s.frames,
+        s.store,
+        s.parts,
+        s.malformed,
+        s.hints,
+        s.confirmed,
+        0,
+        0,
+        0,
+        0,
+        0,
+        0,
+        0,
+        0,
+        0,
+        0,
+        0,
+        0,
+        0,
+        0,
+        0,
+        0,
+        0,
+    ]
+}
+
+fn area_words(a: Area) -> [u64; 24]
+    ensures { λ r. ⌜ r ≡ areaWords a ⌝ }
+{
+    let key = a.key;
+    [
+        key.slot as u64,
+        key.channels as u64,
+        key.start as u64,
+        key.end as u64,
+        key.sectors,
+        a.start,
+        a.end,
+        0,
+        0,
+        0,
+        0,
+        0,
+        0,
+        0,
+        0,
+        0,
+        0,
+        0,
+        0,
+        0,
+        0,
+        0,
+        0,
+        0,
+    ]
+}
+
+pub fn bit_word(b: bool) -> u64
+    ensures { λ r. ⌜ r ≡ bit b ⌝ }
+{
+    if b { 1 } else { 0 }
+}
+
+fn brings_words(b: Brings) -> [u64; 24]
+    ensures { λ r. ⌜ r ≡ bringsWords b ⌝ }
+{
+    let checkpoints = bit_word(b.checkpoints);
+    let ending = bit_word(b.ending);
+    let parts = bit_word(b.parts);
+    let malformed = bit_word(b.malformed);
+    let hints = bit_word(b.hints);
+    let confirmed = bit_word(b.confirmed);
+    let fingerprint = bit_word(b.fingerprint);
+    let image = bit_word(b.image);
+    [
+        checkpoints,
+        ending,
+        parts,
+        malformed,
+        hints,
+        confirmed,
+        fingerprint,
+        image,
+        0,
+        0,
+        0,
+        0,
+        0,
+        0,
+        0,
+        0,
+        0,
+        0,
+        0,
+        0,
+        0,
+        0,
+        0,
+        0,
+    ]
+}
+
+// ---- into blocks
+pub fn put_made(head: &mut [u8], made: Made) -> u32
+    requires { ⌜ 192 ≤ length (now head) ⌝ }
+    ensures { λ r. ⌜ called r (now (head .exit)) ≡ into indexWords (now (head .entry)) (madeOf made) ⌝ }
+{
+    match made {
+        Made::Refused(n) => n,
+        Made::Index(x) => {
+            write_words(head, index_words(x));
+            0
+        }
+    }
+}
+
+pub fn put_plan(answer: &mut [u8], planned: Planned) -> u32
+    requires { ⌜ 192 ≤ length (now answer) ⌝ }
+    ensures { λ r. ⌜ called r (now (answer .exit)) ≡ into planWords (now (answer .entry)) (plannedOf planned) ⌝ }
+{
+    match planned {
+        Planned::Refused(n) => n,
+        Planned::Plan(p) => {
+            write_words(answer, plan_words(p));
+            0
+        }
+    }
+}
+
+pub fn put_sizes(answer: &mut [u8], sized: Sized) -> u32
+    requires { ⌜ 192 ≤ length (now answer) ⌝ }
+    ensures { λ r. ⌜ called r (now (answer .exit)) ≡ into sizeWords (now (answer .entry)) (sizedOf sized) ⌝ }
+{
+    match sized {
+        Sized::Refused(n) => n,
+        Sized::Sizes(s) => {
+            write_words(answer, size_words(s));
+            0
+        }
+    }
+}
+
+pub fn put_area(answer: &mut [u8], area: FileArea) -> u32
+    requires { ⌜ 192 ≤ length (now answer) ⌝ }
+    ensures { λ r. ⌜ called r (now (answer .exit)) ≡ into areaWords (now (answer .entry)) (fileAreaOf area) ⌝ }
+{
+    match area {
+        FileArea::Refused(n) => n,
+        FileArea::Area(a) => {
+            write_words(answer, area_words(a));
+            0
+        }
+    }
+}
+
+pub fn put_brings(answer: &mut [u8], added: Added) -> u32
+    requires { ⌜ 192 ≤ length (now answer) ⌝ }
+    ensures { λ r. ⌜ called r (now (answer .exit)) ≡ into bringsWords (now (answer .entry)) (addsOf added) ⌝ }
+{
+    match added {
+        Added::Refused(n) => n,
+        Added::Brings(b) => {
+            write_words(answer, brings_words(b));
+            0
+        }
+    }
+}
+
+pub fn put_first(answer: &mut [u8], first: First) -> u32
+    requires { ⌜ 192 ≤ length (now answer) ⌝ }
+    ensures { λ r. ⌜ called r (now (answer .exit)) ≡ into firstWords (now (answer .entry)) (Accepted first) ⌝ }
+{
+    write_words(answer, first_words(first));
+    0
+}
+
+// The length, or the refusal number.
+pub fn saved_number(saved: Saved) -> u64
+    ensures { λ r. ⌜ r ≡ savedNumber saved ⌝ }
+{
+    match saved {
+        Saved::Refused(n) => n as u64,
+        Saved::Length(n) => n,
+    }
+}

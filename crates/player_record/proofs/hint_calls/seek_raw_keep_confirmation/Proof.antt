@@ -1,0 +1,40 @@
+use Rattle.player_record.specs.HintCallsCalls.{keepCall}
+use Rattle.player.proofs.block.Blocks.{too-short, long-enough}
+use Rattle.player_record.proofs.hint_calls.Answers.{keep-done}
+use borrow.Author.Needs.{needs}
+use Rattle.player_record.proofs.hint_calls.seek_raw_keep_confirmation.Statement.{statement}
+use Rattle.player_record.proofs.hint_calls.seek_raw_keep_confirmation.Tie as tie
+
+returns : tie.Need-returns
+unfolding keepCall
+returns c = too-short _ _ _ (c .if1 .taken)
+
+returns-2 : tie.Need-returns-2
+unfolding keepCall
+returns-2 c =
+    let test : tie.Else1 = search in
+    long-enough _ _ _ (test .if1 .left) (too-short _ _ _ (c .if2 .taken))
+
+returns-3 : tie.Need-returns-3
+returns-3 c =
+    let put : tie.After-put-kept = search in
+    let call : tie.After-keep-confirmation = search in
+    let own : tie.After-index-in = search in
+    let test2 : tie.Else2 = search in
+    let test : tie.Else1 = search in
+    keep-done _ _ _ (test .if1 .left) _ _ (test2 .if2 .left) _ _ _ _ _ (put .put-kept .ensures) (call .keep-confirmation .ensures)
+    (own .index-in .ensures)
+
+pub seek-raw-keep-confirmation-spec : {M : Type 1} → statement M
+seek-raw-keep-confirmation-spec =
+    tie.close
+    (tie.spec
+    returns
+    returns-2
+    (λ c κs. search needs)
+    (λ c κs. search needs)
+    (λ c κs. search needs)
+    (λ c. search needs)
+    (λ c. search needs)
+    (λ c. search needs)
+    returns-3)

@@ -1,0 +1,30 @@
+use Rattle.player_record.specs.HintCallsCalls.{seeCall}
+use Rattle.player.proofs.block.Blocks.{too-short}
+use Rattle.player_record.proofs.hint_calls.Answers.{see-done}
+use borrow.Author.Needs.{needs}
+use Rattle.player_record.proofs.hint_calls.seek_raw_see.Statement.{statement}
+use Rattle.player_record.proofs.hint_calls.seek_raw_see.Tie as tie
+
+returns : tie.Need-returns
+unfolding seeCall
+returns c = too-short _ _ _ (c .if1 .taken)
+
+returns-2 : tie.Need-returns-2
+returns-2 c =
+    let put : tie.After-put-seen = search in
+    let call : tie.After-see = search in
+    let own : tie.After-hint-recorder-in = search in
+    let test : tie.Else1 = search in
+    see-done _ _ _ (test .if1 .left) _ (own .hint-recorder-in .ensures) _ _ _ (put .put-seen .ensures) _ _ (call .see .ensures)
+
+pub seek-raw-see-spec : {M : Type 1} → statement M
+seek-raw-see-spec =
+    tie.close
+    (tie.spec
+    returns
+    (λ c κs. search needs)
+    (λ c κs. search needs)
+    (λ c κs. search needs)
+    (λ c. search needs)
+    (λ c. search needs)
+    returns-2)

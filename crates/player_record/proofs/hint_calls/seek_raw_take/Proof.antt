@@ -1,0 +1,38 @@
+use Rattle.player_record.specs.HintCallsCalls.{takeCall}
+use Rattle.player.proofs.block.Blocks.{too-short, long-enough}
+use Rattle.player_record.proofs.hint_calls.Answers.{take-done}
+use borrow.Author.Needs.{needs}
+use Rattle.player_record.proofs.hint_calls.seek_raw_take.Statement.{statement}
+use Rattle.player_record.proofs.hint_calls.seek_raw_take.Tie as tie
+
+returns : tie.Need-returns
+unfolding takeCall
+returns c = too-short _ _ _ (c .if1 .taken)
+
+returns-2 : tie.Need-returns-2
+unfolding takeCall
+returns-2 c =
+    let test : tie.Else1 = search in
+    long-enough _ _ _ (test .if1 .left) (too-short _ _ _ (c .if2 .taken))
+
+returns-3 : tie.Need-returns-3
+returns-3 c =
+    let put : tie.After-put-taken = search in
+    let call : tie.After-take = search in
+    let own : tie.After-hint-recorder-in = search in
+    let test2 : tie.Else2 = search in
+    let test : tie.Else1 = search in
+    take-done _ _ _ (test .if1 .left) _ _ (test2 .if2 .left) _ _ _ (put .put-taken .ensures) (call .take .ensures) (own .hint-recorder-in .ensures)
+
+pub seek-raw-take-spec : {M : Type 1} → statement M
+seek-raw-take-spec =
+    tie.close
+    (tie.spec
+    returns
+    returns-2
+    (λ c κs. search needs)
+    (λ c κs. search needs)
+    (λ c κs. search needs)
+    (λ c. search needs)
+    (λ c. search needs)
+    returns-3)

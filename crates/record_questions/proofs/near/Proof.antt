@@ -1,9 +1,0 @@
-use mathlib.Core.Path.{refl}
-use Rattle.record_questions.proofs.near.Statement.{statement}
-use Rattle.record_questions.proofs.near.Tie as tie
-
-returns : tie.Need-returns
-returns c = refl
-
-pub near-spec : {M : Type 1} → statement M
-near-spec = tie.close (tie.spec returns)

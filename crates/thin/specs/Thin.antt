@@ -1,0 +1,70 @@
+-- What the passes over a table of hints compute: a cutoff gap, how many at it go, and the hints that stay.
+use mathlib.Core.Path.{_≡_}
+use Prim.Native.Nat.{ℕ, zero, suc, _+_, _-_, _*_, _≤_}
+use mathlib.Core.Bool.{Bool, cond, _&&_, _||_}
+use mathlib.Core.List.{List}
+use lib.Dec.{eqb, leb, ltb}
+use lib.ListN.{length, getD}
+use Rattle.rules.specs.declared.Hint.{Hint}
+use Rattle.rules.specs.Values.{noHint, max32}
+use Rattle.rules.specs.File.{encodeHint}
+use Rattle.rules.specs.Hints.{countOf, rise, gap, kept}
+use Rattle.laws.specs.Passes.{Begins}
+use Rattle.thin.specs.declared.Cut.{Cut}
+use Rattle.thin.specs.declared.Place.{Place}
+
+abbrev pub one : Bool → ℕ
+one b = cond b 1 0
+
+-- is the gap at place k below g?
+unfoldable pub below : List Hint → ℕ → ℕ → Bool
+below hs g k = ltb (gap hs k) g
+
+-- how many gaps are below g
+abbrev pub lower : List Hint → ℕ → ℕ
+lower hs g = countOf (below hs g) (length hs)
+
+-- is the gap at place k just g?
+unfoldable pub level : List Hint → ℕ → ℕ → Bool
+level hs g k = eqb (gap hs k) g
+
+-- is place i kept where all gaps below the cutoff go, and the first ones at it?
+unfoldable pub stays : List Hint → Cut → ℕ → Bool
+stays hs c i = ltb (c .gap) (gap hs i) || (eqb (gap hs i) (c .gap) && leb (c .rest) (countOf (level hs (c .gap)) i))
+
+-- the hints kept then
+abbrev pub remaining : List Hint → Cut → List Hint
+remaining hs c = kept (stays hs c) hs (length hs)
+
+-- the number before place i, as the passes carry it
+unfoldable pub ahead : List Hint → ℕ → ℕ
+ahead hs zero = max32
+ahead hs (suc i) = getD hs i noHint .number
+
+-- the cutoff c drops e of the hints
+pub record Cuts (hs : List Hint) (e : ℕ) (c : Cut) : Type 0 where
+  pub sum : lower hs (c .gap) + c .rest ≡ e
+  pub most : e ≤ lower hs (c .gap + 1)
+
+-- ---- a pass
+abbrev pub firstPlace : Cut → Place
+firstPlace c = record { left = c .rest; before = max32; kept = 0 }
+
+-- does the next hint stay?
+unfoldable pub stayed : Cut → Place → Hint → Bool
+stayed c p h =
+    let g = rise (p .before) (h .number) in
+    ltb (c .gap) g || (eqb g (c .gap) && eqb (p .left) 0)
+
+-- the place behind it
+abbrev pub nextPlace : Cut → Place → Hint → Place
+nextPlace c p h =
+    record {
+      left = p .left - one (eqb (rise (p .before) (h .number)) (c .gap));
+      before = h .number;
+      kept = p .kept + one (stayed c p h);
+    }
+
+-- the table new is old with the r hints xs at its start
+abbrev pub Starts : List Hint → ℕ → List ℕ → List ℕ → Type 0
+Starts xs r old new = Begins 8 encodeHint xs r old new

@@ -1,0 +1,202 @@
+// Thinning of hints without a second table: the cutoff gap by bisection, then one pass that keeps what stays.
+pub mod gaps;
+
+use crate::gaps::is_kept;
+use crate::gaps::rise_of;
+use field::copy_first;
+use field::write_u32;
+use rules::Hint;
+use tables::read_hint;
+ghost use mathlib.Core.Path.{_≡_};
+ghost use Prim.Native.Nat.{_+_, _<_, _≤_, _-_, _*_, min};
+ghost use lib.ListN.{length};
+ghost use mathlib.Core.Bool.{cond, _&&_, _||_};
+ghost use lib.Dec.{eqb, ltb};
+ghost use lib.Seq.{sets};
+ghost use Rattle.rules.specs.File.{encodeHint};
+ghost use Rattle.rules.specs.Hints.{rise, thin};
+ghost use Rattle.tables.specs.Tables.{hintsIn};
+ghost use Rattle.thin.specs.Thin.{one, lower, remaining, stayed, firstPlace, nextPlace, Cuts, Starts};
+
+fn one_of(b: bool) -> usize
+    ensures { λ r. ⌜ (r ≡ one b) × (r ≤ 1) ⌝ }
+{
+    if b { 1 } else { 0 }
+}
+
+// How many gaps of the n hints are below g.
+fn count_below(t: &[u8], n: usize, g: u32) -> usize
+    requires { ⌜ n * 8 ≤ length (now t) ⌝ }
+    ensures { λ r. ⌜ r ≡ lower (hintsIn n (now (t .entry))) g ⌝ }
+{
+    let mut found: usize = 0;
+    let mut before: u32 = 4294967295;
+    let mut i: usize = 0;
+    while i < n {
+        let h = read_hint(t, i);
+        found += one_of(rise_of(before, h.number) < g as u64);
+        before = h.number;
+        i += 1;
+    }
+    found
+}
+
+// A cutoff: all gaps below `gap` go, and the first `rest` at it.
+pub struct Cut {
+    pub gap: u64,
+    pub rest: usize,
+}
+
+// A gap between two bounds: the middle, but below the double of the lower one and 64 as long as the upper one is 2^32.
+fn probe(low: u64, high: u64) -> u64
+    requires { ⌜ (low + 1 < high) × (high ≤ 4294967296) ⌝ }
+    ensures { λ r. ⌜ (low < r) × (r < high) ⌝ }
+{
+    let mid = (low + high) / 2;
+    if high < 4294967296 {
+        return mid;
+    }
+    let near = low * 2 + 64;
+    if near < mid { near } else { mid }
+}
+
+// The cutoff that drops `excess` of the n hints, by bisection.
+pub fn cutoff(t: &[u8], n: usize, excess: usize) -> Cut
+    requires { ⌜ (n * 8 ≤ length (now t)) × (excess ≤ n) ⌝ }
+    ensures { λ r. ⌜ Cuts (hintsIn n (now (t .entry))) excess r ⌝ }
+{
+    let mut low: u64 = 0;
+    let mut high: u64 = 4294967296;
+    let mut less: usize = 0;
+    while low + 1 < high {
+        let mid = probe(low, high);
+        let m = count_below(t, n, mid as u32);
+        if m == excess {
+            return Cut { gap: mid, rest: 0 };
+        }
+        if m < excess {
+            low = mid;
+            less = m;
+        } else {
+            high = mid;
+        }
+    }
+    Cut {
+        gap: low,
+        rest: excess - less,
+    }
+}
+
+// One less where `hit`, and 0 of 0.
+pub fn spent(left: usize, hit: bool) -> usize
+    ensures { λ r. ⌜ r ≡ left - one hit ⌝ }
+{
+    if hit {
+        if left == 0 {
+            return 0;
+        }
+        return left - 1;
+    }
+    left
+}
+
+// Hint number j of a table.
+pub fn write_hint(t: &mut [u8], j: usize, h: Hint)
+    requires { ⌜ j * 8 + 8 ≤ length (now t) ⌝ }
+    ensures { λ _. ⌜ now (t .exit) ≡ sets (now (t .entry)) (j * 8) (encodeHint h) ⌝ }
+{
+    let at = j * 8;
+    write_u32(t, at, h.lsn);
+    write_u32(t, at + 4, h.number);
+}
+
+// Where a pass is: how many more at the cutoff go, the number before, and how many hints are kept.
+struct Place {
+    left: usize,
+    before: u32,
+    kept: usize,
+}
+
+fn first_place(cut: Cut) -> Place
+    ensures { λ r. ⌜ r ≡ firstPlace cut ⌝ }
+{
+    Place {
+        left: cut.rest,
+        before: 4294967295,
+        kept: 0,
+    }
+}
+
+// The next hint of a pass, kept or dropped.
+fn turn(t: &mut [u8], h: Hint, cut: Cut, p: Place) -> Place
+    requires { ⌜ (p .kept + one (stayed cut p h)) * 8 ≤ length (now t) ⌝ }
+    ensures { λ r. ⌜ (r ≡ nextPlace cut p h) × (now (t .exit) ≡ cond (stayed cut p h) (sets (now (t .entry)) (p .kept * 8) (encodeHint h)) (now (t .entry))) ⌝ }
+{
+    let g = rise_of(p.before, h.number);
+    let left = spent(p.left, g == cut.gap);
+    if is_kept(g, cut.gap, p.left) {
+        write_hint(t, p.kept, h);
+        return Place {
+            left,
+            before: h.number,
+            kept: p.kept + 1,
+        };
+    }
+    let mut next = p;
+    next.left = left;
+    next.before = h.number;
+    next
+}
+
+// The hints of src that stay, at the start of dst.
+fn keep_into(dst: &mut [u8], src: &[u8], n: usize, cut: Cut) -> usize
+    requires { ⌜ (n * 8 ≤ length (now src)) × (length (remaining (hintsIn n (now src)) cut) * 8 ≤ length (now dst)) ⌝ }
+    ensures { λ r. ⌜ Starts (remaining (hintsIn n (now (src .entry))) cut) r (now (dst .entry)) (now (dst .exit)) ⌝ }
+{
+    let mut p = first_place(cut);
+    let mut i: usize = 0;
+    while i < n {
+        p = turn(dst, read_hint(src, i), cut, p);
+        i += 1;
+    }
+    p.kept
+}
+
+// The hints of t that stay, closed up.
+fn close_up(t: &mut [u8], n: usize, cut: Cut) -> usize
+    requires { ⌜ n * 8 ≤ length (now t) ⌝ }
+    ensures { λ r. ⌜ Starts (remaining (hintsIn n (now (t .entry))) cut) r (now (t .entry)) (now (t .exit)) ⌝ }
+{
+    let mut p = first_place(cut);
+    let mut i: usize = 0;
+    while i < n {
+        let h = read_hint(t, i);
+        p = turn(t, h, cut, p);
+        i += 1;
+    }
+    p.kept
+}
+
+// The n hints of src thinned to `most`, at the start of dst. Answers how many are left.
+pub fn thin_into(dst: &mut [u8], src: &[u8], n: usize, most: usize) -> usize
+    requires { ⌜ (n * 8 ≤ length (now src)) × (min n most * 8 ≤ length (now dst)) ⌝ }
+    ensures { λ r. ⌜ Starts (thin most (hintsIn n (now (src .entry)))) r (now (dst .entry)) (now (dst .exit)) ⌝ }
+{
+    if n <= most {
+        copy_first(dst, src, n * 8);
+        return n;
+    }
+    keep_into(dst, src, n, cutoff(src, n, n - most))
+}
+
+// The first n hints of t thinned to `most` in place. Past those left the table is as it was.
+pub fn thin_hints(t: &mut [u8], n: usize, most: usize) -> usize
+    requires { ⌜ n * 8 ≤ length (now t) ⌝ }
+    ensures { λ r. ⌜ Starts (thin most (hintsIn n (now (t .entry)))) r (now (t .entry)) (now (t .exit)) ⌝ }
+{
+    if n <= most {
+        return n;
+    }
+    let cut = cutoff(t, n, n - most);
+    close_up(t, n, cut)
+}
