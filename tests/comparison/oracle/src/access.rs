@@ -44,7 +44,7 @@ fn put_option(out: &mut Vec<u8>, mark: u64, value: u64) {
     put(out, value);
 }
 
-/// The numbers and tables of a list, as tools/README.md fixes them.
+/// The numbers and tables of a list, as tests/README.md fixes them.
 pub fn put_list(out: &mut Vec<u8>, ix: &AreaIndex) {
     put(out, u64::from(ix.interval));
     put(out, ix.inline_budget as u64);

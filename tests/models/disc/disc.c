@@ -1,4 +1,4 @@
-/* disc [whole]: the library's calls for disc files. Reads a case from each line of standard input and answers it by a line; tools/README.md fixes both.
+/* disc [whole]: the library's calls for disc files. Reads a case from each line of standard input and answers it by a line; tests/README.md fixes both.
  *
  * Tables lie in one block of memory with a known byte everywhere, between edges; the file ends at a page that cannot be read. After each call: what the
  * call may not write is as it was, or the answer ends with "changed" and what was. The edges of each table are compared after each call, all of the block

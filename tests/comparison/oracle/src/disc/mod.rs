@@ -1,4 +1,4 @@
-//! Disc files, change request 14: cases, whole and broken, go through the model and through a program over the library (tools/disc).
+//! Disc files, change request 14: cases, whole and broken, go through the model and through a program over the library (tests/models/disc).
 
 mod broken;
 mod cases;

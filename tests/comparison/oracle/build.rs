@@ -52,7 +52,7 @@ fn main() {
     let out = PathBuf::from(env::var_os("OUT_DIR").unwrap_or_default());
     let sources = match env::var_os("SEEK_SOURCES") {
         Some(dir) => PathBuf::from(dir),
-        None => here.join("../../../shared/docs/src"),
+        None => here.join("../../../../shared/docs/src"),
     };
     let dir = sources.join("crates/scarletbook/src");
     let seek = read(&dir.join("seek.rs"));

@@ -1,4 +1,4 @@
-//! The original seek index behind a script of calls: see tools/README.md. The benches use it too.
+//! The original seek index behind a script of calls: see tests/README.md. The benches use it too.
 #![allow(dead_code, deprecated, private_interfaces)]
 
 pub mod calls;
@@ -33,7 +33,7 @@ oracle fixed SCRIPT ANSWERS [options]    writes a list of scripts and the file o
 oracle sources                           which texts of the original were built: length and FNV-1a
 oracle differences PAPER SCRIPT          runs the rows of docs/DIFFERENCES.md; PAPER is that text, SCRIPT names each row too
 oracle diff COUNT|SECONDSs REPLAY [options]  runs fresh scripts through both, until the first difference
-oracle disc COUNT|SECONDSs PROGRAM [options] runs fresh disc files through the model and PROGRAM (tools/disc), until the first difference
+oracle disc COUNT|SECONDSs PROGRAM [options] runs fresh disc files through the model and PROGRAM (tests/models/disc), until the first difference
 options: --seed N  --kinds load,merge,calls,seams,hints,unrelated,large,lent|all  --scripts N  --files N  --small  --only CALL,CALL,..
          --notes (counts by kind of damage)  --counts FILE (diff: tables of the counts)  --unchecked (no answer need occur)
          --shrink SECONDS (30: how long a script that shows a difference is made smaller)

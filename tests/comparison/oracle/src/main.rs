@@ -1,4 +1,4 @@
-//! The program of tools/README.md.
+//! The program of tests/README.md.
 
 fn main() -> std::process::ExitCode {
     oracle::command()

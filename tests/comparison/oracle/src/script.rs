@@ -1,4 +1,4 @@
-//! Runs a script of calls on the original and writes the answers. tools/README.md fixes the text
+//! Runs a script of calls on the original and writes the answers. tests/README.md fixes the text
 //! of both.
 
 use std::collections::BTreeMap;
@@ -260,7 +260,7 @@ pub struct Oracle {
     pub stats: Stats,
     pub count: bool,
     pub show: bool,
-    /// A fault to try the generator and the driver with (tools/oracle/selftest), 0 for none.
+    /// A fault to try the generator and the driver with (tests/comparison/oracle/selftest), 0 for none.
     pub wrong: u32,
 }
 

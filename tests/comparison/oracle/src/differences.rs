@@ -1,5 +1,5 @@
 //! The rows of "Intended differences" in docs/DIFFERENCES.md, run on the original: each row's smallest input, and what
-//! the column "Source" says of it. tools/player/differences.script has the same inputs for the library.
+//! the column "Source" says of it. tests/comparison/differences.script has the same inputs for the library.
 
 use super::*;
 use crate::audio::Warning;

@@ -1,4 +1,4 @@
-/* replay [--large]: the script language of tools/README.md over the player's library. Reads lines from standard input, makes each line's call through
+/* replay [--large]: the script language of tests/README.md over the player's library. Reads lines from standard input, makes each line's call through
  * seek.h and prints its answer; it judges nothing. --large: the tables of kind large.
  *
  * What a call may not change is copied before it and compared behind it: the blocks, and of each table what its records take up and a few bytes behind
