@@ -1,4 +1,4 @@
-/* faults DIR: writes list files into a directory, by docs/FILE.md: some that are right and, for each refusal number of loading and merging, files that are
+/* damaged DIR: writes list files into a directory, by docs/FILE.md: some that are right and, for each refusal number of loading and merging, files that are
  * refused with it, whose names begin with it. A file without the magic is taken for a disc file. */
 #include <stdio.h>
 #include <string.h>
