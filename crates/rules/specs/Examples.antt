@@ -250,6 +250,8 @@ traps =
     ∷ example (reloaded version3 16) (0 ∷ 0 ∷ 0 ∷ 0 ∷ 0 ∷ 0 ∷ 3 ∷ 2 ∷ 1 ∷ 1 ∷ [])
     -- a part whose back is 32 loads, in a frame longer than it
     ∷ example (reloaded (holding 32) 32768) (0 ∷ 2 ∷ 1 ∷ 4 ∷ 1 ∷ 0 ∷ 1 ∷ 2048 ∷ 0 ∷ 0 ∷ [])
+    -- under a limit of 3 its frame of four bytes goes, and the part
+    ∷ example (reloaded (holding 32) 3) (0 ∷ 2 ∷ 0 ∷ 0 ∷ 0 ∷ 0 ∷ 2 ∷ 0 ∷ 0 ∷ 0 ∷ [])
     -- falling and equal numbers have the largest gap: of those the lowest place goes first
     ∷ example (hintNumbers (thin 2 (hintAt 10 50 ∷ hintAt 20 8 ∷ hintAt 30 8 ∷ hintAt 40 9 ∷ []))) (20 ∷ 8 ∷ 30 ∷ 8 ∷ [])
     -- a merge that takes an end state only

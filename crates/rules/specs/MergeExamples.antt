@@ -1,4 +1,4 @@
--- Examples of merge, the part rule and loading.
+-- Examples of merge, the part rule, loading and saving.
 use Prim.Native.Nat.{ℕ}
 use mathlib.Core.Bool.{cond}
 use mathlib.Core.List.{List, [], _∷_, _++_}
@@ -18,10 +18,10 @@ use Rattle.rules.specs.Tests.{numberOf}
 use Rattle.rules.specs.Values.{Frame, Index, used, complete}
 use Rattle.rules.specs.PartRule.{Piece, addPart}
 use Rattle.rules.specs.Merge.{merge}
-use Rattle.rules.specs.File.{saved}
+use Rattle.rules.specs.File.{saved, save}
 use Rattle.rules.specs.Load.{load}
-use Rattle.rules.specs.Examples.{ample, short, area, hintAt, confirmedAt, checkpoint, indexOf, three, version2, closed, holding, storedIn, knownNumbers, hintNumbers, confirmedNumbers, numbersOf, Example, example}
-use Rattle.rules.specs.AbsorbExamples.{two, ofImage}
+use Rattle.rules.specs.Examples.{ample, short, area, hintAt, confirmedAt, checkpoint, indexOf, three, empty, first, version2, version3, closed, holding, storedIn, knownNumbers, hintNumbers, confirmedNumbers, numbersOf, Example, example}
+use Rattle.rules.specs.AbsorbExamples.{two, ofImage, malformed1}
 use Rattle.rules.specs.HintExamples.{hinting, fingerprintNumbers}
 
 -- ---- values
@@ -112,6 +112,10 @@ mergeNumbers own other = numberOf (merge ample own ample other) ∷ []
 abbrev pub storing : ℕ → Piece → List ℕ
 storing budget p = let h = addPart budget (storedIn (holding 33)) p in used (h .frames) ∷ length (h .frames) ∷ length (h .parts) ∷ []
 
+-- the answer to loading a body and its sum, under the area of x
+abbrev pub loadedNumber : Index → List ℕ → ℕ
+loadedNumber x body = numberOf (load ample (x .scan .area) (summed body) 32768)
+
 -- ---- the tables
 unfoldable pub merges : List Example
 merges =
@@ -134,6 +138,8 @@ merges =
     ∷ example (numbersOf scanNumbers (merge ample (closed three) ample three)) (0 ∷ 3 ∷ 1 ∷ 0 ∷ [])
     -- "appends the rest with their parts": those of common checkpoints are not taken
     ∷ example (numbersOf scanNumbers (merge ample without ample withParts)) (0 ∷ 3 ∷ 0 ∷ 4 ∷ 2 ∷ [])
+    -- "takes its end state and malformed list"
+    ∷ example (numbersOf (λ x. x .scan .malformed) (merge ample first ample malformed1)) (0 ∷ 1050 ∷ [])
     -- "takes the other's image id and fingerprint where none is held", without the checked mark
     ∷ example (numbersOf restNumbers (merge ample three ample (ofImage 6 three))) (0 ∷ 0 ∷ 1 ∷ 6 ∷ [])
     ∷ example (numbersOf restNumbers (merge ample (hinting Unknown 2048 [] []) ample (hinting (Checked 9) 2048 [] []))) (0 ∷ 1 ∷ 9 ∷ 0 ∷ [])
@@ -172,4 +178,14 @@ unfoldable pub files : List Example
 files =
     -- "Mistakes that tempt: accepting a version 2 file that adds nothing": the file of one hint with that hint taken out
     example (numberOf (load ample (version2 .scan .area) (saved version2) 32768) ∷ []) (0 ∷ [])
-    ∷ example (numberOf (load ample (version2 .scan .area) (summed (set (take 104 (saved version2)) 96 0)) 32768) ∷ []) (36 ∷ []) ∷ []
+    ∷ example (loadedNumber version2 (set (take 104 (saved version2)) 96 0) ∷ []) (36 ∷ [])
+    -- "reserved fields 0?": that of the hint header gives 28, that of the confirmations 37
+    ∷ example (loadedNumber version2 (set (take 112 (saved version2)) 100 1) ∷ loadedNumber version3 (set (take 152 (saved version3)) 116 1) ∷ []) (28 ∷ 37 ∷ [])
+    -- 33: "kind?"
+    ∷ example (loadedNumber (holding 33) (set (take 164 (saved (holding 33))) 160 2) ∷ []) (33 ∷ [])
+    -- 34: "end state?"; one of a list that is not complete gives 28
+    ∷ example (loadedNumber three (take 152 (saved (closedAt 74))) ∷ loadedNumber three (set (take 152 (saved three)) 64 1) ∷ []) (34 ∷ 28 ∷ [])
+    -- 38: "nothing left?"
+    ∷ example (loadedNumber version2 (take 112 (saved version2) ++ (0 ∷ [])) ∷ []) (38 ∷ [])
+    -- 40: "is the output long enough?"
+    ∷ example (numberOf (save ample empty 88) ∷ numberOf (save ample empty 87) ∷ []) (0 ∷ 40 ∷ []) ∷ []

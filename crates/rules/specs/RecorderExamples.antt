@@ -108,6 +108,8 @@ recorders =
     -- 7: "does the frame start in the area before this LSN, with number < LIM?", asked where back is 32 or less too
     ∷ example (framedNumber 1000 5 ∷ framedNumber 999 5 ∷ framedNumber 1099 5 ∷ framedNumber 1100 5 ∷ []) (0 ∷ 7 ∷ 0 ∷ 7 ∷ [])
     ∷ example (framedNumber 1099 1166880 ∷ framedNumber 1099 1166881 ∷ []) (0 ∷ 7 ∷ [])
+    -- 5 before 6, 6 before 7
+    ∷ example (recordedNumber after10 1200 9 0 ∷ numberOf (recordAt ample after10 1100 9 0 (frameOf 999 5 4) sector) ∷ []) (5 ∷ 6 ∷ [])
     -- finish, 5: "is every boundary passed, and the recorder not finished or stopped?"
     ∷ example (numbersOf recorderNumbers (finish ample allPassed (end 75 3))) (0 ∷ 1 ∷ 1000 ∷ 2 ∷ 1 ∷ 75 ∷ 3 ∷ [])
     ∷ example
