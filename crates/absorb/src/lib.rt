@@ -1,9 +1,9 @@
 // Absorbing a recorder into an index, in their tables.
-pub mod committed;
-pub mod modes;
-pub mod questions;
-pub mod refusal;
-pub mod tests;
+mod committed;
+mod modes;
+mod questions;
+mod refusal;
+mod tests;
 
 use crate::committed::commit;
 use crate::modes::drained;

@@ -1,5 +1,5 @@
 // The hint recorder: its numbers by value, and its list in a lent table.
-pub mod spacing;
+mod spacing;
 
 use crate::spacing::cleared;
 use crate::spacing::emptied;

@@ -1,6 +1,6 @@
 // Loading into lent tables: from_bytes.
 pub mod limit;
-pub mod places;
+mod places;
 
 use crate::limit::limited;
 use crate::places::locate;

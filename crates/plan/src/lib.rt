@@ -1,5 +1,5 @@
 // Where to start for a frame.
-pub mod search;
+mod search;
 
 use crate::search::at_end;
 use crate::search::is_none;

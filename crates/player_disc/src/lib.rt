@@ -1,5 +1,5 @@
 // What the player's C program calls for disc files: each call over blocks and lent tables, answered by a number.
-pub mod block;
+mod block;
 
 use crate::block::put_contents;
 use crate::block::put_disc_sizes;

@@ -1,5 +1,5 @@
 // What the player's C program calls for recorders: each call over blocks and lent tables, answered by a number.
-pub mod block;
+mod block;
 pub mod hint_calls;
 
 use crate::block::frame_from;

@@ -1,6 +1,6 @@
 // A recorder: its numbers by value, and its lists in four lent tables. Questions 1 to 4, the recorder of an index, and finish.
-pub mod asked;
-pub mod modes;
+mod asked;
+mod modes;
 pub mod record;
 
 use crate::modes::at_end;
