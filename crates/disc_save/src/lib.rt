@@ -16,6 +16,7 @@ use rules::AreaIndex;
 use rules_disc::Entry;
 use save::Saved;
 use save::layout::saved_length;
+use save::output::long_enough;
 use save::to_bytes;
 ghost use mathlib.Core.Path.{_≡_};
 ghost use Prim.Native.Nat.{_+_, _≤_};
@@ -84,7 +85,7 @@ fn write_list(
         return Saved::Refused(54);
     }
     let total = length_of_one(m);
-    if (out.len() as u64) < total {
+    if !long_enough(out.len() as u64, total) {
         return Saved::Refused(40);
     }
     let at = write_one(out, entry_of_one(slot, m));
@@ -195,7 +196,7 @@ fn write_lists(
         return Saved::Refused(54);
     }
     let total = 28 + m + n;
-    if (out.len() as u64) < total {
+    if !long_enough(out.len() as u64, total) {
         return Saved::Refused(40);
     }
     let at = write_table(out, slot, m, next, n);

@@ -1,7 +1,8 @@
-use mathlib.Core.Path.{refl, _∙_}
+use mathlib.Core.Path.{refl, sym, _∙_}
 use mathlib.Core.List.{[], _∷_}
+use lib.ListN.{length}
 use native.Mathlib.Omega.{arith}
-use borrow.Author.Tests.{not-true, not-false}
+use borrow.Author.Tests.{leb-true, leb-false, not-true, not-false}
 use Rattle.index.specs.Index.{Tables, tables, indexIn}
 use Rattle.save.proofs.Saving.{framed}
 use Rattle.disc_save.proofs.Files.{file-of-one}
@@ -58,6 +59,7 @@ length-of-one-requires c κs =
 
 returns-2 : tie.Need-returns-2
 returns-2 c =
+    let room : tie.After-long-enough = search in
     let total : tie.After-length-of-one = search in
     let passed = passed-at total in
     let fits = fits-at passed in
@@ -66,7 +68,7 @@ returns-2 c =
     let start = begin slot in
     let l = size .saved-length .ensures (lent start) refl in
     as-short ((indexIn (start .args .x) (lent start)) ∷ []) (start .args .out .now) (one-contents (indexIn (start .args .x) (lent start)) (slot .slot-of .ensures) l (fits .one-fits .ensures)) (not-false _ (passed .if1 .left))
-    (total .length-of-one .ensures ∙ one-length (indexIn (start .args .x) (lent start)) l) (c .if2 .taken)
+    (total .length-of-one .ensures ∙ one-length (indexIn (start .args .x) (lent start)) l) (leb-false _ _ (sym (room .long-enough .ensures) ∙ not-true _ (c .if2 .taken)))
 
 entry-of-one-requires : tie.Need-entry-of-one-requires
 entry-of-one-requires c κs =
@@ -81,17 +83,22 @@ entry-of-one-requires c κs =
 write-one-requires : tie.Need-write-one-requires
 write-one-requires c κs =
     let long : tie.Else2 = search in
+    let room : tie.After-long-enough = search in
     let total : tie.After-length-of-one = search in
-    omega (arith, long .if2 .left, total .length-of-one .ensures)
+    let start = begin (slot-at (sized (fits-at (passed-at total)))) in
+    let enough = leb-true (total .length-of-one .result) (length (start .args .out .now)) (sym (room .long-enough .ensures) ∙ not-false _ (long .if2 .left)) in
+    omega (arith, enough, total .length-of-one .ensures)
 
 put-list-requires : tie.Need-put-list-requires
 put-list-requires c κs =
     let table : tie.After-write-one = search in
     let long : tie.Else2 = search in
+    let room : tie.After-long-enough = search in
     let total : tie.After-length-of-one = search in
     let size = sized (fits-at (passed-at total)) in
     let start = begin (slot-at size) in
-    (start .pre, size .saved-length .ensures (lent start) refl, omega (arith, long .if2 .left, total .length-of-one .ensures, table .write-one .ensures .ends, table .write-one .kept .0))
+    let enough = leb-true (total .length-of-one .result) (length (start .args .out .now)) (sym (room .long-enough .ensures) ∙ not-false _ (long .if2 .left)) in
+    (start .pre, size .saved-length .ensures (lent start) refl, omega (arith, enough, total .length-of-one .ensures, table .write-one .ensures .ends, table .write-one .kept .0))
 
 returns-3 : tie.Need-returns-3
 returns-3 c =
@@ -99,17 +106,19 @@ returns-3 c =
     let table : tie.After-write-one = search in
     let first : tie.After-entry-of-one = search in
     let long : tie.Else2 = search in
+    let room : tie.After-long-enough = search in
     let total : tie.After-length-of-one = search in
     let passed = passed-at total in
     let fits = fits-at passed in
     let size = sized fits in
     let slot = slot-at size in
     let start = begin slot in
+    let enough = leb-true (total .length-of-one .result) (length (start .args .out .now)) (sym (room .long-enough .ensures) ∙ not-false _ (long .if2 .left)) in
     let l = size .saved-length .ensures (lent start) refl in
     let t = total .length-of-one .ensures in
     rw t (as-done ((indexIn (start .args .x) (lent start)) ∷ []) (start .args .out .now) (one-contents (indexIn (start .args .x) (lent start)) (slot .slot-of .ensures) l (fits .one-fits .ensures)) (not-false _ (passed .if1 .left))
-    (one-length (indexIn (start .args .x) (lent start)) l) (rw t at (long .if2 .left))
-    (file-of-one (indexIn (start .args .x) (lent start)) (slot .slot-of .ensures) l (rw t at (long .if2 .left)) (rw (first .entry-of-one .ensures) at (table .write-one .ensures)) (list .put-list .ensures)))
+    (one-length (indexIn (start .args .x) (lent start)) l) (omega (arith, enough, t))
+    (file-of-one (indexIn (start .args .x) (lent start)) (slot .slot-of .ensures) l (omega (arith, enough, t)) (rw (first .entry-of-one .ensures) at (table .write-one .ensures)) (list .put-list .ensures)))
 
 pub write-list-spec : {M : Type 1} → statement M
 write-list-spec =
@@ -120,6 +129,7 @@ write-list-spec =
     (λ c κs. search needs)
     returns
     length-of-one-requires
+    (λ c κs. search needs)
     returns-2
     entry-of-one-requires
     write-one-requires

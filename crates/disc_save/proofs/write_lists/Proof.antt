@@ -1,7 +1,9 @@
-use mathlib.Core.Path.{refl}
+use mathlib.Core.Path.{refl, sym, _∙_}
 use mathlib.Core.List.{[], _∷_}
+use Prim.Native.Nat.{_+_}
+use lib.ListN.{length}
 use native.Mathlib.Omega.{arith}
-use borrow.Author.Tests.{not-true, not-false}
+use borrow.Author.Tests.{leb-true, leb-false, not-true, not-false}
 use Rattle.index.specs.Index.{Tables, tables, indexIn}
 use Rattle.save.proofs.Saving.{framed}
 use Rattle.disc_save.proofs.Files.{file-of-two}
@@ -92,6 +94,7 @@ add-total-2 c =
 
 returns-2 : tie.Need-returns-2
 returns-2 c =
+    let room : tie.After-long-enough = search in
     let passed : tie.Else1 = search in
     let fit = fit-at passed in
     let n = second-size fit in
@@ -103,11 +106,12 @@ returns-2 c =
     let k = n .saved-length2 .ensures (others start) refl in
     as-short ((indexIn (start .args .x) (lent start)) ∷ (indexIn (start .args .y) (others start)) ∷ []) (start .args .out .now)
     (two-contents (indexIn (start .args .x) (lent start)) (indexIn (start .args .y) (others start)) (slot .slot-of .ensures) (next .slot-of2 .ensures) l k (fit .two-fit .ensures))
-    (not-false _ (passed .if1 .left)) (two-length (indexIn (start .args .x) (lent start)) (indexIn (start .args .y) (others start)) l k) (c .if2 .taken)
+    (not-false _ (passed .if1 .left)) (two-length (indexIn (start .args .x) (lent start)) (indexIn (start .args .y) (others start)) l k) (leb-false _ _ (sym (room .long-enough .ensures) ∙ not-true _ (c .if2 .taken)))
 
 write-table-requires : tie.Need-write-table-requires
 write-table-requires c κs =
     let long : tie.Else2 = search in
+    let room : tie.After-long-enough = search in
     let passed : tie.Else1 = search in
     let fit = fit-at passed in
     let n = second-size fit in
@@ -115,29 +119,36 @@ write-table-requires c κs =
     let next = second-slot m in
     let slot = first-slot next in
     let start = begin slot in
+    let enough = leb-true (28 + m .saved-length .result + n .saved-length2 .result) (length (start .args .out .now)) (sym (room .long-enough .ensures) ∙ not-false _ (long .if2 .left)) in
     let l = m .saved-length .ensures (lent start) refl in
     let k = n .saved-length2 .ensures (others start) refl in
     let s = two-small (indexIn (start .args .x) (lent start)) (indexIn (start .args .y) (others start)) l k (two-contents (indexIn (start .args .x) (lent start)) (indexIn (start .args .y) (others start)) (slot .slot-of .ensures) (next .slot-of2 .ensures) l k (fit .two-fit .ensures)) (not-false _ (passed .if1 .left)) in
-    (omega (arith, s .0), s .1, omega (arith, long .if2 .left))
+    (omega (arith, s .0), s .1, omega (arith, enough))
 
 put-list-requires : tie.Need-put-list-requires
 put-list-requires c κs =
     let table : tie.After-write-table = search in
     let long : tie.Else2 = search in
+    let room : tie.After-long-enough = search in
     let passed : tie.Else1 = search in
-    let m = first-size (second-size (fit-at passed)) in
+    let n = second-size (fit-at passed) in
+    let m = first-size n in
     let start = begin (first-slot (second-slot m)) in
-    (start .pre .0, m .saved-length .ensures (lent start) refl, omega (arith, long .if2 .left, table .write-table .ensures .ends, table .write-table .kept .0))
+    let enough = leb-true (28 + m .saved-length .result + n .saved-length2 .result) (length (start .args .out .now)) (sym (room .long-enough .ensures) ∙ not-false _ (long .if2 .left)) in
+    (start .pre .0, m .saved-length .ensures (lent start) refl, omega (arith, enough, table .write-table .ensures .ends, table .write-table .kept .0))
 
 put-list-requires-2 : tie.Need-put-list-requires-2
 put-list-requires-2 c κs =
     let list : tie.After-put-list = search in
     let table : tie.After-write-table = search in
     let long : tie.Else2 = search in
+    let room : tie.After-long-enough = search in
     let passed : tie.Else1 = search in
     let n = second-size (fit-at passed) in
-    let start = begin (first-slot (second-slot (first-size n))) in
-    (start .pre .1, n .saved-length2 .ensures (others start) refl, omega (arith, long .if2 .left, table .write-table .ensures .ends, table .write-table .kept .0, list .put-list .ensures .ends, list .put-list .kept .0))
+    let m = first-size n in
+    let start = begin (first-slot (second-slot m)) in
+    let enough = leb-true (28 + m .saved-length .result + n .saved-length2 .result) (length (start .args .out .now)) (sym (room .long-enough .ensures) ∙ not-false _ (long .if2 .left)) in
+    (start .pre .1, n .saved-length2 .ensures (others start) refl, omega (arith, enough, table .write-table .ensures .ends, table .write-table .kept .0, list .put-list .ensures .ends, list .put-list .kept .0))
 
 returns-3 : tie.Need-returns-3
 returns-3 c =
@@ -145,6 +156,7 @@ returns-3 c =
     let list : tie.After-put-list = search in
     let table : tie.After-write-table = search in
     let long : tie.Else2 = search in
+    let room : tie.After-long-enough = search in
     let passed : tie.Else1 = search in
     let fit = fit-at passed in
     let n = second-size fit in
@@ -152,12 +164,13 @@ returns-3 c =
     let next = second-slot m in
     let slot = first-slot next in
     let start = begin slot in
+    let enough = leb-true (28 + m .saved-length .result + n .saved-length2 .result) (length (start .args .out .now)) (sym (room .long-enough .ensures) ∙ not-false _ (long .if2 .left)) in
     let l = m .saved-length .ensures (lent start) refl in
     let k = n .saved-length2 .ensures (others start) refl in
     as-done ((indexIn (start .args .x) (lent start)) ∷ (indexIn (start .args .y) (others start)) ∷ []) (start .args .out .now)
     (two-contents (indexIn (start .args .x) (lent start)) (indexIn (start .args .y) (others start)) (slot .slot-of .ensures) (next .slot-of2 .ensures) l k (fit .two-fit .ensures))
-    (not-false _ (passed .if1 .left)) (two-length (indexIn (start .args .x) (lent start)) (indexIn (start .args .y) (others start)) l k) (long .if2 .left)
-    (file-of-two (indexIn (start .args .x) (lent start)) (indexIn (start .args .y) (others start)) (slot .slot-of .ensures) (next .slot-of2 .ensures) l k (long .if2 .left) (table .write-table .ensures) (list .put-list .ensures) (rest .put-list2 .ensures))
+    (not-false _ (passed .if1 .left)) (two-length (indexIn (start .args .x) (lent start)) (indexIn (start .args .y) (others start)) l k) enough
+    (file-of-two (indexIn (start .args .x) (lent start)) (indexIn (start .args .y) (others start)) (slot .slot-of .ensures) (next .slot-of2 .ensures) l k enough (table .write-table .ensures) (list .put-list .ensures) (rest .put-list2 .ensures))
 
 pub write-lists-spec : {M : Type 1} → statement M
 write-lists-spec =
@@ -171,6 +184,7 @@ write-lists-spec =
     returns
     add-total
     add-total-2
+    (λ c κs. search needs)
     returns-2
     write-table-requires
     put-list-requires
