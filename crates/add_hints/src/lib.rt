@@ -1,8 +1,8 @@
 // add_hints: a delivered list of hints joined to those of an index.
-pub mod choice;
+mod choice;
 pub mod joined;
 pub mod sort;
-pub mod spread;
+mod spread;
 
 use crate::sort::merge_hints;
 use index::Made;

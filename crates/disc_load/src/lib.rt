@@ -1,5 +1,5 @@
 // Loading a disc file under the areas of slots 0 and 1, each list into tables of its own: all lists or none.
-pub mod ask;
+mod ask;
 pub mod contents;
 pub mod questions;
 pub mod table_sizes;

@@ -1,5 +1,5 @@
 // Saving one list, or both lists of a disc, as a disc file.
-pub mod layout;
+mod layout;
 pub mod length;
 
 use crate::layout::entry_of_one;

@@ -4,7 +4,7 @@ mod files;
 mod hashes;
 mod lines;
 mod records;
-pub mod tally;
+mod tally;
 
 fn main() {
     let t = crate::tally::start();

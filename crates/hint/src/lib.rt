@@ -1,6 +1,6 @@
 // hint: the hint that a read for a range of frames begins at, and the end of the read.
-pub mod density;
-pub mod nearest;
+mod density;
+mod nearest;
 
 use crate::density::local_end;
 use crate::nearest::hint_place;

@@ -1,8 +1,8 @@
 // Loading up to question 38: what a file says, from its bytes alone.
-pub mod cursor;
-pub mod hint_sections;
-pub mod questions;
-pub mod scan;
+mod cursor;
+mod hint_sections;
+mod questions;
+mod scan;
 
 use crate::cursor::Cursor;
 use crate::cursor::Headed;

@@ -1,7 +1,7 @@
 // Saving an index: the file's bytes, section by section, into a lent output.
 pub mod layout;
 pub mod output;
-pub mod write;
+mod write;
 
 use crate::layout::frame_bytes;
 use crate::layout::header_of;
