@@ -1,5 +1,5 @@
 //! Times every call of the player's library beside the original Rust: one row for each case.
-//! `--quick` takes about a minute, `--markdown` writes the table of docs/SPEED.md, `--only` and `--case` take the calls and cases named so.
+//! `--quick` takes about a minute, `--markdown` writes docs/speed/numbers.md, `--only` and `--case` take the calls and cases named so.
 
 mod allocator;
 mod discs;

@@ -155,7 +155,7 @@ impl Report {
         }
         let cores = std::thread::available_parallelism().map_or(0, |n| n.get());
         let effort = format!("{} to {} rounds, about {} ms for a row", self.effort.fewest, self.effort.most, self.effort.row.as_millis());
-        println!("## Numbers\n\n{}, {cores} cores, {}, {}; {effort}.\n", model(), said("date", "+%Y-%m-%d"), said("rustc", "--version"));
+        println!("# Numbers\n\n{}, {cores} cores, {}, {}; {effort}.\n", model(), said("date", "+%Y-%m-%d"), said("rustc", "--version"));
         println!("| {} |", NAMES.join(" | "));
         println!("|{}", "---|".repeat(NAMES.len()));
     }
