@@ -7,6 +7,7 @@ use lib.ListN.{length, getD, set, length-take, take, drop, length-append, length
 use lib.Seq.{take-at, drop-drop, drop-append-add}
 use Rattle.field.specs.Number.{encode, numberAt, put}
 use Rattle.field.proofs.Number.{number-more, number-none, encode-length, put-split}
+use Rattle.fnv.specs.Fnv.{fnvStep, fnvFrom, prime64}
 use Rattle.rules.specs.File.{Field, field, headerFields, fieldAt, writeFields}
 use Rattle.header.specs.Place.{entry, total, Placed}
 
@@ -28,7 +29,7 @@ written-length (f ∷ fs) [] h = let q : ⊥ = omega arith in absurd q
 written-length (f ∷ fs) (v ∷ vs) h = rw (length-append, encode-length, written-length fs vs (omega arith))
 
 -- one field more
-written-more : (fs : List Field) (vs : List ℕ) (i : ℕ) → i < length fs → length fs ≤ length vs
+pub written-more : (fs : List Field) (vs : List ℕ) (i : ℕ) → i < length fs → length fs ≤ length vs
     → writeFields (take (suc i) fs) vs ≡ writeFields (take i fs) vs ++ encode (entry fs i .width) (getD vs i 0)
 unfolding writeFields
 written-more [] vs i h l = let q : ⊥ = omega arith in absurd q
@@ -71,3 +72,13 @@ put-place {i = i} {o = o} w t u v p e q =
 pub put-byte : (t : List ℕ) (o v : ℕ) → set t o (v % 256) ≡ put 1 t o v
 unfolding put encode
 put-byte t o v = refl
+
+-- the hash of as many bytes of v as field number i has
+pub sum-place : {i o n : ℕ} (w u v sum r : ℕ) → Placed headerFields 0 i o n → n ≡ w → encode w u ≡ encode w v
+    → r ≡ fnvFrom 64 prime64 sum (encode w u) → r ≡ fnvFrom 64 prime64 sum (encode (entry headerFields i .width) v)
+sum-place w u v sum r p e q f = rw (← p .size, e, ← q) f
+
+-- one byte is one step
+pub sum-one : (sum v r : ℕ) → r ≡ fnvStep 64 prime64 sum (v % 256) → r ≡ fnvFrom 64 prime64 sum (encode 1 v)
+unfolding fnvFrom encode
+sum-one sum v r e = e

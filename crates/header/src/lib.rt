@@ -5,12 +5,17 @@ use field::read_u32;
 use field::read_u64;
 use field::write_u32;
 use field::write_u64;
+use fnv::OFFSET_BASIS;
+use fnv::step;
 use rules::Header;
+use summing::sum_u32;
+use summing::sum_u64;
 ghost use mathlib.Core.Path.{_≡_};
 ghost use mathlib.Core.List.{_++_};
 ghost use Prim.Native.Nat.{_+_, _≤_, _<_};
 ghost use lib.ListN.{length, take, drop};
-ghost use Rattle.field.specs.Number.{put};
+ghost use Rattle.field.specs.Number.{encode, put};
+ghost use Rattle.fnv.specs.Fnv.{fnvFrom, fnv64, prime64};
 ghost use Rattle.rules.specs.File.{headerFields, fieldAt, readHeader, headerValues, headerBytes};
 ghost use Rattle.rules.specs.Load.{isComplete, hasFingerprint};
 ghost use Rattle.header.specs.Place.{Placed, Holds, entry, total};
@@ -180,6 +185,21 @@ fn put_field(out: &mut [u8], i: usize, v: u64)
     }
 }
 
+// The hash from sum of the bytes of v in field number i.
+fn sum_field(i: usize, v: u64, sum: u64) -> u64
+    requires { ⌜ i < 19 ⌝ }
+    ensures { λ r. ⌜ r ≡ fnvFrom 64 prime64 sum (encode (entry headerFields i .width) v) ⌝ }
+{
+    let f = field_of(i);
+    if f.width == 8 {
+        return sum_u64(sum, v);
+    }
+    if f.width == 4 {
+        return sum_u32(sum, (v % 4294967296) as u32);
+    }
+    step(sum, (v % 256) as u8)
+}
+
 // The values of a header, in the order of the table.
 fn values_of(h: Header) -> [u64; 19]
     ensures { λ r. ⌜ r ≡ headerValues h ⌝ }
@@ -207,17 +227,20 @@ fn values_of(h: Header) -> [u64; 19]
     ]
 }
 
-// A header at the start of out.
-pub fn write_header(out: &mut [u8], h: Header)
+// A header at the start of out, and the sum of its bytes.
+pub fn write_header(out: &mut [u8], h: Header) -> u64
     requires { ⌜ 80 ≤ length (now out) ⌝ }
-    ensures { λ _. ⌜ now (out .exit) ≡ headerBytes h ++ drop 80 (now (out .entry)) ⌝ }
+    ensures { λ r. ⌜ (now (out .exit) ≡ headerBytes h ++ drop 80 (now (out .entry))) × (r ≡ fnv64 (headerBytes h)) ⌝ }
 {
     let values = values_of(h);
+    let mut x = OFFSET_BASIS;
     let mut i = 0;
     while i < 19 {
         put_field(out, i, values[i]);
+        x = sum_field(i, values[i], x);
         i += 1;
     }
+    x
 }
 
 // Is the list complete?

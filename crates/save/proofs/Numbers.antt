@@ -1,23 +1,29 @@
 -- The sections of an index, and the room that they need. Assumes nothing.
-use mathlib.Core.Path.{_≡_, refl, sym, _∙_}
+use mathlib.Core.Path.{_≡_, refl}
 use mathlib.Core.Bool.{cond}
 use mathlib.Core.List.{List, [], _++_, append-assoc}
 use Prim.Native.Nat.{ℕ, _+_, _*_, _≤_, _<_}
 use native.Mathlib.Omega.{arith}
 use borrow.Author.Tests.{le-leb, lt-leb}
 use lib.Dec.{leb}
-use lib.ListN.{length}
 use Rattle.field.proofs.Records.{records-length}
 use Rattle.rules.specs.declared.AreaIndex.{AreaIndex}
 use Rattle.rules.specs.Values.{used}
 use Rattle.rules.specs.File.{decodeHint, decodeConfirmation, hasHinting, versionOf, headerBytes, headerOf, hintSection, confirmedSection, bodyOf, savedLength}
 use Rattle.tables.specs.Tables.{framesIn}
 use Rattle.index.specs.Index.{Tables, indexIn, tables}
-use Rattle.save.specs.Output.{Put}
-use Rattle.save.proofs.output.Stretches.{put-both}
+use Rattle.fnv.specs.Fnv.{fnvFrom}
+use Rattle.save.specs.Output.{Summed}
+use Rattle.save.specs.declared.output.Written.{Written}
+use Rattle.save.proofs.output.Sums.{summed-both}
 use Rattle.save.specs.Layout.{hintHeaderOf}
 use Rattle.save.proofs.layout.Numbers.{length-is, version-any}
 use Rattle.save.specs.Steps.{hintBytes, confirmedBytes, hintIndex, hintingSize, scanBytes, scanSize}
+
+-- nothing written
+nothing : (o : List ℕ) (w : Written) → Summed [] 0 o w w o
+unfolding fnvFrom
+nothing o w = record { put = record { size = refl; ends = omega arith; bytes = refl }; sum = refl }
 
 -- the length by its parts
 module _ (x : AreaIndex) (t : Tables) where
@@ -44,25 +50,25 @@ module _ (x : AreaIndex) (hints confirmed : List ℕ) where
     size-is = rw (e (tables [] [] [] [] [] [] []))
 
     -- version 1 has neither section
-    pub hinting-none : (o : List ℕ) (at : ℕ) → v < 2
-        → Put (hintSection (hintIndex x hints confirmed) ++ confirmedSection (hintIndex x hints confirmed)) (hintingSize x) o at at o
-    hinting-none o at h =
+    pub hinting-none : (o : List ℕ) (w : Written) → v < 2
+        → Summed (hintSection (hintIndex x hints confirmed) ++ confirmedSection (hintIndex x hints confirmed)) (hintingSize x) o w w o
+    hinting-none o w h =
         let l : v < 3 = omega arith in
-        rw (← sections-are, ← size-is, lt-leb 2 v h, lt-leb 3 v l) (record { size = refl; ends = omega arith; bytes = refl })
+        rw (← sections-are, ← size-is, lt-leb 2 v h, lt-leb 3 v l) (nothing o w)
 
     -- version 2 has the first
-    pub hinting-first : {o : List ℕ} {at n : ℕ} {o' : List ℕ} → 2 ≤ v → v < 3 → Put (hintBytes (hintHeaderOf x) hints) (24 + 8 * x .hints) o at n o'
-        → Put (hintSection (hintIndex x hints confirmed) ++ confirmedSection (hintIndex x hints confirmed)) (hintingSize x) o at n o'
-    hinting-first h l p =
-        rw (← sections-are, ← size-is, le-leb 2 v h, lt-leb 3 v l) (put-both {r = []} {m = 0} p (record { size = refl; ends = omega arith; bytes = refl }))
+    pub hinting-first : {o : List ℕ} {w n : Written} {o' : List ℕ} → 2 ≤ v → v < 3 → Summed (hintBytes (hintHeaderOf x) hints) (24 + 8 * x .hints) o w n o'
+        → Summed (hintSection (hintIndex x hints confirmed) ++ confirmedSection (hintIndex x hints confirmed)) (hintingSize x) o w n o'
+    hinting-first {n = n} {o' = o'} h l p =
+        rw (← sections-are, ← size-is, le-leb 2 v h, lt-leb 3 v l) (summed-both {r = []} {m = 0} p (nothing o' n))
 
     -- version 3 has both
-    pub hinting-both : {o : List ℕ} {at k n : ℕ} {o' o2 : List ℕ} → 3 ≤ v → Put (hintBytes (hintHeaderOf x) hints) (24 + 8 * x .hints) o at k o'
-        → Put (confirmedBytes (x .confirmed) confirmed) (8 + 16 * x .confirmed) o' k n o2
-        → Put (hintSection (hintIndex x hints confirmed) ++ confirmedSection (hintIndex x hints confirmed)) (hintingSize x) o at n o2
+    pub hinting-both : {o : List ℕ} {w k n : Written} {o' o2 : List ℕ} → 3 ≤ v → Summed (hintBytes (hintHeaderOf x) hints) (24 + 8 * x .hints) o w k o'
+        → Summed (confirmedBytes (x .confirmed) confirmed) (8 + 16 * x .confirmed) o' k n o2
+        → Summed (hintSection (hintIndex x hints confirmed) ++ confirmedSection (hintIndex x hints confirmed)) (hintingSize x) o w n o2
     hinting-both h p q =
         let l : 2 ≤ v = omega arith in
-        rw (← sections-are, ← size-is, le-leb 2 v l, le-leb 3 v h) (put-both p q)
+        rw (← sections-are, ← size-is, le-leb 2 v l, le-leb 3 v h) (summed-both p q)
 
     -- their room
     pub hint-room : 2 ≤ v → 24 + 8 * x .hints ≤ hintingSize x

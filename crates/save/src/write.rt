@@ -1,6 +1,7 @@
-// The sections of a file, each written into its own stretch of a lent output.
-use field::copy_first;
-use field::copy_part;
+// The sections of a file, each written into its own stretch of a lent output, and summed.
+use crate::output::Written;
+use summing::copy_first_summed;
+use summing::copy_part_summed;
 use tables::read_header;
 ghost use mathlib.Core.Path.{_≡_};
 ghost use mathlib.Core.Bool.{true};
@@ -8,101 +9,112 @@ ghost use Prim.Native.Nat.{_+_, _*_, _≤_};
 ghost use lib.ListN.{length, drop};
 ghost use Rattle.field.specs.Records.{bytesOf, recordAt};
 ghost use Rattle.rules.specs.Values.{used};
-ghost use Rattle.rules.specs.File.{encodeCheckpoint, encodeFrame, encodeHeld, encodeLsn, encodeHint, encodeConfirmation, over};
+ghost use Rattle.rules.specs.File.{encodeCheckpoint, encodeFrame, encodeHeld, encodeLsn, encodeHint, encodeConfirmation};
 ghost use Rattle.tables.specs.Tables.{checkpointsIn, partsIn, lsnsIn, hintsIn, confirmationsIn, framesIn, decodeHeader, frameOf};
 ghost use Rattle.index.specs.Index.{kindsOk};
-ghost use Rattle.save.specs.Output.{Put};
+ghost use Rattle.save.specs.Output.{Filled, Summed, upTo};
 
-// ---- the first n records of a table, over the start of the stretch that is lent
-fn write_checkpoints(out: &mut [u8], table: &[u8], n: usize)
+// ---- the first n records of a table, over the start of the stretch that is lent, and the hash of them from sum
+fn write_checkpoints(out: &mut [u8], table: &[u8], n: usize, sum: u64) -> u64
     requires { ⌜ (n * 24 ≤ length (now table)) × (n * 24 ≤ length (now out)) ⌝ }
-    ensures { λ _. ⌜ now (out .exit) ≡ over (bytesOf encodeCheckpoint (checkpointsIn n (now (table .entry)))) (now (out .entry)) ⌝ }
+    ensures { λ r. ⌜ Filled (bytesOf encodeCheckpoint (checkpointsIn n (now (table .entry)))) (now (out .entry)) sum r (now (out .exit)) ⌝ }
 {
-    copy_first(out, table, n * 24);
+    copy_first_summed(out, table, n * 24, sum)
 }
 
 // Each kind is 0 or 1.
-fn write_parts(out: &mut [u8], table: &[u8], n: usize)
+fn write_parts(out: &mut [u8], table: &[u8], n: usize, sum: u64) -> u64
     requires { ⌜ (n * 24 ≤ length (now table)) × (n * 24 ≤ length (now out)) × (kindsOk n (now table) ≡ true) ⌝ }
-    ensures { λ _. ⌜ now (out .exit) ≡ over (bytesOf encodeHeld (partsIn n (now (table .entry)))) (now (out .entry)) ⌝ }
+    ensures { λ r. ⌜ Filled (bytesOf encodeHeld (partsIn n (now (table .entry)))) (now (out .entry)) sum r (now (out .exit)) ⌝ }
 {
-    copy_first(out, table, n * 24);
+    copy_first_summed(out, table, n * 24, sum)
 }
 
-fn write_malformed(out: &mut [u8], table: &[u8], n: usize)
+fn write_malformed(out: &mut [u8], table: &[u8], n: usize, sum: u64) -> u64
     requires { ⌜ (n * 4 ≤ length (now table)) × (n * 4 ≤ length (now out)) ⌝ }
-    ensures { λ _. ⌜ now (out .exit) ≡ over (bytesOf encodeLsn (lsnsIn n (now (table .entry)))) (now (out .entry)) ⌝ }
+    ensures { λ r. ⌜ Filled (bytesOf encodeLsn (lsnsIn n (now (table .entry)))) (now (out .entry)) sum r (now (out .exit)) ⌝ }
 {
-    copy_first(out, table, n * 4);
+    copy_first_summed(out, table, n * 4, sum)
 }
 
-fn write_hints(out: &mut [u8], table: &[u8], n: usize)
+fn write_hints(out: &mut [u8], table: &[u8], n: usize, sum: u64) -> u64
     requires { ⌜ (n * 8 ≤ length (now table)) × (n * 8 ≤ length (now out)) ⌝ }
-    ensures { λ _. ⌜ now (out .exit) ≡ over (bytesOf encodeHint (hintsIn n (now (table .entry)))) (now (out .entry)) ⌝ }
+    ensures { λ r. ⌜ Filled (bytesOf encodeHint (hintsIn n (now (table .entry)))) (now (out .entry)) sum r (now (out .exit)) ⌝ }
 {
-    copy_first(out, table, n * 8);
+    copy_first_summed(out, table, n * 8, sum)
 }
 
-fn write_confirmations(out: &mut [u8], table: &[u8], n: usize)
+fn write_confirmations(out: &mut [u8], table: &[u8], n: usize, sum: u64) -> u64
     requires { ⌜ (n * 16 ≤ length (now table)) × (n * 16 ≤ length (now out)) ⌝ }
-    ensures { λ _. ⌜ now (out .exit) ≡ over (bytesOf encodeConfirmation (confirmationsIn n (now (table .entry)))) (now (out .entry)) ⌝ }
+    ensures { λ r. ⌜ Filled (bytesOf encodeConfirmation (confirmationsIn n (now (table .entry)))) (now (out .entry)) sum r (now (out .exit)) ⌝ }
 {
-    copy_first(out, table, n * 16);
+    copy_first_summed(out, table, n * 16, sum)
 }
 
-// ---- the stretch of each section: from at on, up to the place that is answered
-pub fn put_checkpoints(out: &mut [u8], at: usize, table: &[u8], count: u32) -> usize
-    requires { ⌜ (count * 24 ≤ length (now table)) × (at + count * 24 ≤ length (now out)) ⌝ }
-    ensures { λ r. ⌜ Put (bytesOf encodeCheckpoint (checkpointsIn count (now (table .entry)))) (count * 24) (now (out .entry)) at r (now (out .exit)) ⌝ }
+// ---- the stretch of each section: from w on, up to what is answered
+pub fn put_checkpoints(out: &mut [u8], w: Written, table: &[u8], count: u32) -> Written
+    requires { ⌜ (count * 24 ≤ length (now table)) × (w .next + count * 24 ≤ length (now out)) ⌝ }
+    ensures { λ r. ⌜ Summed (bytesOf encodeCheckpoint (checkpointsIn count (now (table .entry)))) (count * 24) (now (out .entry)) w r (now (out .exit)) ⌝ }
 {
+    let at = w.next;
     let n = count as usize;
     let to = at + n * 24;
-    write_checkpoints(&mut out[at..to], table, n);
-    to
+    let sum = write_checkpoints(&mut out[at..to], table, n, w.sum);
+    Written { next: to, sum }
 }
 
-pub fn put_parts(out: &mut [u8], at: usize, table: &[u8], count: u32) -> usize
-    requires { ⌜ (count * 24 ≤ length (now table)) × (at + count * 24 ≤ length (now out)) × (kindsOk count (now table) ≡ true) ⌝ }
-    ensures { λ r. ⌜ Put (bytesOf encodeHeld (partsIn count (now (table .entry)))) (count * 24) (now (out .entry)) at r (now (out .exit)) ⌝ }
+pub fn put_parts(out: &mut [u8], w: Written, table: &[u8], count: u32) -> Written
+    requires { ⌜ (count * 24 ≤ length (now table)) × (w .next + count * 24 ≤ length (now out)) × (kindsOk count (now table) ≡ true) ⌝ }
+    ensures { λ r. ⌜ Summed (bytesOf encodeHeld (partsIn count (now (table .entry)))) (count * 24) (now (out .entry)) w r (now (out .exit)) ⌝ }
 {
+    let at = w.next;
     let n = count as usize;
     let to = at + n * 24;
-    write_parts(&mut out[at..to], table, n);
-    to
+    let sum = write_parts(&mut out[at..to], table, n, w.sum);
+    Written { next: to, sum }
 }
 
-pub fn put_malformed(out: &mut [u8], at: usize, table: &[u8], count: u32) -> usize
-    requires { ⌜ (count * 4 ≤ length (now table)) × (at + count * 4 ≤ length (now out)) ⌝ }
-    ensures { λ r. ⌜ Put (bytesOf encodeLsn (lsnsIn count (now (table .entry)))) (count * 4) (now (out .entry)) at r (now (out .exit)) ⌝ }
+pub fn put_malformed(out: &mut [u8], w: Written, table: &[u8], count: u32) -> Written
+    requires { ⌜ (count * 4 ≤ length (now table)) × (w .next + count * 4 ≤ length (now out)) ⌝ }
+    ensures { λ r. ⌜ Summed (bytesOf encodeLsn (lsnsIn count (now (table .entry)))) (count * 4) (now (out .entry)) w r (now (out .exit)) ⌝ }
 {
+    let at = w.next;
     let n = count as usize;
     let to = at + n * 4;
-    write_malformed(&mut out[at..to], table, n);
-    to
+    let sum = write_malformed(&mut out[at..to], table, n, w.sum);
+    Written { next: to, sum }
 }
 
-pub fn put_hints(out: &mut [u8], at: usize, table: &[u8], count: u32) -> usize
-    requires { ⌜ (count * 8 ≤ length (now table)) × (at + count * 8 ≤ length (now out)) ⌝ }
-    ensures { λ r. ⌜ Put (bytesOf encodeHint (hintsIn count (now (table .entry)))) (count * 8) (now (out .entry)) at r (now (out .exit)) ⌝ }
+pub fn put_hints(out: &mut [u8], w: Written, table: &[u8], count: u32) -> Written
+    requires { ⌜ (count * 8 ≤ length (now table)) × (w .next + count * 8 ≤ length (now out)) ⌝ }
+    ensures { λ r. ⌜ Summed (bytesOf encodeHint (hintsIn count (now (table .entry)))) (count * 8) (now (out .entry)) w r (now (out .exit)) ⌝ }
 {
+    let at = w.next;
     let n = count as usize;
     let to = at + n * 8;
-    write_hints(&mut out[at..to], table, n);
-    to
+    let sum = write_hints(&mut out[at..to], table, n, w.sum);
+    Written { next: to, sum }
 }
 
-pub fn put_confirmations(out: &mut [u8], at: usize, table: &[u8], count: u32) -> usize
-    requires { ⌜ (count * 16 ≤ length (now table)) × (at + count * 16 ≤ length (now out)) ⌝ }
-    ensures { λ r. ⌜ Put (bytesOf encodeConfirmation (confirmationsIn count (now (table .entry)))) (count * 16) (now (out .entry)) at r (now (out .exit)) ⌝ }
+pub fn put_confirmations(out: &mut [u8], w: Written, table: &[u8], count: u32) -> Written
+    requires { ⌜ (count * 16 ≤ length (now table)) × (w .next + count * 16 ≤ length (now out)) ⌝ }
+    ensures { λ r. ⌜ Summed (bytesOf encodeConfirmation (confirmationsIn count (now (table .entry)))) (count * 16) (now (out .entry)) w r (now (out .exit)) ⌝ }
 {
+    let at = w.next;
     let n = count as usize;
     let to = at + n * 16;
-    write_confirmations(&mut out[at..to], table, n);
-    to
+    let sum = write_confirmations(&mut out[at..to], table, n, w.sum);
+    Written { next: to, sum }
 }
 
 // ---- frames: start, length and the bytes
-// Frame number k, whose bytes lie in the store from its byte `from` on, into out from at on. Answers how many bytes it has.
+// The length of a frame, and the sum up to its end.
+struct FrameEnd {
+    len: usize,
+    sum: u64,
+}
+
+// Frame number k, whose bytes lie in the store from its byte `from` on, into out from at on.
 fn put_frame(
     out: &mut [u8],
     at: usize,
@@ -110,46 +122,51 @@ fn put_frame(
     k: usize,
     store: &[u8],
     from: usize,
-) -> usize
+    sum: u64,
+) -> FrameEnd
     requires { ⌜ (k * 8 + 8 ≤ length (now headers)) × (at + 8 + recordAt 8 decodeHeader (now headers) k .len ≤ length (now out)) × (from + recordAt 8 decodeHeader (now headers) k .len ≤ length (now store)) ⌝ }
-    ensures { λ r. ⌜ (r ≡ recordAt 8 decodeHeader (now (headers .entry)) k .len) × Put (encodeFrame (frameOf (recordAt 8 decodeHeader (now (headers .entry)) k) (drop from (now (store .entry))))) (8 + r) (now (out .entry)) at (at + 8 + r) (now (out .exit)) ⌝ }
+    ensures { λ r. ⌜ (r .len ≡ recordAt 8 decodeHeader (now (headers .entry)) k .len) × Summed (encodeFrame (frameOf (recordAt 8 decodeHeader (now (headers .entry)) k) (drop from (now (store .entry))))) (8 + r .len) (now (out .entry)) (upTo at sum) (upTo (at + 8 + r .len) (r .sum)) (now (out .exit)) ⌝ }
 {
     let h = read_header(headers, k);
     let len = h.len as usize;
-    copy_part(out, at, headers, k * 8, 8);
-    copy_part(out, at + 8, store, from, len);
-    len
+    let before = copy_part_summed(out, at, headers, k * 8, 8, sum);
+    let behind = copy_part_summed(out, at + 8, store, from, len, before);
+    FrameEnd { len, sum: behind }
 }
 
-fn write_frames(out: &mut [u8], headers: &[u8], store: &[u8], f: usize)
+fn write_frames(out: &mut [u8], headers: &[u8], store: &[u8], f: usize, sum: u64) -> u64
     requires { ⌜ (f * 8 ≤ length (now headers)) × (used (framesIn f (now headers) (now store)) ≤ length (now store)) × (f * 8 + used (framesIn f (now headers) (now store)) ≤ length (now out)) ⌝ }
-    ensures { λ _. ⌜ now (out .exit) ≡ over (bytesOf encodeFrame (framesIn f (now (headers .entry)) (now (store .entry)))) (now (out .entry)) ⌝ }
+    ensures { λ r. ⌜ Filled (bytesOf encodeFrame (framesIn f (now (headers .entry)) (now (store .entry)))) (now (out .entry)) sum r (now (out .exit)) ⌝ }
 {
     let mut at = 0;
     let mut from = 0;
+    let mut x = sum;
     let mut k = 0;
     while k < f {
-        let len = put_frame(out, at, headers, k, store, from);
-        at += 8 + len;
-        from += len;
+        let e = put_frame(out, at, headers, k, store, from, x);
+        at += 8 + e.len;
+        from += e.len;
+        x = e.sum;
         k += 1;
     }
+    x
 }
 
 // bytes is what all frames hold.
 pub fn put_frames(
     out: &mut [u8],
-    at: usize,
+    w: Written,
     headers: &[u8],
     store: &[u8],
     count: u32,
     bytes: u64,
-) -> usize
-    requires { ⌜ (count * 8 ≤ length (now headers)) × (used (framesIn count (now headers) (now store)) ≤ length (now store)) × (at + (count * 8 + bytes) ≤ length (now out)) × (bytes ≡ used (framesIn count (now headers) (now store))) ⌝ }
-    ensures { λ r. ⌜ Put (bytesOf encodeFrame (framesIn count (now (headers .entry)) (now (store .entry)))) (count * 8 + used (framesIn count (now (headers .entry)) (now (store .entry)))) (now (out .entry)) at r (now (out .exit)) ⌝ }
+) -> Written
+    requires { ⌜ (count * 8 ≤ length (now headers)) × (used (framesIn count (now headers) (now store)) ≤ length (now store)) × (w .next + (count * 8 + bytes) ≤ length (now out)) × (bytes ≡ used (framesIn count (now headers) (now store))) ⌝ }
+    ensures { λ r. ⌜ Summed (bytesOf encodeFrame (framesIn count (now (headers .entry)) (now (store .entry)))) (count * 8 + used (framesIn count (now (headers .entry)) (now (store .entry)))) (now (out .entry)) w r (now (out .exit)) ⌝ }
 {
+    let at = w.next;
     let f = count as usize;
     let to = at + (f * 8 + bytes as usize);
-    write_frames(&mut out[at..to], headers, store, f);
-    to
+    let sum = write_frames(&mut out[at..to], headers, store, f, w.sum);
+    Written { next: to, sum }
 }

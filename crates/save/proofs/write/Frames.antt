@@ -13,14 +13,17 @@ use Rattle.field.proofs.Format.{Layout}
 use Rattle.field.proofs.Records.{records-length}
 use Rattle.field.specs.Fields.{FieldsFit}
 use Rattle.rules.specs.Values.{Frame, used}
-use Rattle.rules.specs.File.{encodeFrame, encodeFrameHeader, over}
+use Rattle.rules.specs.File.{encodeFrame, encodeFrameHeader}
 use Rattle.tables.specs.declared.FrameHeader.{FrameHeader}
 use Rattle.tables.specs.Tables.{decodeHeader, headersIn, frameOf, framesOf, framesIn}
 use Rattle.tables.proofs.Walk.{records-turn}
 use Rattle.tables.proofs.Frames.{stretch-length, stretch-within, frames-length, frames-used, weight, weight-on}
 use Rattle.laws.proofs.Readers.{frame-length}
-use Rattle.save.specs.Output.{Put}
+use Rattle.fnv.specs.Fnv.{fnvFrom, prime64}
+use Rattle.fnv.proofs.Hash.{joined}
+use Rattle.save.specs.Output.{Put, Filled, Summed, upTo}
 use Rattle.save.proofs.output.Stretches.{put-both, put-copy, put-over}
+use Rattle.save.proofs.output.Sums.{sum-both}
 
 pub frames-size : (fs : List Frame) → length (bytesOf encodeFrame fs) ≡ length fs * 8 + used fs
 unfolding bytesOf used
@@ -58,27 +61,36 @@ module _ (headers store : List ℕ) (k from : ℕ) (b : Bytes headers) (h : k * 
       rw (frame-is g, ← e) (put-both {s = take 8 (drop (k * 8) headers)} {r = take len (drop from store)} (put-copy _ 8 o at (length-take-le 8 (drop (k * 8) headers) (simp length-drop (omega arith))) (omega arith) p)
       (put-copy _ len x (at + 8) (length-take-le len (drop from store) (simp length-drop (omega arith))) (omega arith) q))
 
+  -- the hash of its header, and then of its bytes
+  pub frame-hash : (u v r len : ℕ) → len ≡ recordAt 8 decodeHeader headers k .len → from + len ≤ length store
+      → v ≡ fnvFrom 64 prime64 u (take 8 (drop (k * 8) headers)) → r ≡ fnvFrom 64 prime64 v (take len (drop from store))
+      → r ≡ fnvFrom 64 prime64 u (encodeFrame (frameOf (recordAt 8 decodeHeader headers k) (drop from store)))
+  frame-hash u v r len e l f g =
+      let h' : from + recordAt 8 decodeHeader headers k .len ≤ length store = rw (← e) l in
+      rw (frame-is h', ← e) (sum-both u (take 8 (drop (k * 8) headers)) (take len (drop from store)) f g)
+
 -- ---- the loop
 -- the bytes of the frames from number k on, whose own bytes lie in the store from `from` on
 abbrev left : ℕ → List ℕ → List ℕ → ℕ → ℕ → List ℕ
 left f headers store k from = bytesOf encodeFrame (framesOf (drop k (headersIn f headers)) (drop from store))
 
--- k frames of old are written up to at; what is left of them gives the whole
-pub record Framing (f : ℕ) (headers store old : List ℕ) (k at from : ℕ) (new : List ℕ) : Type 0 where
+-- k frames of old are written up to at, with the hash x; what is left of them gives the whole, and its hash from u
+pub record Framing (f : ℕ) (headers store old : List ℕ) (u k at from x : ℕ) (new : List ℕ) : Type 0 where
   pub within : k ≤ f
   pub room : at + ((f - k) * 8 + weight (drop k (headersIn f headers))) ≤ length new
   pub held : from + weight (drop k (headersIn f headers)) ≤ length store
   pub bytes : sets new at (left f headers store k from) ≡ sets old 0 (bytesOf encodeFrame (framesIn f headers store))
   pub same : length new ≡ length old
+  pub hashed : fnvFrom 64 prime64 x (left f headers store k from) ≡ fnvFrom 64 prime64 u (bytesOf encodeFrame (framesIn f headers store))
 
-module _ (f : ℕ) (headers store old : List ℕ) where
+module _ (f : ℕ) (headers store old : List ℕ) (u : ℕ) where
   pub frames-start : used (framesIn f headers store) ≤ length store → f * 8 + used (framesIn f headers store) ≤ length old
-      → Framing f headers store old 0 0 0 old
+      → Framing f headers store old u 0 0 0 u old
   frames-start h g =
       let e = frames-used (headersIn f headers) [] store in
-      record { within = omega arith; room = omega arith; held = omega arith; bytes = refl; same = refl }
+      record { within = omega arith; room = omega arith; held = omega arith; bytes = refl; same = refl; hashed = refl }
 
-  module _ {k at from : ℕ} {new : List ℕ} (i : Framing f headers store old k at from new) where
+  module _ {k at from x : ℕ} {new : List ℕ} (i : Framing f headers store old u k at from x new) where
     -- what a turn may use
     pub frame-room : k < f → (at + 8 + recordAt 8 decodeHeader headers k .len ≤ length new) × (from + recordAt 8 decodeHeader headers k .len ≤ length store)
     frame-room h =
@@ -90,27 +102,33 @@ module _ (f : ℕ) (headers store old : List ℕ) where
     unfolding framesOf bytesOf
     left-turn h = rw (records-turn 8 decodeHeader f headers k h, drop-drop)
 
-    pub frames-on : {len n : ℕ} {new' : List ℕ} → k < f → len ≡ recordAt 8 decodeHeader headers k .len
-        → Put (encodeFrame (frameOf (recordAt 8 decodeHeader headers k) (drop from store))) (8 + len) new at n new'
-        → Framing f headers store old (k + 1) (at + (8 + len)) (from + len) new'
-    frames-on {len} {n} {new'} h e p =
+    pub frames-on : {len n y : ℕ} {new' : List ℕ} → k < f → len ≡ recordAt 8 decodeHeader headers k .len
+        → Summed (encodeFrame (frameOf (recordAt 8 decodeHeader headers k) (drop from store))) (8 + len) new (upTo at x) (upTo n y) new'
+        → Framing f headers store old u (k + 1) (at + (8 + len)) (from + len) y new'
+    frames-on {len} {n} {y} {new'} h e d =
+        let p = d .put in
         let w = weight-on f headers k 0 h refl refl in
         let s : length new' ≡ length new = ap length (p .bytes) ∙ simp length-sets in
-        let x = encodeFrame (frameOf (recordAt 8 decodeHeader headers k) (drop from store)) in
+        let z = encodeFrame (frameOf (recordAt 8 decodeHeader headers k) (drop from store)) in
         let r = left f headers store (k + 1) (from + recordAt 8 decodeHeader headers k .len) in
-        let b : sets (sets new at x) (at + length x) r ≡ sets new at (left f headers store k from) = sets-more x r new at ∙ ap (sets new at) (sym (left-turn h)) in
+        let b : sets (sets new at z) (at + length z) r ≡ sets new at (left f headers store k from) = sets-more z r new at ∙ ap (sets new at) (sym (left-turn h)) in
         record {
           within = omega arith;
           room = omega (arith, i .room);
           held = omega (arith, i .held);
           bytes = rw (p .bytes, ← p .size, e) (b ∙ i .bytes);
           same = s ∙ i .same;
+          hashed = rw e (ap (λ (v : ℕ). fnvFrom 64 prime64 v r) (d .sum) ∙ sym (joined 64 prime64 x z r) ∙ ap (fnvFrom 64 prime64 x) (sym (left-turn h)) ∙ i .hashed);
         }
 
-    pub frames-end : f ≤ k → f * 8 + used (framesIn f headers store) ≤ length old → new ≡ over (bytesOf encodeFrame (framesIn f headers store)) old
-    unfolding framesOf bytesOf
+    pub frames-end : f ≤ k → f * 8 + used (framesIn f headers store) ≤ length old → Filled (bytesOf encodeFrame (framesIn f headers store)) old u x new
+    unfolding framesOf bytesOf fnvFrom
     frames-end h g =
         let l : length (headersIn f headers) ≤ k = rw records-length h in
         let z = framesIn-size f headers store in
-        let e : new ≡ sets old 0 (bytesOf encodeFrame (framesIn f headers store)) = sym (ap (λ (hs : List FrameHeader). sets new at (bytesOf encodeFrame (framesOf hs (drop from store)))) (drop-of-length-le (headersIn f headers) l)) ∙ i .bytes in
-        put-over {s = bytesOf encodeFrame (framesIn f headers store)} {o = old} (record { size = z; ends = refl; bytes = e }) g
+        let n = drop-of-length-le (headersIn f headers) l in
+        let e : new ≡ sets old 0 (bytesOf encodeFrame (framesIn f headers store)) = sym (ap (λ (hs : List FrameHeader). sets new at (bytesOf encodeFrame (framesOf hs (drop from store)))) n) ∙ i .bytes in
+        record {
+          bytes = put-over {s = bytesOf encodeFrame (framesIn f headers store)} {o = old} (record { size = z; ends = refl; bytes = e }) g;
+          sum = sym (ap (λ (hs : List FrameHeader). fnvFrom 64 prime64 x (bytesOf encodeFrame (framesOf hs (drop from store)))) n) ∙ i .hashed;
+        }

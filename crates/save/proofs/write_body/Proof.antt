@@ -1,5 +1,5 @@
-use Rattle.save.proofs.output.Stretches.{put-both}
-use Rattle.save.proofs.Sections.{put-same, put-header}
+use Rattle.save.proofs.output.Sums.{summed-both}
+use Rattle.save.proofs.Sections.{header-summed, summed-same}
 use Rattle.save.proofs.Numbers.{sizes-are, body-is}
 use native.Mathlib.Omega.{arith}
 use Rattle.index.specs.Index.{Tables, tables}
@@ -16,6 +16,10 @@ lent s =
 -- where the header is written
 abbrev header-at : tie.After-put-scan → tie.After-write-header
 header-at p = search
+
+-- where its numbers are said
+abbrev says-at : tie.After-write-header → tie.After-header-of
+says-at p = search
 
 write-header-requires : tie.Need-write-header-requires
 write-header-requires c κs =
@@ -36,19 +40,19 @@ put-hinting-requires c κs =
     let scan : tie.After-put-scan = search in
     let header = header-at scan in
     let sizes = sizes-are (start .args .x) (lent start) in
-    (start .pre .1, omega (arith, start .pre .2, header .write-header .kept .0, scan .put-scan .ensures .ends, scan .put-scan .kept .0))
+    (start .pre .1, omega (arith, start .pre .2, header .write-header .kept .0, scan .put-scan .ensures .put .ends, scan .put-scan .kept .0))
 
 returns : tie.Need-returns
 returns c =
     let start : tie.Start = search in
-    let says : tie.After-header-of = search in
     let scan : tie.After-put-scan = search in
     let hinting : tie.After-put-hinting = search in
     let header = header-at scan in
+    let says = says-at header in
     let sizes = sizes-are (start .args .x) (lent start) in
-    put-same (body-is (start .args .x) (lent start))
-    (put-both (put-header (says .header-of .ensures (lent start)) (omega (arith, start .pre .2)) (header .write-header .ensures))
-    (put-both (scan .put-scan .ensures) (hinting .put-hinting .ensures)))
+    summed-same (body-is (start .args .x) (lent start))
+    (summed-both (header-summed (says .header-of .ensures (lent start)) (omega (arith, start .pre .2)) (header .write-header .ensures))
+    (summed-both (scan .put-scan .ensures) (hinting .put-hinting .ensures)))
 
 pub write-body-spec : {M : Type 1} → statement M
 write-body-spec =

@@ -1,4 +1,5 @@
-use Rattle.save.proofs.output.Stretches.{put-both, put-over}
+use Rattle.save.proofs.output.Sums.{summed-both}
+use Rattle.save.proofs.Sections.{filled}
 use borrow.Author.Needs.{needs}
 use Rattle.save.proofs.write_hint_section.Statement.{statement}
 use Rattle.save.proofs.write_hint_section.Tie as tie
@@ -8,7 +9,7 @@ returns c =
     let after-write-hint-header : tie.After-write-hint-header = search in
     let after-put-hints : tie.After-put-hints = search in
     let start : tie.Start = search in
-    put-over (put-both (after-write-hint-header .write-hint-header .ensures) (after-put-hints .put-hints .ensures)) (start .pre .1)
+    filled (summed-both (after-write-hint-header .write-hint-header .ensures) (after-put-hints .put-hints .ensures)) (start .pre .1)
 
 pub write-hint-section-spec : {M : Type 1} → statement M
 write-hint-section-spec =

@@ -1,13 +1,14 @@
-use Rattle.save.proofs.write.Frames.{framed}
+use Rattle.save.proofs.write.Frames.{framed, frame-hash}
 use mathlib.Core.Path.{ap}
+use Rattle.field.specs.Records.{Bytes}
 use Rattle.tables.specs.declared.FrameHeader.{FrameHeader}
 use native.Mathlib.Omega.{arith}
 use borrow.Author.Needs.{needs}
 use Rattle.save.proofs.write.put_frame.Statement.{statement}
 use Rattle.save.proofs.write.put_frame.Tie as tie
 
-copy-part-requires-2 : tie.Need-copy-part-requires-2
-copy-part-requires-2 c κs =
+copy-part-summed-requires-2 : tie.Need-copy-part-summed-requires-2
+copy-part-summed-requires-2 c κs =
     let after-read-header : tie.After-read-header = search in
     let start : tie.Start = search in
     let e = ap (λ (h : FrameHeader). h .len) (after-read-header .read-header .ensures) in omega (arith, start .pre)
@@ -17,9 +18,16 @@ returns c =
     let after-read-header : tie.After-read-header = search in
     let start : tie.Start = search in
     let after-shared-slice-known : tie.After-shared-slice-known = search in
-    let after-copy-part : tie.After-copy-part = search in
-    let after-copy-part2 : tie.After-copy-part2 = search in
-    let e = ap (λ (h : FrameHeader). h .len) (after-read-header .read-header .ensures) in (e, framed (start .args .headers .now) (start .args .store .now) (start .args .k) (start .args .from) (λ i. after-shared-slice-known .shared-slice-known .given i .fits) (start .pre .0) (start .args .out .now) (start .args .at) _ e (omega (arith, start .pre)) (omega (arith, start .pre)) (after-copy-part .copy-part .kept .0) (after-copy-part .copy-part .ensures) (after-copy-part2 .copy-part2 .ensures))
+    let copied : tie.After-copy-part-summed = search in
+    let copied2 : tie.After-copy-part-summed2 = search in
+    let bytes : Bytes (start .args .headers .now) = λ i. after-shared-slice-known .shared-slice-known .given i .fits in
+    let e = ap (λ (h : FrameHeader). h .len) (after-read-header .read-header .ensures) in (
+      e,
+      record {
+        put = framed (start .args .headers .now) (start .args .store .now) (start .args .k) (start .args .from) bytes (start .pre .0) (start .args .out .now) (start .args .at) _ e (omega (arith, start .pre)) (omega (arith, start .pre)) (copied .copy-part-summed .kept .0) (copied .copy-part-summed .ensures .0) (copied2 .copy-part-summed2 .ensures .0);
+        sum = frame-hash (start .args .headers .now) (start .args .store .now) (start .args .k) (start .args .from) bytes (start .pre .0) (start .args .sum) (copied .copy-part-summed .result) (copied2 .copy-part-summed2 .result) _ e (omega (arith, start .pre)) (copied .copy-part-summed .ensures .1) (copied2 .copy-part-summed2 .ensures .1);
+      },
+    )
 
 pub put-frame-spec : {M : Type 1} → statement M
 put-frame-spec =
@@ -30,6 +38,6 @@ put-frame-spec =
     (λ c. search needs)
     (λ c κs. search needs)
     (λ c. search needs)
-    copy-part-requires-2
+    copy-part-summed-requires-2
     (λ c. search needs)
     returns)
