@@ -1,4 +1,4 @@
-// Numbers in bytes, copies and comparisons.
+// Numbers in bytes, copies and comparisons, and lists of records in bytes.
 ghost use mathlib.Core.Path.{_≡_};
 ghost use Prim.Native.Nat.{_+_, _*_, _≤_, _<_, _%_, min};
 ghost use mathlib.Core.List.{_++_};

@@ -1,4 +1,4 @@
-// The header of a file: its table of fields, read and written through it.
+// The header of a file: its table of fields, read and written through it, and questions 23 to 30.
 pub mod questions;
 
 use field::read_u32;

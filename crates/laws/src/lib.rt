@@ -1,4 +1,4 @@
-// Theorems on saving and loading; this crate has no function.
+// Laws of the definitions that only proofs use: saving and loading, scans, hint lists, absorbing; no function.
 pub mod absorbing;
 pub mod hint_lists;
 pub mod scans;

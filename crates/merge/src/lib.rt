@@ -1,4 +1,4 @@
-// Merging two lists in their tables.
+// merge: two lists joined in their tables, and questions 41 to 43.
 pub mod common;
 pub mod goes_further;
 pub mod numbers;

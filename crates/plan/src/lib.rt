@@ -1,4 +1,4 @@
-// Where to start for a frame.
+// plan: where to start for a frame, and the bytes of a held part.
 mod search;
 
 use crate::search::at_end;

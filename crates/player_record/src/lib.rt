@@ -1,4 +1,4 @@
-// What the player's C program calls for recorders: each call over blocks and lent tables, answered by a number.
+// What the player's C program calls for recorders, hints and confirmations: each call over blocks and lent tables, answered by a number.
 mod block;
 pub mod hint_calls;
 

@@ -1,4 +1,4 @@
-// A recorder: its numbers by value, and its lists in four lent tables. Questions 1 to 4, the recorder of an index, and finish.
+// A recorder: its numbers by value, and its lists in four lent tables. Questions 1 to 4, the recorder of an index, record and finish.
 mod asked;
 mod modes;
 pub mod record;

@@ -1,4 +1,4 @@
-// The values that document 01 speaks of. A table's lists are defined on values in specs/.
+// Document 01 as definitions on values (specs), the types they speak of, and evaluated examples.
 
 // LIM: one more than the largest frame number of a first record.
 pub const MAX_NEXT_ACCEPTABLE: u32 = 1166881;

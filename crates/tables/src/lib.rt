@@ -1,4 +1,4 @@
-// The sections of a list as byte tables: readers of their records.
+// The bridge from tables to lists: what a table's bytes stand for; readers and writers of records, and the kinds of parts.
 pub mod kinds;
 pub mod part_records;
 

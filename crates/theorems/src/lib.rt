@@ -1,2 +1,2 @@
-// Theorems about the definitions, on values; no function.
+// Every statement that answers the three demands and the change requests: on values, in tables, about the calls for C; no function.
 pub mod disc;
