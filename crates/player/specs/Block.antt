@@ -107,6 +107,10 @@ bringsWords b =
     bit (b .checkpoints) ∷ bit (b .ending) ∷ bit (b .parts) ∷ bit (b .malformed) ∷ bit (b .hints) ∷ bit (b .confirmed) ∷ bit (b .fingerprint) ∷ bit (b .image)
     ∷ 0 ∷ 0 ∷ 0 ∷ 0 ∷ 0 ∷ 0 ∷ 0 ∷ 0 ∷ 0 ∷ 0 ∷ 0 ∷ 0 ∷ 0 ∷ 0 ∷ 0 ∷ 0 ∷ []
 
+-- one word, and words of 0
+abbrev pub oneWord : ℕ → List ℕ
+oneWord v = v ∷ 0 ∷ 0 ∷ 0 ∷ 0 ∷ 0 ∷ 0 ∷ 0 ∷ 0 ∷ 0 ∷ 0 ∷ 0 ∷ 0 ∷ 0 ∷ 0 ∷ 0 ∷ 0 ∷ 0 ∷ 0 ∷ 0 ∷ 0 ∷ 0 ∷ 0 ∷ 0 ∷ []
+
 -- the length saved, or the refusal number
 unfoldable pub savedNumber : Saved → ℕ
 savedNumber (saved.Refused n) = n

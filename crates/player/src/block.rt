@@ -36,7 +36,7 @@ ghost use Rattle.index.specs.Calls.{madeOf};
 ghost use Rattle.plan.specs.Calls.{plannedOf};
 ghost use Rattle.adds.specs.Brings.{addsOf};
 ghost use Rattle.sizes.specs.Sizes.{sizedOf, fileAreaOf};
-ghost use Rattle.player.specs.Block.{called, into, planArray, headIndex, headRecorder, headHintRecorder, areaFrom, assemblyWords, planWords, firstWords, sizeWords, areaWords, bringsWords, savedNumber};
+ghost use Rattle.player.specs.Block.{called, into, planArray, headIndex, headRecorder, headHintRecorder, areaFrom, assemblyWords, planWords, firstWords, sizeWords, areaWords, bringsWords, oneWord, savedNumber};
 ghost use Rattle.player.specs.Needs.{resumeWords};
 
 // ---- from blocks
@@ -346,6 +346,38 @@ fn brings_words(b: Brings) -> [u64; 24]
         confirmed,
         fingerprint,
         image,
+        0,
+        0,
+        0,
+        0,
+        0,
+        0,
+        0,
+        0,
+        0,
+        0,
+        0,
+        0,
+        0,
+        0,
+        0,
+        0,
+    ]
+}
+
+// One word, and words of 0.
+pub fn one_word(v: u64) -> [u64; 24]
+    ensures { λ r. ⌜ r ≡ oneWord v ⌝ }
+{
+    [
+        v,
+        0,
+        0,
+        0,
+        0,
+        0,
+        0,
+        0,
         0,
         0,
         0,

@@ -26,6 +26,7 @@ use Rattle.confirmations.specs.declared.Kept.{Kept}
 use Rattle.confirmations.specs.declared.Kept.the-variants as kept
 use Rattle.recorder.specs.declared.Recorded.{Recorded}
 use Rattle.recorder.specs.declared.Recorded.the-variants as recorded
+use Rattle.player.specs.Block.{oneWord}
 
 -- ---- a frame under assembly
 -- 0 Dst, anything else Dsd
@@ -53,9 +54,6 @@ createdOf created.Nothing = Accepted none
 createdOf (created.Recorder r) = Accepted (some r)
 
 -- ---- words
-abbrev pub oneWord : ℕ → List ℕ
-oneWord v = v ∷ 0 ∷ 0 ∷ 0 ∷ 0 ∷ 0 ∷ 0 ∷ 0 ∷ 0 ∷ 0 ∷ 0 ∷ 0 ∷ 0 ∷ 0 ∷ 0 ∷ 0 ∷ 0 ∷ 0 ∷ 0 ∷ 0 ∷ 0 ∷ 0 ∷ 0 ∷ 0 ∷ []
-
 -- where there is no hint recorder, the words are 0: its spacing, the first word, is not
 unfoldable pub createdWords : Option HintRecorder → List ℕ
 createdWords none = oneWord 0

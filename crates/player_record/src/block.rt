@@ -10,6 +10,7 @@ use hint_recorder::Created;
 use hint_recorder::Seen;
 use hint_recorder::Taken;
 use player::block::bit_word;
+use player::block::one_word;
 use recorder::Recorded;
 use rules::Assembling;
 use rules::FrameKind;
@@ -23,7 +24,7 @@ ghost use Rattle.blocks.specs.From.{imageFrom};
 ghost use Rattle.blocks.specs.Head.{recorderWords, hintRecorderWords};
 ghost use Rattle.hint.specs.Calls.{hintedOf, answerOf};
 ghost use Rattle.player.specs.Block.{called, into};
-ghost use Rattle.player_record.specs.Block.{kindFrom, frameFrom, oneWord, recordedOf, seenOf, createdOf, createdWords, hintWords, foundWords, calledBoth, takenInto, keptInto, absorbedInto};
+ghost use Rattle.player_record.specs.Block.{kindFrom, frameFrom, recordedOf, seenOf, createdOf, createdWords, hintWords, foundWords, calledBoth, takenInto, keptInto, absorbedInto};
 
 // ---- a frame under assembly
 // 0 Dst, anything else Dsd.
@@ -62,37 +63,6 @@ pub fn image_given(mark: u8, image: u64) -> ImageId
 }
 
 // ---- into blocks
-fn one_word(v: u64) -> [u64; 24]
-    ensures { λ r. ⌜ r ≡ oneWord v ⌝ }
-{
-    [
-        v,
-        0,
-        0,
-        0,
-        0,
-        0,
-        0,
-        0,
-        0,
-        0,
-        0,
-        0,
-        0,
-        0,
-        0,
-        0,
-        0,
-        0,
-        0,
-        0,
-        0,
-        0,
-        0,
-        0,
-    ]
-}
-
 pub fn put_recorded(block: &mut [u8], recorded: Recorded) -> u32
     requires { ⌜ 192 ≤ length (now block) ⌝ }
     ensures { λ r. ⌜ called r (now (block .exit)) ≡ into recorderWords (now (block .entry)) (recordedOf recorded) ⌝ }
