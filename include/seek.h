@@ -80,6 +80,7 @@ enum {
     SEEK_MERGE_AREA = 41,
     SEEK_MERGE_IDS = 42,
     SEEK_MERGE_CHECKPOINTS = 43,
+    SEEK_FOLD = 49,               /* the bits that a sum is folded to */
     SEEK_DISC = 54
 };
 
@@ -127,6 +128,7 @@ static inline const char *seek_text(uint32_t number)
     case SEEK_MERGE_AREA: return "the lists are of different areas or intervals";
     case SEEK_MERGE_IDS: return "the lists have different image ids or fingerprints";
     case SEEK_MERGE_CHECKPOINTS: return "the lists disagree about a checkpoint or the end of the disc";
+    case SEEK_FOLD: return "k is not between half the width and the width less one";
     case SEEK_DISC: return "the disc file's contents table breaks its rules, or two lists share a slot, or one is too long";
     default: return "no such number";
     }
@@ -232,6 +234,9 @@ uint64_t seek_raw_disc_saved_length(SEEK_IN(head), SEEK_TABLES_IN);
 uint64_t seek_raw_disc_saved_length_both(SEEK_IN(head), SEEK_IN(other), SEEK_TABLES_IN, SEEK_TABLES_IN2);
 uint64_t seek_raw_disc_save(SEEK_IN(head), SEEK_TABLES_IN, SEEK_OUT(out));
 uint64_t seek_raw_disc_save_both(SEEK_IN(head), SEEK_IN(other), SEEK_TABLES_IN, SEEK_TABLES_IN2, SEEK_OUT(out));
+uint32_t seek_raw_sum32(SEEK_IN(bytes));
+uint32_t seek_raw_fold32(uint32_t sum, uint32_t k, SEEK_OUT(answer));
+uint32_t seek_raw_fold64(uint64_t sum, uint32_t k, SEEK_OUT(answer));
 
 #define SEEK_LENT_(t) (t).at, (t).length
 #define SEEK_LENT_SEVEN_(l) \
@@ -661,6 +666,28 @@ static inline uint32_t seek_first_record(const uint8_t *sector, size_t length, i
 
 /* 64-bit FNV-1a. */
 static inline uint64_t seek_sum(const uint8_t *bytes, size_t length) { return seek_raw_sum(bytes, length); }
+
+/* ---- short sums */
+/* 32-bit FNV-1a. */
+static inline uint32_t seek_sum32(const uint8_t *bytes, size_t length) { return seek_raw_sum32(bytes, length); }
+
+/* A sum folded to k bits: the sum shifted right by k, xored with the sum modulo 2^k. Any number of the width may be folded. k is 16 to 31 for a sum of 32 bits
+ * and 32 to 63 for one of 64 bits. Answers 0 or SEEK_FOLD; *folded is 0 where it refuses. */
+static inline uint32_t seek_fold32(uint32_t sum, uint32_t k, uint32_t *folded)
+{
+    uint8_t answer[SEEK_BLOCK] = {0};
+    uint32_t n = seek_raw_fold32(sum, k, answer, SEEK_BLOCK);
+    *folded = (uint32_t)seek_word(answer, 0);
+    return n;
+}
+
+static inline uint32_t seek_fold64(uint64_t sum, uint32_t k, uint64_t *folded)
+{
+    uint8_t answer[SEEK_BLOCK] = {0};
+    uint32_t n = seek_raw_fold64(sum, k, answer, SEEK_BLOCK);
+    *folded = seek_word(answer, 0);
+    return n;
+}
 
 #ifdef __cplusplus
 }

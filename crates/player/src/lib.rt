@@ -1,5 +1,6 @@
 // What the player's C program calls for lists: each call over blocks and lent tables, answered by a number.
 pub mod block;
+pub mod sums;
 
 use crate::block::area_from;
 use crate::block::index_in;
