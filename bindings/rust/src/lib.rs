@@ -8,11 +8,13 @@ mod error;
 mod hints;
 mod raw;
 mod recorder;
+mod sums;
 
 pub use disc::{contents, load_disc, save_disc};
 pub use error::Error;
 pub use hints::{Hint, HintRecorder, Hinted};
 pub use recorder::{Frame, Recorder};
+pub use sums::{fold32, fold64, sum32};
 
 use error::answer;
 use raw::BLOCK;

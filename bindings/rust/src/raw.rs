@@ -126,4 +126,7 @@ unsafe extern "C" {
         usize, u1: *const u8, m1: usize, u2: *const u8, m2: usize, u3: *const u8, m3: usize, u4: *const u8, m4: usize, u5: *const u8, m5: usize, u6:
         *const u8, m6: usize, out: *mut u8, out_length: usize,
     ) -> u64;
+    pub fn seek_raw_sum32(bytes: *const u8, length: usize) -> u32;
+    pub fn seek_raw_fold32(sum: u32, k: u32, answer: *mut u8, answer_length: usize) -> u32;
+    pub fn seek_raw_fold64(sum: u64, k: u32, answer: *mut u8, answer_length: usize) -> u32;
 }
