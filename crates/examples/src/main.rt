@@ -4,6 +4,7 @@ mod files;
 mod hashes;
 mod lines;
 mod records;
+mod sums;
 mod tally;
 
 fn main() {
@@ -11,6 +12,7 @@ fn main() {
     let t = hashes::vectors(t);
     let t = records::examples(t);
     let t = files::examples(t);
+    let t = sums::examples(t);
     lines::total(t);
     fields::table();
 }
