@@ -180,6 +180,9 @@ static uint64_t call_disc_length(void) { return seek_raw_disc_saved_length(LENT(
 static uint64_t call_disc_length_both(void) { return seek_raw_disc_saved_length_both(LENT(HEAD), LENT(HEAD4), TABLES, SLOT1); }
 static uint64_t call_disc_save(void) { return seek_raw_disc_save(LENT(HEAD), TABLES, LENT(DISC_OUT)); }
 static uint64_t call_disc_save_both(void) { return seek_raw_disc_save_both(LENT(HEAD), LENT(HEAD4), TABLES, SLOT1, LENT(DISC_OUT)); }
+static uint64_t call_sum32(void) { return seek_raw_sum32(LENT(FILE_)), 0; }
+static uint64_t call_fold32(void) { return seek_raw_fold32((uint32_t)v[0], (uint32_t)v[1], LENT(ANSWER)); }
+static uint64_t call_fold64(void) { return seek_raw_fold64(v[0], (uint32_t)v[1], LENT(ANSWER)); }
 
 #define BIT(k) (UINT64_C(1) << (k))
 #define SEVEN (BIT(CHECKPOINTS) | BIT(FRAMES) | BIT(STORE) | BIT(PARTS) | BIT(MALFORMED) | BIT(HINTS) | BIT(CONFIRMED))
@@ -229,13 +232,16 @@ static const struct {
     {"disc_saved_length_both", call_disc_length_both, BIT(HEAD) | BIT(HEAD4) | SEVEN | SEVEN4, 0, 1, {0}},
     {"disc_save", call_disc_save, BIT(HEAD) | BIT(DISC_OUT) | SEVEN, BIT(DISC_OUT), 1, {0}},
     {"disc_save_both", call_disc_save_both, BIT(HEAD) | BIT(HEAD4) | BIT(DISC_OUT) | SEVEN | SEVEN4, BIT(DISC_OUT), 1, {0}},
+    {"sum32", call_sum32, BIT(FILE_), 0, 0, {0}},
+    {"fold32", call_fold32, BIT(ANSWER), BIT(ANSWER), 0, {0xbf9cf968, 24}},
+    {"fold64", call_fold64, BIT(ANSWER), BIT(ANSWER), 0, {0x85944171f73967e8, 48}},
 };
 enum { CALLS = sizeof calls / sizeof *calls };
 
 static int check(unsigned c, uint64_t answer)
 {
     int refused = calls[c].lengths ? answer < 88 : answer != 0, k;
-    if (refused && (answer == 0 || (answer > 43 && answer != SEEK_DISC))) {
+    if (refused && (answer == 0 || (answer > 43 && answer != SEEK_FOLD && answer != SEEK_DISC))) {
         fprintf(stderr, "%s: %" PRIu64 " is no refusal number\n", calls[c].name, answer);
         return 0;
     }
