@@ -18,6 +18,7 @@ mod records;
 mod report;
 mod rounds;
 mod sectors;
+mod sums;
 mod tables;
 
 use report::Report;
@@ -54,6 +55,7 @@ fn main() {
     };
     report.head();
     sectors::rows(&report);
+    sums::rows(&report);
     files::rows(&report);
     discs::rows(&report);
     merges::rows(&report);

@@ -13,6 +13,21 @@ pub fn fnv(bytes: &[u8]) -> u64 {
     bytes.iter().fold(EMPTY, step)
 }
 
+/// The 32-bit sum of bytes.
+pub fn fnv32(bytes: &[u8]) -> u32 {
+    bytes.iter().fold(0x811c_9dc5, |h: u32, &b| (h ^ u32::from(b)).wrapping_mul(0x0100_0193))
+}
+
+/// A 32-bit sum folded to k bits, none where k is not 16 to 31.
+pub fn fold32(sum: u32, k: u32) -> Option<u32> {
+    (16..32).contains(&k).then(|| sum >> k ^ sum & ((1 << k) - 1))
+}
+
+/// A 64-bit sum folded to k bits, none where k is not 32 to 63.
+pub fn fold64(sum: u64, k: u32) -> Option<u64> {
+    (32..64).contains(&k).then(|| sum >> k ^ sum & ((1 << k) - 1))
+}
+
 /// Two sums in one pass; the second is of as many bytes at most.
 pub fn sums(bytes: &[u8], beside: &[u8]) -> (u64, u64) {
     let (with, alone) = bytes.split_at(beside.len());

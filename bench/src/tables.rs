@@ -279,6 +279,28 @@ pub fn sum(bytes: &[u8]) -> u64 {
     unsafe { raw::seek_raw_sum(bytes.as_ptr(), bytes.len()) }
 }
 
+/// The 32-bit sum of bytes.
+pub fn sum32(bytes: &[u8]) -> u32 {
+    // Safety: as above.
+    unsafe { raw::seek_raw_sum32(bytes.as_ptr(), bytes.len()) }
+}
+
+/// A 32-bit sum folded to k bits.
+pub fn fold32(sum: u32, k: u32) -> Option<u32> {
+    let mut answer = [0; BLOCK];
+    // Safety: as above.
+    let number = unsafe { raw::seek_raw_fold32(sum, k, answer.as_mut_ptr(), BLOCK) };
+    (number == 0).then(|| word(&answer, 0) as u32)
+}
+
+/// A 64-bit sum folded to k bits.
+pub fn fold64(sum: u64, k: u32) -> Option<u64> {
+    let mut answer = [0; BLOCK];
+    // Safety: as above.
+    let number = unsafe { raw::seek_raw_fold64(sum, k, answer.as_mut_ptr(), BLOCK) };
+    (number == 0).then(|| word(&answer, 0))
+}
+
 /// The frame number of a sector's first record.
 pub fn first_record(sector: &[u8]) -> Option<u32> {
     let mut answer = [0; BLOCK];
