@@ -412,8 +412,9 @@ static inline uint32_t seek_merge(seek_list *l, const seek_list *other)
     return seek_raw_merge(l->head, SEEK_BLOCK, other->head, SEEK_BLOCK, SEEK_LENT_SEVEN_(l), SEEK_LENT_SEVEN_(other));
 }
 
-/* What merging the other list would change in l. Where nothing but image is set, the other list may be deleted: whatever the frame, the jump's start, the
- * part's bytes and the hint are those of the merged list. */
+/* What merging the other list would change in l. Where nothing but image is set, whatever the frame, the jump's start, the part's bytes and the hint are those
+ * of the merged list. It does not promise that the other list holds nothing else: a merge takes no parts for checkpoints that l has, no hints above its limit
+ * and no confirmations while its fingerprint is unchecked. seek_lacks below says what the other list holds. */
 typedef struct {
     int checkpoints, end, parts, malformed, hints, confirmations, fingerprint, image;
 } seek_brings;
@@ -687,6 +688,42 @@ static inline uint32_t seek_fold64(uint64_t sum, uint32_t k, uint64_t *folded)
     uint32_t n = seek_raw_fold64(sum, k, answer, SEEK_BLOCK);
     *folded = seek_word(answer, 0);
     return n;
+}
+
+/* ---- what another list holds */
+uint32_t seek_raw_lacks(SEEK_IN(head), SEEK_IN(other), SEEK_OUT(answer), SEEK_TABLES_IN, SEEK_TABLES_IN2);
+
+/* How many of each the other list holds and the own list does not: checkpoints more, held parts (by bytes, number, kind and remaining), malformed sectors,
+ * hints (by sector and number) and confirmations (by sector and digest, with a threshold not above); 0 or 1 for the end state, a fingerprint, an image id,
+ * a larger budget and a larger hint limit. */
+typedef struct {
+    uint64_t checkpoints, end_state, parts, malformed, hints, confirmations, fingerprint, image, budget, most;
+} seek_lacking;
+
+/* Both lists are only read. Answers 0, or 1 to 4 and 41 to 43 as seek_merge would; all counts are 0 where it refuses. */
+static inline uint32_t seek_lacks(const seek_list *own, const seek_list *other, seek_lacking *lacking)
+{
+    uint8_t answer[SEEK_BLOCK] = {0};
+    uint32_t n = seek_raw_lacks(own->head, SEEK_BLOCK, other->head, SEEK_BLOCK, answer, SEEK_BLOCK, SEEK_LENT_SEVEN_(own), SEEK_LENT_SEVEN_(other));
+    lacking->checkpoints = seek_word(answer, 0);
+    lacking->end_state = seek_word(answer, 1);
+    lacking->parts = seek_word(answer, 2);
+    lacking->malformed = seek_word(answer, 3);
+    lacking->hints = seek_word(answer, 4);
+    lacking->confirmations = seek_word(answer, 5);
+    lacking->fingerprint = seek_word(answer, 6);
+    lacking->image = seek_word(answer, 7);
+    lacking->budget = seek_word(answer, 8);
+    lacking->most = seek_word(answer, 9);
+    return n;
+}
+
+/* Is nothing lacking but, at most, the image id and room (budget, hint limit)? Where seek_lacks answered 0, the other list may then be deleted: no jump starts
+ * earlier with the own list, every part, hint and confirmation of the other is one of its own, or a better one, and it is complete if the other is. */
+static inline int seek_lacks_nothing(const seek_lacking *lacking)
+{
+    return lacking->checkpoints == 0 && lacking->end_state == 0 && lacking->parts == 0 && lacking->malformed == 0 && lacking->hints == 0 &&
+           lacking->confirmations == 0 && lacking->fingerprint == 0;
 }
 
 #ifdef __cplusplus

@@ -1,5 +1,5 @@
 // The part rule over lent tables: which parts are stored, and how.
-mod admits;
+pub mod admits;
 
 use crate::admits::alike;
 use crate::admits::passed_over;

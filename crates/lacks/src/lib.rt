@@ -1,0 +1,678 @@
+// What another list holds and the own one does not, decided over lent tables that are only read.
+use field::and;
+use index::is_complete;
+use merge::questions::merge_refuses;
+use parts::Source;
+use parts::admits::alike;
+use rules::AreaIndex;
+use rules::Confirmation;
+use rules::Fingerprint;
+use rules::Held;
+use rules::Hint;
+use rules::ImageId;
+use rules_lacks::Lacks;
+use tables::get_header;
+use tables::read_confirmation;
+use tables::read_held;
+use tables::read_hint;
+use tables::read_lsn;
+ghost use mathlib.Core.Path.{_≡_};
+ghost use mathlib.Core.Bool.{false, cond};
+ghost use Prim.Native.Nat.{_+_, _-_, _*_, _<_, _≤_};
+ghost use lib.Dec.{eqb};
+ghost use Rattle.rules.specs.Tests.{isSome};
+ghost use Rattle.rules.specs.Values.{stated};
+ghost use Rattle.sections.specs.Numbers.{idIn};
+ghost use Rattle.index.specs.Index.{tables};
+ghost use Rattle.merge.specs.QuestionsNeeds.{Joins};
+ghost use Rattle.lacks.specs.Lacks.{lacksBy, countsIn, lackedOf, lacksIn};
+ghost use lib.ListN.{length, take, drop};
+ghost use Rattle.rules.specs.Sections.{hintLsn, hintOk, confirmedLsn, confirmationOk, ownLsn, anyLsn};
+ghost use Rattle.tables.specs.Tables.{hintsIn, confirmationsIn, lsnsIn, partsIn};
+ghost use Rattle.rules_lacks.specs.Lacks.{equalHint, confirmsAlso, sameRemaining};
+ghost use Rattle.lacks.specs.Pass.{fromKey, firstStands, missed, Missed, common};
+ghost use Rattle.parts.specs.Needs.{offsetTo};
+ghost use Rattle.lacks.specs.Parts.{nearestTo, FramesLent, PairIs, PairAt, samePartBy, partKey, PartWithin, PartsWithin, standsIn, StepIs, unpairedYet, PartsLent, PartsMissed};
+
+// The number that refuses, or what is lacking.
+pub enum Lacked {
+    Refused(u32),
+    Lacks(Lacks),
+}
+
+// How many of what lies in tables.
+pub struct Missing {
+    pub checkpoints: u32,
+    pub parts: u32,
+    pub malformed: u32,
+    pub hints: u32,
+    pub confirmed: u32,
+}
+
+// Where a frame of each of two lists lies and, if known, how many bytes they begin with alike.
+pub struct Paired {
+    pub known: bool,
+    pub own: Source,
+    pub other: Source,
+    pub common: usize,
+}
+
+// 0 where a part of the other list has one that stands for it, else 1; and the pair of frames that was looked at last.
+pub struct PartStep {
+    pub lacks: usize,
+    pub pair: Paired,
+}
+
+// ---- hints
+// The first hint from number i on whose LSN is low or more.
+fn skip_hints(t: &[u8], n: usize, i: usize, low: u32) -> usize
+    requires { ⌜ (n * 8 ≤ length (now t)) × (i ≤ n) ⌝ }
+    ensures { λ r. ⌜ (r ≤ n) × (drop r (hintsIn n (now (t .entry))) ≡ fromKey hintLsn low (drop i (hintsIn n (now (t .entry))))) ⌝ }
+{
+    let mut k = i;
+    while k < n {
+        let h = read_hint(t, k);
+        if low <= h.lsn {
+            return k;
+        }
+        k += 1;
+    }
+    k
+}
+
+fn same_hint(h: Hint, k: Hint) -> bool
+    ensures { λ r. ⌜ r ≡ equalHint h k ⌝ }
+{
+    and(h.lsn == k.lsn, h.number == k.number)
+}
+
+// 0 where hint number i stands for y, else 1.
+fn lacks_hint(t: &[u8], n: usize, i: usize, y: Hint) -> usize
+    requires { ⌜ (n * 8 ≤ length (now t)) × (i ≤ n) ⌝ }
+    ensures { λ r. ⌜ (r ≤ 1) × (r ≡ cond (firstStands equalHint (drop i (hintsIn n (now (t .entry)))) y) 0 1) ⌝ }
+{
+    if n <= i {
+        return 1;
+    }
+    let h = read_hint(t, i);
+    if same_hint(h, y) { 0 } else { 1 }
+}
+
+// One pass over both lists.
+fn missing_hints(own: &[u8], n: usize, other: &[u8], m: usize) -> usize
+    requires { ⌜ (n * 8 ≤ length (now own)) × (m * 8 ≤ length (now other)) ⌝ }
+    ensures { λ r. ⌜ (r ≤ m) × (r ≡ missed hintLsn equalHint (hintsIn n (now (own .entry))) (hintsIn m (now (other .entry)))) ⌝ }
+{
+    let mut i = 0;
+    let mut j = 0;
+    let mut count = 0;
+    while j < m {
+        let y = read_hint(other, j);
+        i = skip_hints(own, n, i, y.lsn);
+        count += lacks_hint(own, n, i, y);
+        j += 1;
+    }
+    count
+}
+
+// How many of the m hints of another list the n own ones lack.
+pub fn lacks_hints(own: &[u8], n: u32, other: &[u8], m: u32) -> u32
+    requires { ⌜ (n * 8 ≤ length (now own)) × (m * 8 ≤ length (now other)) ⌝ }
+    ensures { λ r. ⌜ Missed hintLsn hintOk equalHint (hintsIn n (now (own .entry))) (hintsIn m (now (other .entry))) r ⌝ }
+{
+    missing_hints(own, n as usize, other, m as usize) as u32
+}
+
+// ---- confirmations
+// The first confirmation from number i on whose LSN is low or more.
+fn skip_confirmed(t: &[u8], n: usize, i: usize, low: u32) -> usize
+    requires { ⌜ (n * 16 ≤ length (now t)) × (i ≤ n) ⌝ }
+    ensures { λ r. ⌜ (r ≤ n) × (drop r (confirmationsIn n (now (t .entry))) ≡ fromKey confirmedLsn low (drop i (confirmationsIn n (now (t .entry))))) ⌝ }
+{
+    let mut k = i;
+    while k < n {
+        let h = read_confirmation(t, k);
+        if low <= h.lsn {
+            return k;
+        }
+        k += 1;
+    }
+    k
+}
+
+fn confirms_also(c: Confirmation, d: Confirmation) -> bool
+    ensures { λ r. ⌜ r ≡ confirmsAlso c d ⌝ }
+{
+    and(
+        c.lsn == d.lsn,
+        and(c.digest == d.digest, c.threshold <= d.threshold),
+    )
+}
+
+// 0 where confirmation number i stands for y, else 1.
+fn lacks_confirmation(t: &[u8], n: usize, i: usize, y: Confirmation) -> usize
+    requires { ⌜ (n * 16 ≤ length (now t)) × (i ≤ n) ⌝ }
+    ensures { λ r. ⌜ (r ≤ 1) × (r ≡ cond (firstStands confirmsAlso (drop i (confirmationsIn n (now (t .entry)))) y) 0 1) ⌝ }
+{
+    if n <= i {
+        return 1;
+    }
+    let h = read_confirmation(t, i);
+    if confirms_also(h, y) { 0 } else { 1 }
+}
+
+// One pass over both lists.
+fn missing_confirmed(own: &[u8], n: usize, other: &[u8], m: usize) -> usize
+    requires { ⌜ (n * 16 ≤ length (now own)) × (m * 16 ≤ length (now other)) ⌝ }
+    ensures { λ r. ⌜ (r ≤ m) × (r ≡ missed confirmedLsn confirmsAlso (confirmationsIn n (now (own .entry))) (confirmationsIn m (now (other .entry)))) ⌝ }
+{
+    let mut i = 0;
+    let mut j = 0;
+    let mut count = 0;
+    while j < m {
+        let y = read_confirmation(other, j);
+        i = skip_confirmed(own, n, i, y.lsn);
+        count += lacks_confirmation(own, n, i, y);
+        j += 1;
+    }
+    count
+}
+
+// How many of the m confirmations of another list the n own ones lack.
+pub fn lacks_confirmed(own: &[u8], n: u32, other: &[u8], m: u32) -> u32
+    requires { ⌜ (n * 16 ≤ length (now own)) × (m * 16 ≤ length (now other)) ⌝ }
+    ensures { λ r. ⌜ Missed confirmedLsn confirmationOk confirmsAlso (confirmationsIn n (now (own .entry))) (confirmationsIn m (now (other .entry))) r ⌝ }
+{
+    missing_confirmed(own, n as usize, other, m as usize) as u32
+}
+
+// ---- malformed LSNs
+// The first malformed LSN from number i on whose LSN is low or more.
+fn skip_malformed(t: &[u8], n: usize, i: usize, low: u32) -> usize
+    requires { ⌜ (n * 4 ≤ length (now t)) × (i ≤ n) ⌝ }
+    ensures { λ r. ⌜ (r ≤ n) × (drop r (lsnsIn n (now (t .entry))) ≡ fromKey ownLsn low (drop i (lsnsIn n (now (t .entry))))) ⌝ }
+{
+    let mut k = i;
+    while k < n {
+        let h = read_lsn(t, k);
+        if low <= h {
+            return k;
+        }
+        k += 1;
+    }
+    k
+}
+
+// 0 where malformed LSN number i stands for y, else 1.
+fn lacks_lsn(t: &[u8], n: usize, i: usize, y: u32) -> usize
+    requires { ⌜ (n * 4 ≤ length (now t)) × (i ≤ n) ⌝ }
+    ensures { λ r. ⌜ (r ≤ 1) × (r ≡ cond (firstStands eqb (drop i (lsnsIn n (now (t .entry)))) y) 0 1) ⌝ }
+{
+    if n <= i {
+        return 1;
+    }
+    let h = read_lsn(t, i);
+    if h == y { 0 } else { 1 }
+}
+
+// One pass over both lists.
+fn missing_malformed(own: &[u8], n: usize, other: &[u8], m: usize) -> usize
+    requires { ⌜ (n * 4 ≤ length (now own)) × (m * 4 ≤ length (now other)) ⌝ }
+    ensures { λ r. ⌜ (r ≤ m) × (r ≡ missed ownLsn eqb (lsnsIn n (now (own .entry))) (lsnsIn m (now (other .entry)))) ⌝ }
+{
+    let mut i = 0;
+    let mut j = 0;
+    let mut count = 0;
+    while j < m {
+        let y = read_lsn(other, j);
+        i = skip_malformed(own, n, i, y);
+        count += lacks_lsn(own, n, i, y);
+        j += 1;
+    }
+    count
+}
+
+// How many of the m malformed LSNs of another list the n own ones lack.
+pub fn lacks_malformed(own: &[u8], n: u32, other: &[u8], m: u32) -> u32
+    requires { ⌜ (n * 4 ≤ length (now own)) × (m * 4 ≤ length (now other)) ⌝ }
+    ensures { λ r. ⌜ Missed ownLsn anyLsn eqb (lsnsIn n (now (own .entry))) (lsnsIn m (now (other .entry))) r ⌝ }
+{
+    missing_malformed(own, n as usize, other, m as usize) as u32
+}
+
+// ---- held parts
+// How many bytes a and b begin with alike.
+fn common_of(a: &[u8], b: &[u8]) -> usize
+    ensures { λ r. ⌜ r ≡ common (now (a .entry)) (now (b .entry)) ⌝ }
+{
+    let mut i = 0;
+    while i < a.len() {
+        if b.len() <= i {
+            return i;
+        }
+        if a[i] != b[i] {
+            return i;
+        }
+        i += 1;
+    }
+    i
+}
+
+// Of a stretch of each of two stores.
+fn stretch_common(store: &[u8], from: usize, len: usize, other: &[u8], at: usize, n: usize) -> usize
+    requires { ⌜ (from + len ≤ length (now store)) × (at + n ≤ length (now other)) ⌝ }
+    ensures { λ r. ⌜ r ≡ common (take len (drop from (now (store .entry)))) (take n (drop at (now (other .entry)))) ⌝ }
+{
+    let e = from + len;
+    let f = at + n;
+    common_of(&store[from..e], &other[at..f])
+}
+
+// s where it does not lie behind frame number g, else the start.
+fn nearest(s: Source, g: u32) -> Source
+    ensures { λ r. ⌜ r ≡ nearestTo s g ⌝ }
+{
+    if g < s.frame {
+        return Source {
+            frame: 0,
+            offset: 0,
+        };
+    }
+    s
+}
+
+// From s to frame number g.
+fn source_to(frames: &[u8], f: usize, s: Source, g: u32) -> Source
+    requires { ⌜ (s .offset ≡ offsetTo f (now frames) (s .frame)) × (s .offset ≤ s .frame * 4294967295) × (f * 8 ≤ length (now frames)) ⌝ }
+    ensures { λ r. ⌜ (r .frame ≡ g) × (r .offset ≡ offsetTo f (now (frames .entry)) g) × (r .offset ≤ g * 4294967295) ⌝ }
+{
+    let from = nearest(s, g);
+    let mut k = from.frame;
+    let mut offset = from.offset;
+    while k < g {
+        let h = get_header(frames, f, k as usize);
+        offset += h.len as u64;
+        k += 1;
+    }
+    Source { frame: g, offset }
+}
+
+// The pair of frame number g of f and frame number k of m others.
+fn pair_anew(
+    s: Paired,
+    f: usize,
+    frames: &[u8],
+    store: &[u8],
+    g: u32,
+    m: usize,
+    other_frames: &[u8],
+    other_store: &[u8],
+    k: u32,
+) -> Paired
+    requires { ⌜ PairIs f (now frames) (now store) m (now «other_frames») (now «other_store») s × FramesLent f (now frames) (now store) × FramesLent m (now «other_frames») (now «other_store») × (g < f) × (k < m) ⌝ }
+    ensures { λ r. ⌜ PairAt f (now (frames .entry)) (now (store .entry)) g m (now («other_frames» .entry)) (now («other_store» .entry)) k r ⌝ }
+{
+    let a = s.own;
+    let b = s.other;
+    let p = source_to(frames, f, a, g);
+    let q = source_to(other_frames, m, b, k);
+    let h = get_header(frames, f, g as usize);
+    let i = get_header(other_frames, m, k as usize);
+    let c = stretch_common(
+        store,
+        p.offset as usize,
+        h.len as usize,
+        other_store,
+        q.offset as usize,
+        i.len as usize,
+    );
+    Paired {
+        known: true,
+        own: p,
+        other: q,
+        common: c,
+    }
+}
+
+// The same, from s where it is that of g and k.
+fn pair_at(
+    s: Paired,
+    f: usize,
+    frames: &[u8],
+    store: &[u8],
+    g: u32,
+    m: usize,
+    other_frames: &[u8],
+    other_store: &[u8],
+    k: u32,
+) -> Paired
+    requires { ⌜ PairIs f (now frames) (now store) m (now «other_frames») (now «other_store») s × FramesLent f (now frames) (now store) × FramesLent m (now «other_frames») (now «other_store») × (g < f) × (k < m) ⌝ }
+    ensures { λ r. ⌜ PairAt f (now (frames .entry)) (now (store .entry)) g m (now («other_frames» .entry)) (now («other_store» .entry)) k r ⌝ }
+{
+    let a = s.own;
+    let b = s.other;
+    if and(s.known, and(a.frame == g, b.frame == k)) {
+        return s;
+    }
+    pair_anew(s, f, frames, store, g, m, other_frames, other_store, k)
+}
+
+fn same_remaining(a: i32, b: i32) -> bool
+    ensures { λ r. ⌜ r ≡ sameRemaining a b ⌝ }
+{
+    if a == b { true } else { false }
+}
+
+fn same_part(p: Held, q: Held, n: usize) -> bool
+    ensures { λ r. ⌜ r ≡ samePartBy p q n ⌝ }
+{
+    let kind = q.kind;
+    let rest = alike(p, q.number, kind, n);
+    let same = same_remaining(p.remaining, q.remaining);
+    and(p.at == q.at, and(p.len == q.len, and(same, rest)))
+}
+
+fn one_unless(b: bool) -> usize
+    ensures { λ r. ⌜ (r ≤ 1) × (r ≡ cond b 0 1) ⌝ }
+{
+    if b { 0 } else { 1 }
+}
+
+// Does part number i of n stand for q?
+fn lacks_part(
+    parts: &[u8],
+    n: usize,
+    i: usize,
+    q: Held,
+    s: Paired,
+    f: usize,
+    frames: &[u8],
+    store: &[u8],
+    m: usize,
+    other_frames: &[u8],
+    other_store: &[u8],
+) -> PartStep
+    requires { ⌜ (n * 24 ≤ length (now parts)) × (i ≤ n) × PairIs f (now frames) (now store) m (now «other_frames») (now «other_store») s × FramesLent f (now frames) (now store) × FramesLent m (now «other_frames») (now «other_store») × PartsWithin f (now frames) (now store) (partsIn n (now parts)) × PartWithin m (now «other_frames») (now «other_store») q ⌝ }
+    ensures { λ r. ⌜ StepIs n (now (parts .entry)) i q f (now (frames .entry)) (now (store .entry)) m (now («other_frames» .entry)) (now («other_store» .entry)) r ⌝ }
+{
+    if n <= i {
+        return PartStep { lacks: 1, pair: s };
+    }
+    let p = read_held(parts, i);
+    let t = pair_at(
+        s,
+        f,
+        frames,
+        store,
+        p.frame,
+        m,
+        other_frames,
+        other_store,
+        q.frame,
+    );
+    let same = same_part(p, q, t.common);
+    PartStep {
+        lacks: one_unless(same),
+        pair: t,
+    }
+}
+
+// The first part from number i on whose checkpoint is number low or later.
+fn skip_parts(t: &[u8], n: usize, i: usize, low: u32) -> usize
+    requires { ⌜ (n * 24 ≤ length (now t)) × (i ≤ n) ⌝ }
+    ensures { λ r. ⌜ (r ≤ n) × (drop r (partsIn n (now (t .entry))) ≡ fromKey partKey low (drop i (partsIn n (now (t .entry))))) ⌝ }
+{
+    let mut k = i;
+    while k < n {
+        let h = read_held(t, k);
+        if low <= h.at {
+            return k;
+        }
+        k += 1;
+    }
+    k
+}
+
+fn unpaired() -> Paired
+    ensures { λ r. ⌜ r ≡ unpairedYet ⌝ }
+{
+    Paired {
+        known: false,
+        own: Source {
+            frame: 0,
+            offset: 0,
+        },
+        other: Source {
+            frame: 0,
+            offset: 0,
+        },
+        common: 0,
+    }
+}
+
+// One pass over both lists.
+fn missing_parts(
+    n: usize,
+    parts: &[u8],
+    f: usize,
+    frames: &[u8],
+    store: &[u8],
+    h: usize,
+    theirs: &[u8],
+    m: usize,
+    other_frames: &[u8],
+    other_store: &[u8],
+) -> usize
+    requires { ⌜ PartsLent n (now parts) f (now frames) (now store) × PartsLent h (now theirs) m (now «other_frames») (now «other_store») ⌝ }
+    ensures { λ r. ⌜ (r ≤ h) × (r ≡ missed partKey (standsIn f (now (frames .entry)) (now (store .entry)) m (now («other_frames» .entry)) (now («other_store» .entry))) (partsIn n (now (parts .entry))) (partsIn h (now (theirs .entry)))) ⌝ }
+{
+    let mut i = 0;
+    let mut j = 0;
+    let mut count = 0;
+    let mut s = unpaired();
+    while j < h {
+        let q = read_held(theirs, j);
+        i = skip_parts(parts, n, i, q.at);
+        let t = lacks_part(
+            parts,
+            n,
+            i,
+            q,
+            s,
+            f,
+            frames,
+            store,
+            m,
+            other_frames,
+            other_store,
+        );
+        count += t.lacks;
+        s = t.pair;
+        j += 1;
+    }
+    count
+}
+
+// How many of the h parts of another list the n own ones lack.
+pub fn lacks_parts(
+    n: u32,
+    parts: &[u8],
+    f: u32,
+    frames: &[u8],
+    store: &[u8],
+    h: u32,
+    theirs: &[u8],
+    m: u32,
+    other_frames: &[u8],
+    other_store: &[u8],
+) -> u32
+    requires { ⌜ PartsLent n (now parts) f (now frames) (now store) × PartsLent h (now theirs) m (now «other_frames») (now «other_store») ⌝ }
+    ensures { λ r. ⌜ PartsMissed (standsIn f (now (frames .entry)) (now (store .entry)) m (now («other_frames» .entry)) (now («other_store» .entry))) (partsIn n (now (parts .entry))) (partsIn h (now (theirs .entry))) r ⌝ }
+{
+    missing_parts(
+        n as usize,
+        parts,
+        f as usize,
+        frames,
+        store,
+        h as usize,
+        theirs,
+        m as usize,
+        other_frames,
+        other_store,
+    ) as u32
+}
+
+// ---- the call
+// b less a, 0 where a is no lower.
+fn above(a: u32, b: u32) -> u32
+    ensures { λ r. ⌜ r ≡ b - a ⌝ }
+{
+    if a < b { b - a } else { 0 }
+}
+
+fn is_known(f: Fingerprint) -> bool
+    ensures { λ r. ⌜ r ≡ isSome (stated f) ⌝ }
+{
+    match f {
+        Fingerprint::Unknown => false,
+        Fingerprint::Held(_) => true,
+        Fingerprint::Checked(_) => true,
+    }
+}
+
+fn has_id(a: ImageId) -> bool
+    ensures { λ r. ⌜ r ≡ isSome (idIn a) ⌝ }
+{
+    match a {
+        ImageId::Anonymous => false,
+        ImageId::Id(_) => true,
+    }
+}
+
+// What is lacking, by the counts and the numbers.
+fn lacks_by(x: AreaIndex, y: AreaIndex, c: Missing) -> Lacks
+    ensures { λ r. ⌜ r ≡ lacksBy x y c ⌝ }
+{
+    let a = x.fingerprint;
+    let b = y.fingerprint;
+    let i = x.image;
+    let k = y.image;
+    Lacks {
+        checkpoints: c.checkpoints,
+        ending: and(is_complete(y), !is_complete(x)),
+        parts: c.parts,
+        malformed: c.malformed,
+        hints: c.hints,
+        confirmed: c.confirmed,
+        fingerprint: and(is_known(b), !is_known(a)),
+        image: and(has_id(k), !has_id(i)),
+        budget: x.budget < y.budget,
+        most: x.most < y.most,
+    }
+}
+
+// How many of each thing the list x lacks of y, where nothing refuses a merge.
+fn counts(
+    x: AreaIndex,
+    y: AreaIndex,
+    checkpoints: &[u8],
+    frames: &[u8],
+    store: &[u8],
+    parts: &[u8],
+    malformed: &[u8],
+    hints: &[u8],
+    confirmed: &[u8],
+    other_checkpoints: &[u8],
+    other_frames: &[u8],
+    other_store: &[u8],
+    other_parts: &[u8],
+    other_malformed: &[u8],
+    other_hints: &[u8],
+    other_confirmed: &[u8],
+) -> Missing
+    requires { ⌜ Joins x (tables (now checkpoints) (now frames) (now store) (now parts) (now malformed) (now hints) (now confirmed)) y (tables (now «other_checkpoints») (now «other_frames») (now «other_store») (now «other_parts») (now «other_malformed») (now «other_hints») (now «other_confirmed»)) ⌝ }
+    ensures { λ r. ⌜ r ≡ countsIn x (tables (now (checkpoints .entry)) (now (frames .entry)) (now (store .entry)) (now (parts .entry)) (now (malformed .entry)) (now (hints .entry)) (now (confirmed .entry))) y (tables (now («other_checkpoints» .entry)) (now («other_frames» .entry)) (now («other_store» .entry)) (now («other_parts» .entry)) (now («other_malformed» .entry)) (now («other_hints» .entry)) (now («other_confirmed» .entry))) ⌝ }
+{
+    Missing {
+        checkpoints: above(x.checkpoints, y.checkpoints),
+        parts: lacks_parts(
+            x.parts,
+            parts,
+            x.frames,
+            frames,
+            store,
+            y.parts,
+            other_parts,
+            y.frames,
+            other_frames,
+            other_store,
+        ),
+        malformed: lacks_malformed(malformed, x.malformed, other_malformed, y.malformed),
+        hints: lacks_hints(hints, x.hints, other_hints, y.hints),
+        confirmed: lacks_confirmed(confirmed, x.confirmed, other_confirmed, y.confirmed),
+    }
+}
+
+// What the own list x lacks of the other list y.
+pub fn lacks(
+    x: AreaIndex,
+    y: AreaIndex,
+    checkpoints: &[u8],
+    frames: &[u8],
+    store: &[u8],
+    parts: &[u8],
+    malformed: &[u8],
+    hints: &[u8],
+    confirmed: &[u8],
+    other_checkpoints: &[u8],
+    other_frames: &[u8],
+    other_store: &[u8],
+    other_parts: &[u8],
+    other_malformed: &[u8],
+    other_hints: &[u8],
+    other_confirmed: &[u8],
+) -> Lacked
+    ensures { λ r. ⌜ lackedOf r ≡ lacksIn x (tables (now (checkpoints .entry)) (now (frames .entry)) (now (store .entry)) (now (parts .entry)) (now (malformed .entry)) (now (hints .entry)) (now (confirmed .entry))) y (tables (now («other_checkpoints» .entry)) (now («other_frames» .entry)) (now («other_store» .entry)) (now («other_parts» .entry)) (now («other_malformed» .entry)) (now («other_hints» .entry)) (now («other_confirmed» .entry))) ⌝ }
+{
+    let number = merge_refuses(
+        x,
+        y,
+        checkpoints,
+        frames,
+        store,
+        parts,
+        malformed,
+        hints,
+        confirmed,
+        other_checkpoints,
+        other_frames,
+        other_store,
+        other_parts,
+        other_malformed,
+        other_hints,
+        other_confirmed,
+    );
+    if number != 0 {
+        return Lacked::Refused(number);
+    }
+    let c = counts(
+        x,
+        y,
+        checkpoints,
+        frames,
+        store,
+        parts,
+        malformed,
+        hints,
+        confirmed,
+        other_checkpoints,
+        other_frames,
+        other_store,
+        other_parts,
+        other_malformed,
+        other_hints,
+        other_confirmed,
+    );
+    Lacked::Lacks(lacks_by(x, y, c))
+}
