@@ -1,4 +1,4 @@
-//! merge and adds.
+//! merge, adds and lacks.
 
 use crate::limits::Work;
 use crate::lists::{List, confirmation, hint, list};
@@ -9,7 +9,7 @@ use crate::tables::Tables;
 use oracle::calls;
 
 pub fn rows(r: &Report) {
-    if r.wants("merge") || r.wants("adds") {
+    if r.wants_any(&["merge", "adds", "lacks"]) {
         checkpoints(r);
         confirmations(r, 4_096, 2_048);
         confirmations(r, 65_536, 65_536);
@@ -37,6 +37,15 @@ fn checkpoints(r: &Report) {
     let own = List { checkpoints: 500, held: (1..=16).map(|i| 10 * i).collect(), budget: 1 << 21, ..list(1_000, 64) };
     let other = List { checkpoints: 1_000, held: (1..=16).map(|i| 500 + 10 * i).collect(), ..own.clone() };
     both(r, "1 MiB of frame bytes each, all new", &own, &other);
+    same_frames(r, &other);
+}
+
+/// A list and itself, of which every frame byte is compared.
+fn same_frames(r: &Report, list: &List) {
+    let ours = Tables::loaded(list);
+    let [checkpoints, _, store, ..] = ours.used();
+    let least = Work { read: 2 * ours.read(), compare: checkpoints + store, ..Work::default() };
+    lacks(r, "1 MiB of frame bytes each, the same", &ours, &ours, least);
 }
 
 /// Two lists of `n` confirmations, none common.
@@ -81,6 +90,21 @@ fn both(r: &Report, case: &str, own: &List, other: &List) {
     if r.wants("adds") {
         adds(r, case, &start, &other_ours, Work { copy: 0, ..least });
     }
+    lacks(r, case, &start, &other_ours, Work { copy: 0, ..least });
+}
+
+fn lacks(r: &Report, case: &str, own: &Tables, other: &Tables, least: Work) {
+    let (mut ours, mut one, mut two, mut answer) = (own.copy(), own.copy(), other.copy(), [0; BLOCK]);
+    assert_eq!(ours.lacks(other, &mut answer), 0, "{case}: lacks refuses");
+    r.row(Row {
+        call: "lacks",
+        case: case.to_string(),
+        ours: repeat(move || ours.lacks(other, &mut answer)),
+        theirs: None,
+        four: Some(repeat(move || (one.four(), two.four()))),
+        least,
+        goal: None,
+    });
 }
 
 fn adds(r: &Report, case: &str, own: &Tables, other: &Tables, least: Work) {

@@ -147,6 +147,10 @@ impl Tables {
         fourteen!(seek_raw_adds(self.head.as_ptr(), BLOCK, other.head.as_ptr(), BLOCK, answer.as_mut_ptr(), BLOCK) self.tables, &other.tables, as_ptr, ())
     }
 
+    pub fn lacks(&mut self, other: &Tables, answer: &mut [u8; BLOCK]) -> u32 {
+        fourteen!(seek_raw_lacks(self.head.as_ptr(), BLOCK, other.head.as_ptr(), BLOCK, answer.as_mut_ptr(), BLOCK) self.tables, &other.tables, as_ptr, ())
+    }
+
     /// Hints of 8 bytes each.
     pub fn add_hints(&mut self, list: &[u8]) -> u32 {
         seven!(seek_raw_add_hints(self.head.as_mut_ptr(), BLOCK, list.as_ptr(), list.len()) self.tables, ())

@@ -154,6 +154,7 @@ static uint64_t call_plan(void) { return seek_raw_plan(LENT(HEAD), (uint32_t)v[0
 static uint64_t call_fingerprint(void) { return seek_raw_fingerprint(LENT(HEAD), v[0], TABLES); }
 static uint64_t call_merge(void) { return seek_raw_merge(LENT(HEAD), LENT(OTHER), TABLES, OTHERS); }
 static uint64_t call_adds(void) { return seek_raw_adds(LENT(HEAD), LENT(OTHER), LENT(ANSWER), TABLES, OTHERS); }
+static uint64_t call_lacks(void) { return seek_raw_lacks(LENT(HEAD), LENT(OTHER), LENT(ANSWER), TABLES, OTHERS); }
 static uint64_t call_add_hints(void) { return seek_raw_add_hints(LENT(HEAD), LENT(LIST), TABLES); }
 static uint64_t call_recorder(void) { return seek_raw_recorder(LENT(HEAD), v[0], LENT(RECORDER), TABLES); }
 static uint64_t call_record(void)
@@ -213,6 +214,7 @@ static const struct {
     {"fingerprint", call_fingerprint, BIT(HEAD) | SEVEN, BIT(HEAD), 0, {7}},
     {"merge", call_merge, BIT(HEAD) | BIT(OTHER) | SEVEN | SEVEN2, BIT(HEAD) | SEVEN, 0, {0}},
     {"adds", call_adds, BIT(HEAD) | BIT(OTHER) | BIT(ANSWER) | SEVEN | SEVEN2, BIT(ANSWER), 0, {0}},
+    {"lacks", call_lacks, BIT(HEAD) | BIT(OTHER) | BIT(ANSWER) | SEVEN | SEVEN2, BIT(ANSWER), 0, {0}},
     {"add_hints", call_add_hints, BIT(HEAD) | BIT(LIST) | SEVEN, BIT(HEAD) | BIT(HINTS), 0, {0}},
     {"recorder", call_recorder, BIT(HEAD) | BIT(RECORDER) | SEVEN, BIT(RECORDER), 0, {SAMPLE_START}},
     {"record", call_record, BIT(RECORDER) | BIT(BYTES) | BIT(SECTOR) | FOUR3, BIT(RECORDER) | FOUR3, 0, {1200, 300, 0, 1, 1150, 280, 1, 5}},

@@ -64,7 +64,7 @@ pub struct Part<'a> {
     pub bytes: &'a [u8],
 }
 
-/// What merging another list would change.
+/// What merging another list would change. The other list can hold more than a merge would take: see [`List::lacks`].
 #[derive(Clone, Copy, Debug, Default, PartialEq, Eq)]
 pub struct Brings {
     pub checkpoints: bool,
@@ -75,6 +75,30 @@ pub struct Brings {
     pub confirmations: bool,
     pub fingerprint: bool,
     pub image: bool,
+}
+
+/// What another list holds and this one does not: how many of each, and whether of what there is once at most.
+#[derive(Clone, Copy, Debug, Default, PartialEq, Eq)]
+pub struct Lacking {
+    pub checkpoints: u64,
+    pub end_state: bool,
+    pub parts: u64,
+    pub malformed: u64,
+    pub hints: u64,
+    pub confirmations: u64,
+    pub fingerprint: bool,
+    pub image: bool,
+    /// The other's budget is larger.
+    pub budget: bool,
+    /// The other's hint limit is larger.
+    pub most: bool,
+}
+
+impl Lacking {
+    /// Nothing but, at most, the image id and room (budget, hint limit): the other list may be deleted.
+    pub fn is_nothing(&self) -> bool {
+        Lacking { image: false, budget: false, most: false, ..*self } == Lacking::default()
+    }
 }
 
 /// A list: the numbers in its head, and its seven tables one behind the other in one block of memory.
@@ -308,6 +332,33 @@ impl List {
             confirmations: word(&b, 5) != 0,
             fingerprint: word(&b, 6) != 0,
             image: word(&b, 7) != 0,
+        })
+    }
+
+    /// What another list holds and this one does not.
+    pub fn lacks(&self, other: &List) -> Result<Lacking, Error> {
+        let mut b = [0; BLOCK];
+        let [u0, u1, u2, u3, u4, u5, u6] = other.tables();
+        let [t0, t1, t2, t3, t4, t5, t6] = self.tables();
+        // Safety: each pointer is that of a slice of the length behind it, and the block overlaps nothing.
+        answer(unsafe {
+            raw::seek_raw_lacks(
+                self.head.as_ptr(), BLOCK, other.head.as_ptr(), BLOCK, b.as_mut_ptr(), BLOCK, t0.as_ptr(), t0.len(), t1.as_ptr(), t1.len(), t2.as_ptr(),
+                t2.len(), t3.as_ptr(), t3.len(), t4.as_ptr(), t4.len(), t5.as_ptr(), t5.len(), t6.as_ptr(), t6.len(), u0.as_ptr(), u0.len(), u1.as_ptr(),
+                u1.len(), u2.as_ptr(), u2.len(), u3.as_ptr(), u3.len(), u4.as_ptr(), u4.len(), u5.as_ptr(), u5.len(), u6.as_ptr(), u6.len(),
+            )
+        })?;
+        Ok(Lacking {
+            checkpoints: word(&b, 0),
+            end_state: word(&b, 1) != 0,
+            parts: word(&b, 2),
+            malformed: word(&b, 3),
+            hints: word(&b, 4),
+            confirmations: word(&b, 5),
+            fingerprint: word(&b, 6) != 0,
+            image: word(&b, 7) != 0,
+            budget: word(&b, 8) != 0,
+            most: word(&b, 9) != 0,
         })
     }
 

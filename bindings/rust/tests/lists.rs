@@ -1,6 +1,6 @@
 //! A list's life through the wrapper.
 
-use seek::{Area, Brings, Error, Frame, Hint, Hinted, List, Plan, contents, first_record, load_disc, save_disc, sum};
+use seek::{Area, Brings, Error, Frame, Hint, Hinted, Lacking, List, Plan, contents, first_record, load_disc, save_disc, sum};
 
 fn area() -> Area {
     Area { slot: 0, channels: 2, key_start: 1000, key_end: 1399, sectors: 1550, start: 1000, end: 1400 }
@@ -101,6 +101,26 @@ fn the_longer_list_is_merged() {
     assert_eq!(short.adds(&long), Ok(Brings { checkpoints: true, parts: true, ..Brings::default() }));
     short.merge(&long).unwrap();
     assert_eq!(short.save().unwrap(), file(5));
+}
+
+#[test]
+fn a_limited_copy_lacks_what_no_merge_would_bring() {
+    let whole = List::load(area(), &file(5), u64::MAX).unwrap();
+    let copy = List::load(area(), &file(5), 0).unwrap();
+    assert_eq!(copy.adds(&whole), Ok(Brings::default()));
+    let lacking = copy.lacks(&whole).unwrap();
+    assert!(lacking.parts > 0 && lacking.budget && lacking.most && !lacking.is_nothing());
+    assert_eq!((lacking.checkpoints, lacking.end_state, lacking.hints), (0, false, whole.hints()));
+    assert_eq!(whole.lacks(&copy), Ok(Lacking::default()));
+    assert_eq!(whole.lacks(&whole), Ok(Lacking::default()));
+    let short = List::load(area(), &file(2), u64::MAX).unwrap();
+    assert_eq!(short.lacks(&whole).unwrap().checkpoints, whole.checkpoints() - short.checkpoints());
+    let mut bound = short.clone();
+    bound.bind_fingerprint(7).unwrap();
+    assert_eq!(short.lacks(&bound), Ok(Lacking { fingerprint: true, ..Lacking::default() }));
+    let mut other = short.clone();
+    other.bind_fingerprint(8).unwrap();
+    assert_eq!(bound.lacks(&other).err(), Some(Error::MergeIds));
 }
 
 /// A sector in which a frame starts.
