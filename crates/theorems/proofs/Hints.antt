@@ -24,20 +24,20 @@ use Rattle.laws.proofs.hint_lists.Calls.{holds-of, four→}
 use Rattle.theorems.specs.Hints.{One, AtLsn, FirstAt, Joined, HintsJoined, ThinLength, ThinAmong}
 
 -- ---- P holds of one, by cases
-abbrev Any : (Hint → Type 0) → List Hint → Type 0
+abbrev pub Any : {A : Type 0} → (A → Type 0) → List A → Type 0
 Any P [] = ⊥
 Any P (x ∷ xs) = P x ⊎ Any P xs
 
 module _ (P : Hint → Type 0) where
-  any-at : (hs : List Hint) (i : ℕ) → i < length hs → P (getD hs i noHint) → Any P hs
+  pub any-at : (hs : List Hint) (i : ℕ) → i < length hs → P (getD hs i noHint) → Any P hs
   any-at [] i l p = let z : ⊥ = omega arith in absurd z
   any-at (x ∷ xs) zero l p = inl p
   any-at (x ∷ xs) (suc i) l p = inr (any-at xs i (omega arith) p)
 
-  one→ : (hs : List Hint) → One P hs → Any P hs
+  pub one→ : (hs : List Hint) → One P hs → Any P hs
   one→ hs o = any-at hs (o .place) (o .inside) (o .holds)
 
-  →one : (hs : List Hint) → Any P hs → One P hs
+  pub →one : (hs : List Hint) → Any P hs → One P hs
   →one [] h = absurd h
   →one (x ∷ xs) h =
       ⊎-elim (λ p. record { place = 0; inside = omega arith; holds = p })
@@ -54,7 +54,7 @@ module _ (P : Hint → Type 0) where
   any-insert x (y ∷ ys) h =
       insert-cases hintLsn heldHint x y ys (Any P) (λ e. inr h) (λ e. ⊎-elim (λ p. inl p) (λ r. inr (any-insert x ys r)) h) (λ e. h)
 
-  any-all : (a : Area) (hs list : List Hint) → Any P hs → Any P (insertAll a hs list)
+  pub any-all : (a : Area) (hs list : List Hint) → Any P hs → Any P (insertAll a hs list)
   unfolding insertAll
   any-all a hs [] h = h
   any-all a hs (x ∷ xs) h = any-all a (cond (inArea a (x .lsn)) (insert hintLsn heldHint x hs) hs) xs (test (inArea a (x .lsn)) (λ e. rw e (any-insert x hs h)) (λ e. rw e h))
@@ -68,7 +68,7 @@ lsn-insert : (n : ℕ) (x : Hint) (ys : List Hint) → x .lsn ≡ n → HasLsn n
 lsn-insert n x [] h = rw (insert-none hintLsn heldHint x) (inl h)
 lsn-insert n x (y ∷ ys) h = insert-cases hintLsn heldHint x y ys (HasLsn n) (λ e. inl h) (λ e. inr (lsn-insert n x ys h)) (λ e. inl (e ∙ h))
 
-lsn-all : (n : ℕ) (a : Area) (hs list : List Hint) → inArea a n ≡ true → HasLsn n list → HasLsn n (insertAll a hs list)
+pub lsn-all : (n : ℕ) (a : Area) (hs list : List Hint) → inArea a n ≡ true → HasLsn n list → HasLsn n (insertAll a hs list)
 unfolding insertAll
 lsn-all n a hs [] i h = absurd h
 lsn-all n a hs (x ∷ xs) i h =
@@ -101,7 +101,7 @@ any-from P x (y ∷ ys) h =
     (λ e g. ⊎-elim (λ p. inr (inl p)) (λ r. ⊎-elim (λ p. inl p) (λ q. inr (inr q)) (any-from P x ys r)) g) (λ e g. inr g) h
 
 -- at one LSN there is one
-unique : (a : Area) (hs : List Hint) → hintsOk a hs ≡ true → (i j : ℕ) → i < length hs → j < length hs → getD hs i noHint .lsn ≡ getD hs j noHint .lsn
+pub unique : (a : Area) (hs : List Hint) → hintsOk a hs ≡ true → (i j : ℕ) → i < length hs → j < length hs → getD hs i noHint .lsn ≡ getD hs j noHint .lsn
     → getD hs i noHint ≡ getD hs j noHint
 unfolding hintsOk
 unique a hs ok i j l m e =
@@ -111,7 +111,7 @@ unique a hs ok i j l m e =
 
 -- of a list that rises
 module _ (a : Area) (all : List Hint) (ok : hintsOk a all ≡ true) (h : Hint) (m : Any (λ y. y ≡ h) all) where
-  lsn-inside : inArea a (h .lsn) ≡ true
+  pub lsn-inside : inArea a (h .lsn) ≡ true
   unfolding hintsOk inArea
   lsn-inside =
       let o = →one (λ y. y ≡ h) all m in
@@ -156,7 +156,7 @@ module _ (a : Area) (hs : List Hint) (x : Hint) (xs : List Hint) (h : Hint) wher
   later : FirstAt xs h → eqb (x .lsn) (h .lsn) ≡ false → FirstAt (x ∷ xs) h
   later f e = let l = f .inside in record { place = suc (f .place); inside = omega arith; is = f .is; first = later-first f e }
 
-origin-all : (a : Area) (hs list : List Hint) → hintsOk a (insertAll a hs list) ≡ true → (h : Hint) → Any (λ y. y ≡ h) (insertAll a hs list)
+pub origin-all : (a : Area) (hs list : List Hint) → hintsOk a (insertAll a hs list) ≡ true → (h : Hint) → Any (λ y. y ≡ h) (insertAll a hs list)
     → Any (λ y. y ≡ h) hs ⊎ FirstAt list h
 unfolding insertAll
 origin-all a hs [] ok h m = inl m

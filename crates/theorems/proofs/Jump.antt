@@ -39,7 +39,7 @@ pub record Joinable (own other : Scan) : Type 0 where
 
 -- ---- where the last checkpoint not above t lies
 module _ (a : Area) (k t : ℕ) where
-  abbrev place : Option ℕ → ℕ
+  abbrev pub place : Option ℕ → ℕ
   place none = a .start
   place (some j) = lsnOf a k j
 
@@ -48,7 +48,7 @@ module _ (a : Area) (k t : ℕ) where
   last-most cs zero = omega arith
   last-most cs (suc n) = let h = last-most cs n in test (leb (checkpointAt cs n .threshold) t) (λ e. rw e (omega arith)) (λ e. rw e (omega arith))
 
-  last-grows : (cs : List Checkpoint) (n m : ℕ) → n ≤ m → place (lastNotAbove t cs n) ≤ place (lastNotAbove t cs m)
+  pub last-grows : (cs : List Checkpoint) (n m : ℕ) → n ≤ m → place (lastNotAbove t cs n) ≤ place (lastNotAbove t cs m)
   unfolding lastNotAbove
   last-grows cs n zero l = let e : n ≡ 0 = omega arith in rw e (omega arith)
   last-grows cs n (suc m) l =
@@ -56,7 +56,7 @@ module _ (a : Area) (k t : ℕ) where
       (λ (e : n < suc m). let h = last-grows cs n m (omega arith) in let g = last-most cs m in
       test (leb (checkpointAt cs m .threshold) t) (λ e. rw e (omega arith)) (λ e. rw e h)) (eq-or-lt-of-le l)
 
-  last-inside : (cs : List Checkpoint) (n : ℕ) → 1 ≤ k → a .start ≤ a .end → n ≤ boundaries a k → place (lastNotAbove t cs n) ≤ a .end
+  pub last-inside : (cs : List Checkpoint) (n : ℕ) → 1 ≤ k → a .start ≤ a .end → n ≤ boundaries a k → place (lastNotAbove t cs n) ≤ a .end
   unfolding lastNotAbove
   last-inside cs zero hk ha l = ha
   last-inside cs (suc n) hk ha l =
@@ -64,13 +64,13 @@ module _ (a : Area) (k t : ℕ) where
       (λ e. rw e (last-inside cs n hk ha (omega arith)))
 
 -- it is decided by the checkpoints before n
-last-same : (t : ℕ) (cs ds : List Checkpoint) (n : ℕ) → ((i : ℕ) → i < n → checkpointAt cs i ≡ checkpointAt ds i) → lastNotAbove t cs n ≡ lastNotAbove t ds n
+pub last-same : (t : ℕ) (cs ds : List Checkpoint) (n : ℕ) → ((i : ℕ) → i < n → checkpointAt cs i ≡ checkpointAt ds i) → lastNotAbove t cs n ≡ lastNotAbove t ds n
 unfolding lastNotAbove
 last-same t cs ds zero h = refl
 last-same t cs ds (suc n) h = rw (h n (omega arith), last-same t cs ds n (λ i l. h i (omega arith)))
 
 -- ---- the plan starts there, or at the end
-plan-at : (x : Scan) (o : Option ℕ) → startOf (x .area) (planFrom x o) ≡ place (x .area) (x .interval) 0 o
+pub plan-at : (x : Scan) (o : Option ℕ) → startOf (x .area) (planFrom x o) ≡ place (x .area) (x .interval) 0 o
 unfolding planFrom startOf
 plan-at x none = refl
 plan-at x (some j) = refl

@@ -122,7 +122,7 @@ plan-looks l x t e w =
     (λ f. leb-false (checkpointAt cs 0 .threshold) t f)
 
 -- ---- hint
-largest-found : (p : ℕ → Bool) (hs : List Hint) (n i : ℕ) → i < n → p i ≡ true → isSome (largestOf p hs n) ≡ true
+pub largest-found : (p : ℕ → Bool) (hs : List Hint) (n i : ℕ) → i < n → p i ≡ true → isSome (largestOf p hs n) ≡ true
 unfolding largestOf isSome
 largest-found p hs zero i l e = let z : ⊥ = omega arith in absurd z
 largest-found p hs (suc n) i l e =

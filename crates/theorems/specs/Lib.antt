@@ -7,6 +7,8 @@ pub mod DiscInTables
 pub mod DiscPlayer
 pub mod Hints
 pub mod Jump
+pub mod Lacks
+pub mod LacksInTables
 pub mod PartRule
 pub mod Player
 pub mod Questions

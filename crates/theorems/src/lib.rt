@@ -1,2 +1,3 @@
 // Every statement that answers the three demands and the change requests: on values, in tables, about the calls for C; no function.
 pub mod disc;
+pub mod lacking;

@@ -1,0 +1,10 @@
+pub mod Trans
+pub mod Adds
+pub mod Brought
+pub mod Planned
+pub mod Serves
+pub mod HintPlace
+pub mod MergeLacks
+pub mod MergeLeft
+pub mod Malformed
+pub mod InTables

@@ -1,0 +1,90 @@
+-- The statements over lent tables. Assumes nothing.
+use mathlib.Core.Path.{_≡_, refl, sym, ap, subst, _∙_}
+use mathlib.Core.Bool.{Bool, true, _&&_}
+use mathlib.Core.List.{List, _++_}
+use mathlib.Core.Option.{some}
+use Prim.Native.Nat.{ℕ, _≤_}
+use lib.ListN.{drop}
+use Rattle.rules.specs.declared.AreaIndex.{AreaIndex}
+use Rattle.rules.specs.declared.Area.{Area}
+use Rattle.rules.specs.declared.Assembly.the-variants.{Stored}
+use Rattle.rules.specs.declared.HeldPart.{HeldPart}
+use Rattle.rules.specs.declared.Plan.{Plan}
+use Rattle.rules.specs.declared.Plan.the-variants.{At}
+use Rattle.rules.specs.declared.Resume.{Resume}
+use Rattle.rules.specs.Tests.{Answer, Accepted}
+use Rattle.rules.specs.Values.{used}
+use Rattle.rules.specs.Plan.{planned, startOf, bytesAt, plan}
+use Rattle.rules.specs.Merge.{question41}
+use Rattle.rules.specs.Hints.{hint}
+use Rattle.rules.proofs.Tests.{and-left, all→, after→, accepted→}
+use Rattle.rules.proofs.Same.{sameArea-eq}
+use Rattle.index.specs.Index.{Tables, roomOf, indexIn, kindsIn, kinded, refusal}
+use Rattle.index.specs.Needs.{Passes}
+use Rattle.index.proofs.Questions.{passes}
+use Rattle.index.proofs.Lent.{store-is}
+use Rattle.plan.specs.Calls.{planIn}
+use Rattle.plan.proofs.Steps.{answer-is}
+use Rattle.hint.specs.Calls.{hintIn}
+use Rattle.rules_lacks.specs.declared.Lacks.{Lacks}
+use Rattle.rules_lacks.specs.Lacks.{lacks, holdsAll}
+use Rattle.lacks.specs.Lacks.{lacksIn}
+use Rattle.theorems.proofs.MergeInTables.{kinded→}
+use Rattle.theorems.specs.Lacks.{Serves, SamePart}
+use Rattle.theorems.specs.LacksInTables.{SamePartIn, ServesIn, NothingLackingInTables, LacksHintInTables}
+use Rattle.theorems.proofs.lacking.Trans.{Asked, lacks→}
+use Rattle.theorems.proofs.lacking.Serves.{nothing-lacking}
+use Rattle.theorems.proofs.lacking.HintPlace.{lacks-hint}
+
+-- a plan that is accepted in tables
+record Plans (x : AreaIndex) (t : Tables) (f : ℕ) (p : Plan) : Type 0 where
+  passed : Passes x t
+  is : planned (indexIn x t .scan) f ≡ p
+
+plans→ : (x : AreaIndex) (t : Tables) (f : ℕ) (p : Plan) → planIn x t f ≡ Accepted p → Plans x t f p
+plans→ x t f p e =
+    let n = after→ (refusal x t) _ p (sym (answer-is x t f refl) ∙ e) in
+    record { passed = passes x t (n .0); is = accepted→ _ _ p (n .1) .1 }
+
+areas : (x : AreaIndex) (t : Tables) (y : AreaIndex) (u : Tables) → question41 (indexIn x t) (indexIn y u) ≡ true → x .area ≡ y .area
+unfolding question41
+areas x t y u e = sameArea-eq _ _ (all→ _ e .0)
+
+pub nothing-lacking-in-tables : NothingLackingInTables
+nothing-lacking-in-tables x t y u b e h =
+    let l = kinded→ (kindsIn x t && kindsIn y u) (lacks (roomOf t) (indexIn x t) (roomOf u) (indexIn y u)) b e .1 in
+    let s = nothing-lacking (roomOf t) (roomOf u) (indexIn x t) (indexIn y u) b l h in
+    let a = areas x t y u (lacks→ (roomOf t) (roomOf u) (indexIn x t) (indexIn y u) b l h .0 .q41) in
+    record {
+      lists = s;
+      starts = λ f p q i j. let v = plans→ x t f p i .is in let w = plans→ y u f q j .is in
+          subst (λ (z : Plan). startOf (x .area) q ≤ startOf (x .area) z) v
+          (subst (λ (z : Plan). startOf (x .area) z ≤ startOf (x .area) (planned (indexIn x t .scan) f)) w
+          (subst (λ (z : Area). startOf z (planned (indexIn y u .scan) f) ≤ startOf (x .area) (planned (indexIn x t .scan) f)) (sym a) (s .starts f)));
+      plans = λ f r v k i j n g. let mine = plans→ x t f (At v) j in let theirs = plans→ y u f (At r) i in
+          let c = s .plans f r v k (theirs .is) (mine .is) n g in let d = c .2 in
+          let fs = indexIn x t .scan .frames in let gs = indexIn y u .scan .frames in (
+            c .0,
+            c .1,
+            record {
+              kind = d .kind;
+              number = d .number;
+              remaining = d .remaining;
+              bytes =
+                  ap (λ (z : List ℕ). bytesAt z (c .0 .offset) (c .0 .len)) (sym (store-is (mine .passed)))
+                  ∙ d .bytes (drop (used fs) (t .store)) (drop (used gs) (u .store)) ∙ ap (λ (z : List ℕ). bytesAt z (k .offset) (k .len)) (store-is (theirs .passed));
+            },
+          );
+    }
+
+kinded-is : {A : Type 0} (ok : Bool) (r : Answer A) → ok ≡ true → kinded ok r ≡ r
+unfolding kinded
+kinded-is ok r e = rw e
+
+pub lacks-hint-in-tables : LacksHintInTables
+unfolding hintIn
+lacks-hint-in-tables x t y u b e h mark first end playtime q d =
+    let k = kinded→ (kindsIn x t && kindsIn y u) (lacks (roomOf t) (indexIn x t) (roomOf u) (indexIn y u)) b e in
+    let f = kinded→ (kindsIn y u) (hint (roomOf u) (indexIn y u) first end playtime) (some q) d in
+    let r = lacks-hint (roomOf t) (roomOf u) (indexIn x t) (indexIn y u) b (k .1) h mark first end playtime q (f .1) in
+    (r .0, kinded-is (kindsIn x t) (hint (roomOf t) (indexIn x t) first end playtime) (and-left (kindsIn x t) (kindsIn y u) (k .0)) ∙ r .1, r .2)

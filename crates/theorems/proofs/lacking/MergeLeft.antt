@@ -1,0 +1,326 @@
+-- Which hints, confirmations and parts of the two a merged list can lack. Assumes nothing.
+use mathlib.Core.Path.{_≡_, refl, sym, ap, subst, _∙_}
+use mathlib.Core.Bool.{Bool, true, false}
+use mathlib.Core.Logic.{⊎-elim, _⊎_, inl, inr}
+use mathlib.Core.List.{List, [], _∷_, _++_}
+use Prim.Native.Nat.{ℕ, zero, suc, _+_, _-_, _/_, _<_, _≤_}
+use native.Mathlib.Omega.{arith}
+use lib.Dec.{eqb, leb, ltb}
+use lib.ListN.{length, getD, length-append}
+use borrow.Author.Tests.{eqb-true, eqb-false, leb-false, ltb-true, ltb-false}
+use Rattle.rules.specs.declared.Area.{Area}
+use Rattle.rules.specs.declared.Confirmation.{Confirmation}
+use Rattle.rules.specs.declared.Held.{Held}
+use Rattle.rules.specs.declared.Hint.{Hint}
+use Rattle.rules.specs.Tests.{Accepted}
+use Rattle.rules.specs.Values.{Scan, Index, Lengths, noHeld, noHint, noConfirmation, boundaries, count, complete, isChecked}
+use Rattle.rules.specs.Sections.{hintLsn, hintOk, hintsOk, confirmedLsn}
+use Rattle.rules.specs.Hints.{insert, insertAll, limitedTo, joinedHints, heldConfirmation, lastOnes, keepsNothing, keep, keepAll}
+use Rattle.rules.specs.PartRule.{stores, addParts, piece}
+use Rattle.rules.specs.Merge.{further, merged, mergeNumber, merge}
+use Rattle.rules.specs.Run.{contentOf}
+use Rattle.rules.proofs.Tests.{test, never, order, or-right, accepted→}
+use Rattle.laws.specs.Order.{Rises}
+use Rattle.laws.specs.Merging.{insertedWith}
+use Rattle.laws.proofs.hint_lists.Lists.{All, Passes, all-at, all-map, all-sub, sub-last, last-length, insert-none, insert-cases}
+use Rattle.laws.proofs.hint_lists.Rising.{Inside, rises-all, rises-insert, rising→}
+use Rattle.laws.proofs.hint_lists.Hints.{insertAll-keeps, hints-insert}
+use Rattle.laws.proofs.scans.Parts.{part-at}
+use Rattle.laws.proofs.hint_lists.Merging.{inserted-with}
+use Rattle.laws.proofs.hint_lists.Confirmations.{met-lsn}
+use Rattle.laws.proofs.hint_lists.Keeping.{last-few, last-past, keepAll-merged, confirmed-rises}
+use Rattle.laws.proofs.hint_lists.Closure.{HintingIs, hinting→}
+use Rattle.laws.proofs.hint_lists.Calls.{Taken, taken, holds-of}
+use Rattle.rules_lacks.proofs.Laws.{ConfirmsAlso}
+use Rattle.theorems.specs.Terms.{Holds, storedIn}
+use Rattle.theorems.specs.Hints.{One, Among}
+use Rattle.theorems.specs.Useful.{MergeOf}
+use Rattle.theorems.specs.Lacks.{Confirms, together, Thinned, PushedOut, OtherDigest, MergeLeaves, MergeLeft}
+use Rattle.theorems.proofs.Jump.{Joinable, joinable}
+use Rattle.theorems.proofs.ScanLaws.{counts}
+use Rattle.theorems.proofs.Hints.{Any, any-at, one→, →one, any-all, lsn-all, lsn-inside, origin-all, unique}
+use Rattle.theorems.proofs.Useful.{merge-takes}
+
+-- ---- one of a list, by cases
+record SomeAt {A : Type 0} (d : A) (P : A → Type 0) (xs : List A) : Type 0 where
+  place : ℕ
+  inside : place < length xs
+  holds : P (getD xs place d)
+
+module _ {A : Type 0} (d : A) (P : A → Type 0) where
+  some→ : (xs : List A) → Any P xs → SomeAt d P xs
+  some→ [] h = absurd h
+  some→ (x ∷ xs) h =
+      ⊎-elim (λ p. record { place = 0; inside = omega arith; holds = p })
+      (λ r. let o = some→ xs r in let l = o .inside in record { place = suc (o .place); inside = omega arith; holds = o .holds }) h
+
+  →some : (xs : List A) (i : ℕ) → i < length xs → P (getD xs i d) → Any P xs
+  →some [] i l p = let z : ⊥ = omega arith in absurd z
+  →some (x ∷ xs) zero l p = inl p
+  →some (x ∷ xs) (suc i) l p = inr (→some xs i (omega arith) p)
+
+-- ---- the last n of a list that rises: one of the list is there, or n later ones are
+module _ {A : Type 0} (key : A → ℕ) (P : A → Type 0) (k n : ℕ) (keyed : (x : A) → P x → key x ≡ k) where
+  abbrev Out : List A → Type 0
+  Out xs = (length (lastOnes n xs) ≡ n) × All (λ x. k < key x) (lastOnes n xs)
+
+  last-all : (xs : List A) → length xs ≤ n → Any P xs → Any P (lastOnes n xs) ⊎ Out xs
+  last-all xs l h = inl (subst (λ (z : List A). Any P z) (sym (last-few n xs l)) h)
+
+  last-some : (b : ℕ) (xs : List A) → Rises key b xs → Any P xs → Any P (lastOnes n xs) ⊎ Out xs
+  last-some b [] r h = absurd h
+  last-some b (x ∷ xs) r h =
+      order n (suc (length xs))
+      (λ l.
+      subst (λ (z : List A). Any P z ⊎ ((length z ≡ n) × All (λ y. k < key y) z)) (sym (last-past n x xs (omega arith)))
+      (⊎-elim
+      (λ p.
+      let q = keyed x p in
+      inr (omega (arith, last-length n xs), all-sub (λ y. k < key y) (sub-last n xs) (all-map (λ y. suc (key x) ≤ key y) (λ y. k < key y) (λ y m. omega arith) xs (rises-all key (suc (key x)) xs (r .1)))))
+      (λ q. last-some (suc (key x)) xs (r .1) q) h))
+      (λ l. last-all (x ∷ xs) (omega arith) h) (λ e. last-all (x ∷ xs) (omega arith) h)
+
+-- ---- confirmations
+abbrev Better : Confirmation → Confirmation → Type 0
+Better c x = ConfirmsAlso x c
+
+abbrev Another : Confirmation → Confirmation → Type 0
+Another c x = (x .lsn ≡ c .lsn) × (x .digest ≡ c .digest → ⊥)
+
+better-self : (c : Confirmation) → Better c c
+better-self c = record { lsn = refl; digest = refl; threshold = omega arith }
+
+abbrev inserted : Confirmation → List Confirmation → List Confirmation
+inserted d cs = insert confirmedLsn heldConfirmation d cs
+
+-- the held y and the new d of one LSN
+met : (c y d : Confirmation) → y .lsn ≡ d .lsn → Better c y → Better c (heldConfirmation y d) ⊎ Another c d
+unfolding heldConfirmation
+met c y d e h =
+    let t = h .threshold in
+    test (eqb (y .digest) (d .digest)) (λ w. inl (rw w (record { lsn = h .lsn; digest = h .digest; threshold = omega arith })))
+    (λ w. inr (sym e ∙ h .lsn, λ q. eqb-false (y .digest) (d .digest) w (h .digest ∙ sym q)))
+
+met-new : (y d : Confirmation) → y .lsn ≡ d .lsn → Better d (heldConfirmation y d)
+unfolding heldConfirmation
+met-new y d e =
+    test (eqb (y .digest) (d .digest)) (λ w. rw w (record { lsn = e; digest = eqb-true (y .digest) (d .digest) w; threshold = omega arith })) (λ w. rw w (better-self d))
+
+held-on : (c d : Confirmation) (ys : List Confirmation) → Any (Better c) ys → Any (Better c) (inserted d ys) ⊎ Another c d
+held-on c d [] h = absurd h
+held-on c d (y ∷ ys) h =
+    insert-cases confirmedLsn heldConfirmation d y ys (λ l. Any (Better c) l ⊎ Another c d) (λ e. inl (inr h))
+    (λ e. ⊎-elim (λ p. inl (inl p)) (λ r. ⊎-elim (λ q. inl (inr q)) (λ o. inr o) (held-on c d ys r)) h)
+    (λ e. ⊎-elim (λ p. ⊎-elim (λ q. inl (inl q)) (λ o. inr o) (met c y d e p)) (λ r. inl (inr r)) h)
+
+new-there : (d : Confirmation) (ys : List Confirmation) → Any (Better d) (inserted d ys)
+new-there d [] = rw (insert-none confirmedLsn heldConfirmation d) (inl (better-self d))
+new-there d (y ∷ ys) =
+    insert-cases confirmedLsn heldConfirmation d y ys (Any (Better d)) (λ e. inl (better-self d)) (λ e. inr (new-there d ys)) (λ e. inl (met-new y d e))
+
+abbrev all-inserted : List Confirmation → List Confirmation → List Confirmation
+all-inserted cs ds = insertedWith confirmedLsn heldConfirmation cs ds
+
+held-all : (c : Confirmation) (cs ds : List Confirmation) → Any (Better c) cs → Any (Better c) (all-inserted cs ds) ⊎ Any (Another c) ds
+unfolding insertedWith
+held-all c cs [] h = inl h
+held-all c cs (d ∷ ds) h =
+    ⊎-elim (λ p. ⊎-elim (λ q. inl q) (λ o. inr (inr o)) (held-all c (inserted d cs) ds p)) (λ o. inr (inl o)) (held-on c d cs h)
+
+none-other : (c : Confirmation) (ds : List Confirmation) → All (λ x. suc (c .lsn) ≤ x .lsn) ds → Any (Another c) ds → ⊥
+none-other c [] a h = h
+none-other c (d ∷ ds) a h = ⊎-elim (λ o. let e = o .0 in let l = a .0 in omega arith) (λ r. none-other c ds (a .1) r) h
+
+new-all : (cs ds : List Confirmation) (b i : ℕ) → Rises confirmedLsn b ds → i < length ds → Any (Better (getD ds i noConfirmation)) (all-inserted cs ds)
+unfolding insertedWith
+new-all cs [] b i r l = let z : ⊥ = omega arith in absurd z
+new-all cs (d ∷ ds) b zero r l =
+    ⊎-elim (λ p. p) (λ o. absurd (none-other d ds (rises-all confirmedLsn (suc (d .lsn)) ds (r .1)) o)) (held-all d (inserted d cs) ds (new-there d cs))
+new-all cs (d ∷ ds) b (suc i) r l = new-all (inserted d cs) ds (suc (d .lsn)) i (r .1) (omega arith)
+
+rises-all-inserted : (cs ds : List Confirmation) → Rises confirmedLsn 0 cs → Rises confirmedLsn 0 (all-inserted cs ds)
+unfolding insertedWith
+rises-all-inserted cs [] r = r
+rises-all-inserted cs (d ∷ ds) r = rises-all-inserted (inserted d cs) ds (rises-insert confirmedLsn heldConfirmation d (λ y q. met-lsn y d q) 0 cs (omega arith) r)
+
+keep-none : (checked : Bool) (most : ℕ) (cs : List Confirmation) (d : Confirmation) → keepsNothing checked most ≡ true → keep checked most cs d ≡ cs
+unfolding keep
+keep-none checked most cs d e = rw e
+
+kept-none : (checked : Bool) (most : ℕ) (cs ds : List Confirmation) → keepsNothing checked most ≡ true → keepAll checked most cs ds ≡ cs
+unfolding keepAll
+kept-none checked most cs [] e = refl
+kept-none checked most cs (d ∷ ds) e = rw (keep-none checked most cs d e) (kept-none checked most cs ds e)
+
+module _ (own other y : Index) (k : HintingIs (own .scan .area) (own .fingerprint) (own .hinting)) (o : HintingIs (other .scan .area) (other .fingerprint) (other .hinting))
+    (is : y .hinting .confirmed ≡ keepAll (isChecked (own .fingerprint)) (own .hinting .most) (own .hinting .confirmed) (other .hinting .confirmed)) where
+  abbrev checked : Bool
+  checked = isChecked (own .fingerprint)
+
+  abbrev most : ℕ
+  most = own .hinting .most
+
+  abbrev cs : List Confirmation
+  cs = own .hinting .confirmed
+
+  abbrev ds : List Confirmation
+  ds = other .hinting .confirmed
+
+  rises : Rises confirmedLsn 0 cs
+  rises = confirmed-rises (own .scan .area) cs (k .confirmed)
+
+  rises' : Rises confirmedLsn 0 ds
+  rises' = confirmed-rises (other .scan .area) ds (o .confirmed)
+
+  last-ones : keepsNothing checked most ≡ false → y .hinting .confirmed ≡ lastOnes most (all-inserted cs ds)
+  last-ones e =
+      is ∙ keepAll-merged checked most e cs ds (k .fewer) rises rises' ∙ ap (lastOnes most) (sym (inserted-with confirmedLsn heldConfirmation met-lsn 0 cs ds rises'))
+
+  confirms-of : (c : Confirmation) → Any (Better c) (y .hinting .confirmed) → Confirms (y .hinting .confirmed) c
+  confirms-of c h =
+      let f = some→ noConfirmation (Better c) (y .hinting .confirmed) h in let p = f .holds in
+      record { place = f .place; inside = f .inside; lsn = p .lsn; digest = p .digest; threshold = p .threshold }
+
+  -- one that is confirmed once all are inserted
+  stays-or-out : (c : Confirmation) → keepsNothing checked most ≡ false → Any (Better c) (all-inserted cs ds) → Confirms (y .hinting .confirmed) c ⊎ PushedOut own y (c .lsn)
+  stays-or-out c e h =
+      let q = last-ones e in
+      ⊎-elim (λ p. inl (confirms-of c (subst (λ (z : List Confirmation). Any (Better c) z) (sym q) p)))
+      (λ p. inr (record {
+        full = ap length q ∙ p .0;
+        later = λ i l. all-at (λ (x : Confirmation). c .lsn < x .lsn) (y .hinting .confirmed) i noConfirmation l (subst (λ (z : List Confirmation). All (λ (v : Confirmation). c .lsn < v .lsn) z) (sym q) (p .1));
+      }))
+      (last-some confirmedLsn (Better c) (c .lsn) most (λ x p. p .lsn) 0 (all-inserted cs ds) (rises-all-inserted cs ds rises) h)
+
+  own-confirmed : (i : ℕ) → i < length cs
+      → Confirms (y .hinting .confirmed) (getD cs i noConfirmation) ⊎ (OtherDigest ds (getD cs i noConfirmation) ⊎ PushedOut own y (getD cs i noConfirmation .lsn))
+  own-confirmed i l =
+      let c = getD cs i noConfirmation in let h = →some noConfirmation (Better c) cs i l (better-self c) in
+      test (keepsNothing checked most)
+      (λ e. inl (confirms-of c (subst (λ (z : List Confirmation). Any (Better c) z) (sym (is ∙ kept-none checked most cs ds e)) h)))
+      (λ e. ⊎-elim (λ p. ⊎-elim (λ q. inl q) (λ q. inr (inr q)) (stays-or-out c e p))
+      (λ p. let f = some→ noConfirmation (Another c) ds p in inr (inl (record { place = f .place; inside = f .inside; lsn = f .holds .0; digest = f .holds .1 })))
+      (held-all c cs ds h))
+
+  other-confirmed : (i : ℕ) → i < length ds
+      → Confirms (y .hinting .confirmed) (getD ds i noConfirmation) ⊎ ((keepsNothing checked most ≡ true) ⊎ PushedOut own y (getD ds i noConfirmation .lsn))
+  other-confirmed i l =
+      test (keepsNothing checked most) (λ e. inr (inl e))
+      (λ e. ⊎-elim (λ q. inl q) (λ q. inr (inr q)) (stays-or-out (getD ds i noConfirmation) e (new-all cs ds 0 i rises' l)))
+
+-- ---- hints
+-- of a rising list each passes
+passing : (a : Area) (hs : List Hint) → hintsOk a hs ≡ true → Passes hintOk hs
+unfolding hintsOk
+passing a hs ok = all-map (Inside hintLsn hintOk (a .end)) (λ x. hintOk x ≡ true) (λ x i. i .1) hs (rising→ hintLsn hintOk (a .start) (a .end) hs ok .each)
+
+same-hint : (h k : Hint) → k .lsn ≡ h .lsn → k .number ≡ h .number → k ≡ h
+same-hint h k e d = λ i. record { lsn = e i; number = d i }
+
+module _ (a : Area) (hs gs : List Hint) (ok : hintsOk a hs ≡ true) (ok' : hintsOk a gs ≡ true) (h : Hint) (m : Any (λ z. z ≡ h) gs) where
+  abbrev joint : List Hint
+  joint = insertAll a hs gs
+
+  all-ok : hintsOk a joint ≡ true
+  all-ok = insertAll-keeps a (λ ys. hintsOk a ys ≡ true) (λ y. hintOk y ≡ true) (λ y ys i p w. hints-insert a y ys i p w) hs gs ok (passing a gs ok')
+
+  -- the hint of the result at the LSN of h is h, or an own one
+  met-there : Any (λ z. z ≡ h) joint ⊎ One (λ x. (x .lsn ≡ h .lsn) × (x .number ≡ h .number → ⊥)) hs
+  met-there =
+      let o = →one (λ z. z ≡ h) gs m in
+      let v = →one (λ z. z .lsn ≡ h .lsn) joint (lsn-all (h .lsn) a hs gs (lsn-inside a gs ok' h m) (any-at (λ z. z .lsn ≡ h .lsn) gs (o .place) (o .inside) (ap hintLsn (o .holds)))) in
+      let k = getD joint (v .place) noHint in
+      let same : k ≡ h → Any (λ z. z ≡ h) joint = λ e. any-at (λ z. z ≡ h) joint (v .place) (v .inside) e in
+      ⊎-elim
+      (λ p.
+      let w = →one (λ z. z ≡ k) hs p in let e : getD hs (w .place) noHint .lsn ≡ h .lsn = ap hintLsn (w .holds) ∙ v .holds in
+      test (eqb (k .number) (h .number)) (λ q. inl (same (same-hint h k (v .holds) (eqb-true (k .number) (h .number) q))))
+      (λ q. inr (record {
+        place = w .place;
+        inside = w .inside;
+        holds = (e, λ d. eqb-false (k .number) (h .number) q (ap (λ (z : Hint). z .number) (sym (w .holds)) ∙ d));
+      })))
+      (λ f. inl (same (sym (f .is) ∙ unique a gs ok' (f .place) (o .place) (f .inside) (o .inside) (ap hintLsn (f .is) ∙ v .holds ∙ sym (ap hintLsn (o .holds))) ∙ o .holds)))
+      (origin-all a hs gs all-ok k (any-at (λ z. z ≡ k) joint (v .place) (v .inside) refl))
+
+module _ (own other y : Index) (k : HintingIs (own .scan .area) (own .fingerprint) (own .hinting)) (o : HintingIs (other .scan .area) (other .fingerprint) (other .hinting))
+    (area : own .scan .area ≡ other .scan .area) (is : y .hinting .hints ≡ joinedHints (own .scan .area) (own .hinting .most) (own .hinting .hints) (other .hinting .hints)) where
+  abbrev ms : ℕ
+  ms = own .hinting .most
+
+  abbrev found : List Hint
+  found = together own other
+
+  -- what is there before thinning
+  there : (h : Hint) → eqb ms 0 ≡ false → Any (λ z. z ≡ h) found → Among (y .hinting .hints) h ⊎ Thinned own other y
+  unfolding joinedHints limitedTo
+  there h e a =
+      test (leb (length found) ms) (λ w. inl (subst (λ (z : List Hint). Among z h) (sym (is ∙ rw (e, w))) (→one (λ z. z ≡ h) found a)))
+      (λ w. let l = leb-false (length found) ms w in inr (record { above = omega arith; left = is ∙ rw (e, w) }))
+
+  own-hint : (h : Hint) → Among (own .hinting .hints) h → Among (y .hinting .hints) h ⊎ Thinned own other y
+  unfolding joinedHints
+  own-hint h a =
+      test (eqb ms 0) (λ e. inl (subst (λ (z : List Hint). Among z h) (sym (is ∙ rw e)) a))
+      (λ e. there h e (any-all (λ z. z ≡ h) (own .scan .area) (own .hinting .hints) (other .hinting .hints) (one→ (λ z. z ≡ h) (own .hinting .hints) a)))
+
+  -- a hint of the other: the one at its LSN is itself, or an own one
+  other-hint : (h : Hint) → Among (other .hinting .hints) h
+      → Among (y .hinting .hints) h ⊎ ((own .hinting .most ≡ 0) ⊎ (One (λ x. (x .lsn ≡ h .lsn) × (x .number ≡ h .number → ⊥)) (own .hinting .hints) ⊎ Thinned own other y))
+  other-hint h a =
+      test (eqb ms 0) (λ e. inr (inl (eqb-true ms 0 e)))
+      (λ e.
+      let v = met-there (own .scan .area) (own .hinting .hints) (other .hinting .hints) (k .hints) (subst (λ (z : Area). hintsOk z (other .hinting .hints) ≡ true) (sym area) (o .hints)) h (one→ (λ z. z ≡ h) (other .hinting .hints) a) in
+      ⊎-elim (λ p. ⊎-elim (λ q. inl q) (λ q. inr (inr (inr q))) (there h e p)) (λ p. inr (inr (inl p))) v)
+
+-- ---- parts
+at-length : (xs ys : List Held) (q : Held) → getD (xs ++ (q ∷ ys)) (length xs) noHeld ≡ q
+at-length [] ys q = refl
+at-length (x ∷ xs) ys q = at-length xs ys q
+
+module _ (own other y : Scan) (j : Joinable own other) (m : MergeOf own other y) where
+  fewer : further own other ≡ false → count other ≤ count own
+  unfolding further
+  fewer e =
+      let c = counts own (j .ok) in let d = counts other (j .ok') in
+      let g : count other ≤ boundaries (own .area) (own .interval) = rw (j .area, j .interval) (d .within) in
+      test (complete own) (λ w. let f = c .full w in omega arith)
+      (λ w. test (ltb (count own) (count other)) (λ v. let z : further own other ≡ true = rw w (or-right (complete other) v) in never z e) (λ v. ltb-false (count own) (count other) v))
+
+  below : (xs ys : List Held) (q : Held) → other .parts ≡ xs ++ (q ∷ ys) → q .at < count other
+  below xs ys q e =
+      let l : length xs < length (other .parts) = rw e (omega (arith, length-append xs (q ∷ ys))) in
+      let p = part-at (other .area) (other .interval) (other .budget) 0 (other .checkpoints) (other .frames) (other .parts) (length xs) (j .ok' .stretch .held) l in
+      let h = p .high in
+      let i : getD (other .parts) (length xs) noHeld ≡ q = ap (λ (z : List Held). getD z (length xs) noHeld) e ∙ at-length xs ys q in
+      let g : q .at < 0 + count other = subst (λ (z : Held). z .at < 0 + count other) i h in omega arith
+
+  other-part : (xs ys : List Held) (q : Held) → other .parts ≡ xs ++ (q ∷ ys)
+      → Holds (storedIn y) (q .at) (contentOf (other .frames) q)
+      ⊎ ((q .at < count own) ⊎ (stores (own .budget) (addParts (own .budget) (other .frames) (count own) xs (storedIn own)) (piece (other .frames) q) ≡ false))
+  other-part xs ys q e =
+      test (ltb (q .at) (count own)) (λ l. inr (inl (ltb-true (q .at) (count own) l)))
+      (λ l.
+      test (further own other)
+      (λ f.
+      test (stores (own .budget) (addParts (own .budget) (other .frames) (count own) xs (storedIn own)) (piece (other .frames) q))
+      (λ s. inl (m .parts f .admitted xs ys q e (ltb-false (q .at) (count own) l) s)) (λ s. inr (inr s)))
+      (λ f. let a = fewer f in let b = below xs ys q e in inr (inl (omega arith))))
+
+-- ---- all of it
+pub merge-left : MergeLeft
+unfolding merge merged
+merge-left l m own other y e =
+    let r = accepted→ (mergeNumber l own m other) (merged own other) y e in let c = taken l m own other (r .0) in
+    let k = hinting→ (own .scan .area) (own .fingerprint) (own .hinting) (holds-of own (c .four)) in
+    let o = hinting→ (other .scan .area) (other .fingerprint) (other .hinting) (holds-of other (c .four')) in
+    let ih : y .hinting .hints ≡ joinedHints (own .scan .area) (own .hinting .most) (own .hinting .hints) (other .hinting .hints) = sym (ap (λ (z : Index). z .hinting .hints) (r .1)) in
+    let ic : y .hinting .confirmed ≡ keepAll (isChecked (own .fingerprint)) (own .hinting .most) (own .hinting .confirmed) (other .hinting .confirmed) =
+    sym (ap (λ (z : Index). z .hinting .confirmed) (r .1)) in
+    record {
+      hints = own-hint own other y k o (c .area) ih;
+      confirmed = own-confirmed own other y k o ic;
+      parts' = other-part (own .scan) (other .scan) (y .scan) (joinable l m own other c) (merge-takes l m own other y e);
+      hints' = other-hint own other y k o (c .area) ih;
+      confirmed' = other-confirmed own other y k o ic;
+    }

@@ -1,0 +1,48 @@
+-- The statements over lent tables.
+use Prim.Native.Nat.{ℕ, _≤_}
+use mathlib.Core.Path.{_≡_}
+use mathlib.Core.Bool.{true}
+use mathlib.Core.Option.{some}
+use Rattle.rules.specs.declared.AreaIndex.{AreaIndex}
+use Rattle.rules.specs.declared.Assembly.the-variants.{Stored}
+use Rattle.rules.specs.declared.HeldPart.{HeldPart}
+use Rattle.rules.specs.declared.Plan.{Plan}
+use Rattle.rules.specs.declared.Plan.the-variants.{At}
+use Rattle.rules.specs.declared.Resume.{Resume}
+use Rattle.rules.specs.Tests.{Accepted}
+use Rattle.rules.specs.Values.{isChecked}
+use Rattle.rules.specs.Hints.{Hinted}
+use Rattle.rules.specs.Plan.{startOf, bytesAt}
+use Rattle.index.specs.Index.{Tables, indexIn}
+use Rattle.plan.specs.Calls.{planIn}
+use Rattle.hint.specs.Calls.{hintIn}
+use Rattle.rules_lacks.specs.declared.Lacks.{Lacks}
+use Rattle.rules_lacks.specs.Lacks.{holdsAll}
+use Rattle.lacks.specs.Lacks.{lacksIn}
+use Rattle.theorems.specs.Lacks.{Serves, HintServes}
+
+-- k says what h says, and its bytes in the store of t are those of h in that of u
+pub record SamePartIn (t : Tables) (k : HeldPart) (u : Tables) (h : HeldPart) : Type 0 where
+  pub kind : k .kind ≡ h .kind
+  pub number : k .number ≡ h .number
+  pub remaining : k .remaining ≡ h .remaining
+  pub bytes : bytesAt (t .store) (k .offset) (k .len) ≡ bytesAt (u .store) (h .offset) (h .len)
+
+-- the own tables x, t do all that y, u do
+pub record ServesIn (x : AreaIndex) (t : Tables) (y : AreaIndex) (u : Tables) : Type 0 where
+  pub lists : Serves (indexIn x t) (indexIn y u)
+  pub starts : (f : ℕ) (p q : Plan) → planIn x t f ≡ Accepted p → planIn y u f ≡ Accepted q → startOf (x .area) q ≤ startOf (x .area) p
+  pub plans : (f : ℕ) (r s : Resume) (h : HeldPart) → planIn y u f ≡ Accepted (At r) → planIn x t f ≡ Accepted (At s) → s .number ≡ r .number → r .assembly ≡ Stored h
+      → (k : HeldPart) × (s .assembly ≡ Stored k) × SamePartIn t k u h
+
+abbrev pub NothingLackingInTables : Type 0
+NothingLackingInTables =
+    (x : AreaIndex) (t : Tables) (y : AreaIndex) (u : Tables) (b : Lacks) → lacksIn x t y u ≡ Accepted b → holdsAll b ≡ true → ServesIn x t y u
+
+-- the hint to begin at, where the own fingerprint is checked if the other's is
+abbrev pub LacksHintInTables : Type 0
+LacksHintInTables =
+    (x : AreaIndex) (t : Tables) (y : AreaIndex) (u : Tables) (b : Lacks) → lacksIn x t y u ≡ Accepted b → holdsAll b ≡ true
+    → (isChecked (y .fingerprint) ≡ true → isChecked (x .fingerprint) ≡ true)
+    → (first end playtime : ℕ) (q : Hinted) → hintIn y u first end playtime ≡ Accepted (some q)
+    → (p : Hinted) × (hintIn x t first end playtime ≡ Accepted (some p)) × HintServes (indexIn x t) (indexIn y u) first p q
