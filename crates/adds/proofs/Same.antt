@@ -3,7 +3,6 @@ use mathlib.Core.Path.{_≡_, refl, ap}
 use mathlib.Core.Bool.{Bool, true, false}
 use mathlib.Core.Option.{Option, none, some}
 use lib.Dec.{eqb}
-use lib.IntN.{ℤ, pos, negsuc}
 use borrow.Author.Tests.{eqb-true}
 use Rattle.field.proofs.Bytes.{same-refl, same-true}
 use Rattle.rules.specs.declared.Fingerprint.{Fingerprint}
@@ -13,7 +12,8 @@ use Rattle.rules.specs.declared.Held.{Held}
 use Rattle.rules.specs.Values.{Frame}
 use Rattle.rules.proofs.Tests.{never, all→, →all}
 use Rattle.rules.proofs.Same.{eqb-self, sameKind-self, sameKind-eq}
-use Rattle.adds.specs.Brings.{sameKnown, sameSigned, sameFrame, sameHeld, sameFingerprint}
+use Rattle.rules_lacks.proofs.Laws.{sameSigned-self, sameSigned-eq}
+use Rattle.adds.specs.Brings.{sameKnown, sameFrame, sameHeld, sameFingerprint}
 
 module _ {A : Type 0} (same : A → A → Bool) where
   pub sameKnown-self : ((a : A) → same a a ≡ true) → (o : Option A) → sameKnown same o o ≡ true
@@ -27,18 +27,6 @@ module _ {A : Type 0} (same : A → A → Bool) where
   sameKnown-eq eq none (some b) e = never {b = false} e refl
   sameKnown-eq eq (some a) none e = never {b = false} e refl
   sameKnown-eq eq (some a) (some b) e = ap some (eq a b e)
-
-sameSigned-self : (a : ℤ) → sameSigned a a ≡ true
-unfolding sameSigned
-sameSigned-self (pos a) = eqb-self a
-sameSigned-self (negsuc a) = eqb-self a
-
-sameSigned-eq : (a b : ℤ) → sameSigned a b ≡ true → a ≡ b
-unfolding sameSigned
-sameSigned-eq (pos a) (pos b) e = ap pos (eqb-true a b e)
-sameSigned-eq (pos a) (negsuc b) e = never {b = false} e refl
-sameSigned-eq (negsuc a) (pos b) e = never {b = false} e refl
-sameSigned-eq (negsuc a) (negsuc b) e = ap negsuc (eqb-true a b e)
 
 pub sameFrame-self : (f : Frame) → sameFrame f f ≡ true
 unfolding sameFrame

@@ -10,8 +10,9 @@ use Rattle.rules.specs.declared.Hint.{Hint}
 use Rattle.rules.specs.Values.{max32}
 use Rattle.rules.specs.Sections.{hintsOk, confirmationsOk}
 use Rattle.rules.specs.Hints.{joinedHints, keepAll}
+use Rattle.rules_lacks.specs.Lacks.{sameHint}
 use Rattle.adds.specs.declared.compare.Turn.{Turn}
-use Rattle.adds.specs.Same.{sameList, sameHint, sameConfirmation}
+use Rattle.adds.specs.Same.{sameList, sameConfirmation}
 use Rattle.adds.specs.Marks.{marked, mark, lsnFrom}
 
 -- r is the LSN of hint i of the n hints xs, above every LSN where there is none

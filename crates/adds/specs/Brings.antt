@@ -4,7 +4,6 @@ use mathlib.Core.Bool.{Bool, true, false, _&&_, not}
 use mathlib.Core.List.{List, [], _∷_}
 use mathlib.Core.Option.{Option, none, some}
 use lib.Dec.{eqb}
-use lib.IntN.{ℤ, pos, negsuc}
 use Rattle.field.specs.Number.{sameBytes}
 use Rattle.rules.specs.declared.AreaIndex.{AreaIndex}
 use Rattle.rules.specs.declared.Fingerprint.{Fingerprint}
@@ -14,8 +13,9 @@ use Rattle.rules.specs.declared.Held.{Held}
 use Rattle.rules.specs.Tests.{all, Answer, Refused, Accepted, after}
 use Rattle.rules.specs.Values.{Frame, Index, Lengths, sameKind, sameCheckpoint, sameEnd}
 use Rattle.rules.specs.Merge.{merged, mergeNumber}
+use Rattle.rules_lacks.specs.Lacks.{sameSigned, sameHint}
 use Rattle.index.specs.Index.{Tables, roomOf, indexIn, kindsIn, kinded}
-use Rattle.adds.specs.Same.{sameList, sameHint, sameConfirmation}
+use Rattle.adds.specs.Same.{sameList, sameConfirmation}
 use Rattle.adds.specs.declared.Brings.{Brings}
 use Rattle.adds.specs.declared.Added.{Added}
 use Rattle.adds.specs.declared.Added.the-variants as added
@@ -27,12 +27,6 @@ sameKnown same none none = true
 sameKnown same none (some b) = false
 sameKnown same (some a) none = false
 sameKnown same (some a) (some b) = same a b
-
-unfoldable pub sameSigned : ℤ → ℤ → Bool
-sameSigned (pos a) (pos b) = eqb a b
-sameSigned (pos a) (negsuc b) = false
-sameSigned (negsuc a) (pos b) = false
-sameSigned (negsuc a) (negsuc b) = eqb a b
 
 unfoldable pub sameFrame : Frame → Frame → Bool
 sameFrame f g = all (eqb (f .start) (g .start) ∷ sameBytes (f .bytes) (g .bytes) ∷ [])

@@ -4,7 +4,6 @@ use mathlib.Core.Bool.{Bool, true, false, _&&_}
 use mathlib.Core.List.{List, [], _∷_}
 use lib.Dec.{eqb}
 use Rattle.rules.specs.declared.Confirmation.{Confirmation}
-use Rattle.rules.specs.declared.Hint.{Hint}
 use Rattle.rules.specs.Tests.{all}
 
 -- are two lists the same?
@@ -13,9 +12,6 @@ sameList same [] [] = true
 sameList same [] (y ∷ ys) = false
 sameList same (x ∷ xs) [] = false
 sameList same (x ∷ xs) (y ∷ ys) = same x y && sameList same xs ys
-
-unfoldable pub sameHint : Hint → Hint → Bool
-sameHint h k = all (eqb (h .lsn) (k .lsn) ∷ eqb (h .number) (k .number) ∷ [])
 
 unfoldable pub sameConfirmation : Confirmation → Confirmation → Bool
 sameConfirmation c d = all (eqb (c .lsn) (d .lsn) ∷ eqb (c .threshold) (d .threshold) ∷ eqb (c .digest) (d .digest) ∷ [])

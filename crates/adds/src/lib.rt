@@ -7,6 +7,7 @@ use field::and;
 use field::same;
 use index::is_checked;
 use index::is_complete;
+use index::is_stated;
 use merge::goes_further::further;
 use merge::questions::merge_refuses;
 use merge::questions::taken;
@@ -28,7 +29,6 @@ ghost use Prim.Native.Nat.{_+_, _*_, _≤_};
 ghost use lib.Dec.{eqb, ltb};
 ghost use lib.ListN.{length, take, drop};
 ghost use Rattle.rules.specs.Tests.{isSome, orElse};
-ghost use Rattle.rules.specs.Values.{stated};
 ghost use Rattle.rules.specs.PartRule.{stores};
 ghost use Rattle.rules.specs.Merge.{mergedFingerprint};
 ghost use Rattle.tables.specs.Tables.{lsnsIn, framesIn, partsIn};
@@ -60,24 +60,14 @@ pub enum Added {
 }
 
 // ---- fingerprint and image id
-fn is_known(f: Fingerprint) -> bool
-    ensures { λ r. ⌜ r ≡ isSome (stated f) ⌝ }
-{
-    match f {
-        Fingerprint::Unknown => false,
-        Fingerprint::Held(_) => true,
-        Fingerprint::Checked(_) => true,
-    }
-}
-
 // Would b fill in a fingerprint?
 fn fills_fingerprint(a: Fingerprint, b: Fingerprint) -> bool
     ensures { λ r. ⌜ r ≡ not (sameFingerprint a (mergedFingerprint a b)) ⌝ }
 {
-    and(!is_known(a), is_known(b))
+    and(!is_stated(a), is_stated(b))
 }
 
-fn has_id(a: ImageId) -> bool
+pub fn has_id(a: ImageId) -> bool
     ensures { λ r. ⌜ r ≡ isSome (idIn a) ⌝ }
 {
     match a {

@@ -1,9 +1,9 @@
 -- What is lacking, from the numbers and the tables. Assumes nothing.
-use mathlib.Core.Path.{_≡_, refl, sym, ap, ap₂, _∙_}
-use mathlib.Core.Bool.{Bool, true, false, not, _&&_, _||_}
+use mathlib.Core.Path.{_≡_, refl, sym, ap₂, _∙_}
+use mathlib.Core.Bool.{Bool, true, not, _&&_}
 use mathlib.Core.List.{List, [], _∷_}
 use mathlib.Core.Option.{Option, none, some}
-use Prim.Native.Nat.{ℕ, _-_, _*_, _<_, _≤_}
+use Prim.Native.Nat.{ℕ, _-_, _*_, _≤_}
 use native.Mathlib.Omega.{arith}
 use lib.Dec.{eqb, ltb}
 use lib.ListN.{length}
@@ -32,7 +32,7 @@ use Rattle.merge.proofs.questions.Refusal.{asked-after}
 use Rattle.merge.proofs.questions.Ready.{scan-is, hinting-is}
 use Rattle.rules_lacks.specs.declared.Lacks.{Lacks}
 use Rattle.lacks.specs.declared.Missing.{Missing}
-use Rattle.rules_lacks.specs.Lacks.{equalHint, confirmsAlso, lacking, lacks}
+use Rattle.rules_lacks.specs.Lacks.{sameHint, confirmsAlso, lacking, lacks}
 use Rattle.lacks.specs.declared.Lacked.the-variants as lacked
 use Rattle.lacks.specs.Pass.{Missed}
 use Rattle.lacks.specs.Parts.{FramesLent, PartsWithin, standsIn, PartsLent, PartsMissed}
@@ -75,7 +75,7 @@ module _ {x y : AreaIndex} {t u : Tables} (j : Joins x t y u) where
       (p0 : a ≡ y .checkpoints - x .checkpoints)
       (p1 : PartsMissed (standsIn (x .frames) (t .frames) (t .store) (y .frames) (u .frames) (u .store)) (partsIn (x .parts) (t .parts)) (partsIn (y .parts) (u .parts)) b)
       (p2 : Missed ownLsn anyLsn eqb (lsnsIn (x .malformed) (t .malformed)) (lsnsIn (y .malformed) (u .malformed)) c)
-      (p3 : Missed hintLsn hintOk equalHint (hintsIn (x .hints) (t .hints)) (hintsIn (y .hints) (u .hints)) d)
+      (p3 : Missed hintLsn hintOk sameHint (hintsIn (x .hints) (t .hints)) (hintsIn (y .hints) (u .hints)) d)
       (p4 : Missed confirmedLsn confirmationOk confirmsAlso (confirmationsIn (x .confirmed) (t .confirmed)) (confirmationsIn (y .confirmed) (u .confirmed)) e) where
     pub counts-are : _≡_ {A = Missing} (record { checkpoints = a; parts = b; malformed = c; hints = d; confirmed = e }) (countsIn x t y u)
     unfolding countsIn lacking malformedOk hintsOk confirmationsOk

@@ -1,15 +1,15 @@
 // What another list holds and the own one does not, decided over lent tables that are only read.
+use adds::has_id;
 use field::and;
 use index::is_complete;
+use index::is_stated;
 use merge::questions::merge_refuses;
 use parts::Source;
 use parts::admits::alike;
 use rules::AreaIndex;
 use rules::Confirmation;
-use rules::Fingerprint;
 use rules::Held;
 use rules::Hint;
-use rules::ImageId;
 use rules_lacks::Lacks;
 use tables::get_header;
 use tables::read_confirmation;
@@ -20,16 +20,13 @@ ghost use mathlib.Core.Path.{_≡_};
 ghost use mathlib.Core.Bool.{false, cond};
 ghost use Prim.Native.Nat.{_+_, _-_, _*_, _<_, _≤_};
 ghost use lib.Dec.{eqb};
-ghost use Rattle.rules.specs.Tests.{isSome};
-ghost use Rattle.rules.specs.Values.{stated};
-ghost use Rattle.sections.specs.Numbers.{idIn};
 ghost use Rattle.index.specs.Index.{tables};
 ghost use Rattle.merge.specs.QuestionsNeeds.{Joins};
 ghost use Rattle.lacks.specs.Lacks.{lacksBy, countsIn, lackedOf, lacksIn};
 ghost use lib.ListN.{length, take, drop};
 ghost use Rattle.rules.specs.Sections.{hintLsn, hintOk, confirmedLsn, confirmationOk, ownLsn, anyLsn};
 ghost use Rattle.tables.specs.Tables.{hintsIn, confirmationsIn, lsnsIn, partsIn};
-ghost use Rattle.rules_lacks.specs.Lacks.{equalHint, confirmsAlso, sameRemaining};
+ghost use Rattle.rules_lacks.specs.Lacks.{sameHint, confirmsAlso, sameSigned};
 ghost use Rattle.lacks.specs.Pass.{fromKey, firstStands, missed, Missed, common};
 ghost use Rattle.parts.specs.Needs.{offsetTo};
 ghost use Rattle.lacks.specs.Parts.{nearestTo, FramesLent, PairIs, PairAt, samePartBy, partKey, PartWithin, PartsWithin, standsIn, StepIs, unpairedYet, PartsLent, PartsMissed};
@@ -81,7 +78,7 @@ fn skip_hints(t: &[u8], n: usize, i: usize, low: u32) -> usize
 }
 
 fn same_hint(h: Hint, k: Hint) -> bool
-    ensures { λ r. ⌜ r ≡ equalHint h k ⌝ }
+    ensures { λ r. ⌜ r ≡ sameHint h k ⌝ }
 {
     and(h.lsn == k.lsn, h.number == k.number)
 }
@@ -89,7 +86,7 @@ fn same_hint(h: Hint, k: Hint) -> bool
 // 0 where hint number i stands for y, else 1.
 fn lacks_hint(t: &[u8], n: usize, i: usize, y: Hint) -> usize
     requires { ⌜ (n * 8 ≤ length (now t)) × (i ≤ n) ⌝ }
-    ensures { λ r. ⌜ (r ≤ 1) × (r ≡ cond (firstStands equalHint (drop i (hintsIn n (now (t .entry)))) y) 0 1) ⌝ }
+    ensures { λ r. ⌜ (r ≤ 1) × (r ≡ cond (firstStands sameHint (drop i (hintsIn n (now (t .entry)))) y) 0 1) ⌝ }
 {
     if n <= i {
         return 1;
@@ -101,7 +98,7 @@ fn lacks_hint(t: &[u8], n: usize, i: usize, y: Hint) -> usize
 // One pass over both lists.
 fn missing_hints(own: &[u8], n: usize, other: &[u8], m: usize) -> usize
     requires { ⌜ (n * 8 ≤ length (now own)) × (m * 8 ≤ length (now other)) ⌝ }
-    ensures { λ r. ⌜ (r ≤ m) × (r ≡ missed hintLsn equalHint (hintsIn n (now (own .entry))) (hintsIn m (now (other .entry)))) ⌝ }
+    ensures { λ r. ⌜ (r ≤ m) × (r ≡ missed hintLsn sameHint (hintsIn n (now (own .entry))) (hintsIn m (now (other .entry)))) ⌝ }
 {
     let mut i = 0;
     let mut j = 0;
@@ -118,7 +115,7 @@ fn missing_hints(own: &[u8], n: usize, other: &[u8], m: usize) -> usize
 // How many of the m hints of another list the n own ones lack.
 pub fn lacks_hints(own: &[u8], n: u32, other: &[u8], m: u32) -> u32
     requires { ⌜ (n * 8 ≤ length (now own)) × (m * 8 ≤ length (now other)) ⌝ }
-    ensures { λ r. ⌜ Missed hintLsn hintOk equalHint (hintsIn n (now (own .entry))) (hintsIn m (now (other .entry))) r ⌝ }
+    ensures { λ r. ⌜ Missed hintLsn hintOk sameHint (hintsIn n (now (own .entry))) (hintsIn m (now (other .entry))) r ⌝ }
 {
     missing_hints(own, n as usize, other, m as usize) as u32
 }
@@ -358,7 +355,7 @@ fn pair_at(
 }
 
 fn same_remaining(a: i32, b: i32) -> bool
-    ensures { λ r. ⌜ r ≡ sameRemaining a b ⌝ }
+    ensures { λ r. ⌜ r ≡ sameSigned a b ⌝ }
 {
     if a == b { true } else { false }
 }
@@ -531,25 +528,6 @@ fn above(a: u32, b: u32) -> u32
     if a < b { b - a } else { 0 }
 }
 
-fn is_known(f: Fingerprint) -> bool
-    ensures { λ r. ⌜ r ≡ isSome (stated f) ⌝ }
-{
-    match f {
-        Fingerprint::Unknown => false,
-        Fingerprint::Held(_) => true,
-        Fingerprint::Checked(_) => true,
-    }
-}
-
-fn has_id(a: ImageId) -> bool
-    ensures { λ r. ⌜ r ≡ isSome (idIn a) ⌝ }
-{
-    match a {
-        ImageId::Anonymous => false,
-        ImageId::Id(_) => true,
-    }
-}
-
 // What is lacking, by the counts and the numbers.
 fn lacks_by(x: AreaIndex, y: AreaIndex, c: Missing) -> Lacks
     ensures { λ r. ⌜ r ≡ lacksBy x y c ⌝ }
@@ -565,7 +543,7 @@ fn lacks_by(x: AreaIndex, y: AreaIndex, c: Missing) -> Lacks
         malformed: c.malformed,
         hints: c.hints,
         confirmed: c.confirmed,
-        fingerprint: and(is_known(b), !is_known(a)),
+        fingerprint: and(is_stated(b), !is_stated(a)),
         image: and(has_id(k), !has_id(i)),
         budget: x.budget < y.budget,
         most: x.most < y.most,

@@ -2,9 +2,9 @@
 use mathlib.Core.Path.{refl}
 use Rattle.rules.specs.Examples.{Hold}
 use Rattle.rules.proofs.Examples.{evaluated}
-use Rattle.rules_lacks.specs.Lacks.{anyOf, missing, sameRemaining, samePart, equalHint, confirmsAlso, lacking, lacks}
-use Rattle.rules_lacks.specs.LacksExamples.{lacksNumbers, lists}
+use Rattle.rules_lacks.specs.Lacks.{anyOf, missing, sameSigned, samePart, sameHint, confirmsAlso, lacking, holdsAll, lacks}
+use Rattle.rules_lacks.specs.LacksExamples.{lacksNumbers, heldNumbers, lists}
 
 pub lists-hold : Hold lists
-unfolding evaluated anyOf missing sameRemaining samePart equalHint confirmsAlso lacking lacks lacksNumbers lists
+unfolding evaluated anyOf missing sameSigned samePart sameHint confirmsAlso lacking holdsAll lacks lacksNumbers heldNumbers lists
 lists-hold = refl

@@ -19,7 +19,7 @@ use Rattle.rules.specs.Values.{Frame, partBytes}
 use Rattle.rules.specs.Run.{contentOf}
 use Rattle.rules.proofs.Tests.{test, never, all→, →all, or-cases, or-left, or-right, each-at, each-of}
 use Rattle.rules.proofs.Same.{eqb-self, sameKind-self, sameKind-eq}
-use Rattle.rules_lacks.specs.Lacks.{anyOf, covers, missing, sameRemaining, samePart, equalHint, confirmsAlso}
+use Rattle.rules_lacks.specs.Lacks.{anyOf, covers, missing, sameSigned, samePart, sameHint, confirmsAlso}
 
 -- ---- one of xs
 -- the place of one that p holds of
@@ -70,17 +70,17 @@ module _ {A : Type 0} (d : A) where
       record { place = p .place; inside = p .inside; holds = on (getD xs (p .place) d) (getD ys (q .place) d) (getD zs i d) (p .holds) (q .holds) })
 
 -- ---- remaining
-pub sameRemaining-self : (a : ℤ) → sameRemaining a a ≡ true
-unfolding sameRemaining
-sameRemaining-self (pos a) = eqb-self a
-sameRemaining-self (negsuc a) = eqb-self a
+pub sameSigned-self : (a : ℤ) → sameSigned a a ≡ true
+unfolding sameSigned
+sameSigned-self (pos a) = eqb-self a
+sameSigned-self (negsuc a) = eqb-self a
 
-pub sameRemaining-eq : (a b : ℤ) → sameRemaining a b ≡ true → a ≡ b
-unfolding sameRemaining
-sameRemaining-eq (pos a) (pos b) e = ap pos (eqb-true a b e)
-sameRemaining-eq (pos a) (negsuc b) e = never {b = false} e refl
-sameRemaining-eq (negsuc a) (pos b) e = never {b = false} e refl
-sameRemaining-eq (negsuc a) (negsuc b) e = ap negsuc (eqb-true a b e)
+pub sameSigned-eq : (a b : ℤ) → sameSigned a b ≡ true → a ≡ b
+unfolding sameSigned
+sameSigned-eq (pos a) (pos b) e = ap pos (eqb-true a b e)
+sameSigned-eq (pos a) (negsuc b) e = never {b = false} e refl
+sameSigned-eq (negsuc a) (pos b) e = never {b = false} e refl
+sameSigned-eq (negsuc a) (negsuc b) e = ap negsuc (eqb-true a b e)
 
 -- ---- parts: the same checkpoint and content
 pub samePart→ : (fs gs : List Frame) (p q : Held) → samePart fs gs p q ≡ true → (p .at ≡ q .at) × (contentOf fs p ≡ contentOf gs q)
@@ -90,7 +90,7 @@ samePart→ fs gs p q e =
     let e0 : p .at ≡ q .at = eqb-true _ _ (t .0) in
     let e1 : p .number ≡ q .number = eqb-true _ _ (t .1 .0) in
     let e2 : p .kind ≡ q .kind = sameKind-eq _ _ (t .1 .1 .0) in
-    let e3 : p .remaining ≡ q .remaining = sameRemaining-eq _ _ (t .1 .1 .1 .0) in
+    let e3 : p .remaining ≡ q .remaining = sameSigned-eq _ _ (t .1 .1 .1 .0) in
     let e4 : partBytes fs p ≡ partBytes gs q = same-true _ _ (t .1 .1 .1 .1 .0) in
     (e0, λ i. record { bytes = e4 i; number = e1 i; kind = e2 i; remaining = e3 i })
 
@@ -101,27 +101,27 @@ unfolding samePart
     let e2 : p .kind ≡ q .kind = λ i. c i .kind in
     let e3 : p .remaining ≡ q .remaining = λ i. c i .remaining in
     let e4 : partBytes fs p ≡ partBytes gs q = λ i. c i .bytes in
-    →all _ (rw a (eqb-self (q .at)), (rw e1 (eqb-self (q .number)), (rw e2 (sameKind-self (q .kind)), (rw e3 (sameRemaining-self (q .remaining)), (rw e4 (same-refl (partBytes gs q)), tt)))))
+    →all _ (rw a (eqb-self (q .at)), (rw e1 (eqb-self (q .number)), (rw e2 (sameKind-self (q .kind)), (rw e3 (sameSigned-self (q .remaining)), (rw e4 (same-refl (partBytes gs q)), tt)))))
 
 pub samePart-on : (fs gs hs : List Frame) (p q r : Held) → samePart fs gs p q ≡ true → samePart gs hs q r ≡ true → samePart fs hs p r ≡ true
 samePart-on fs gs hs p q r a b =
     let x = samePart→ fs gs p q a in let y = samePart→ gs hs q r b in →samePart fs hs p r (x .0 ∙ y .0) (x .1 ∙ y .1)
 
 -- ---- hints
-pub equalHint-eq : (h k : Hint) → equalHint h k ≡ true → h ≡ k
-unfolding equalHint
-equalHint-eq h k e =
+pub sameHint-eq : (h k : Hint) → sameHint h k ≡ true → h ≡ k
+unfolding sameHint
+sameHint-eq h k e =
     let t = all→ _ e in
     let e0 : h .lsn ≡ k .lsn = eqb-true _ _ (t .0) in
     let e1 : h .number ≡ k .number = eqb-true _ _ (t .1 .0) in
     λ i. record { lsn = e0 i; number = e1 i }
 
-pub equalHint-self : (h : Hint) → equalHint h h ≡ true
-unfolding equalHint
-equalHint-self h = →all _ (eqb-self (h .lsn), (eqb-self (h .number), tt))
+pub sameHint-self : (h : Hint) → sameHint h h ≡ true
+unfolding sameHint
+sameHint-self h = →all _ (eqb-self (h .lsn), (eqb-self (h .number), tt))
 
-pub equalHint-on : (h k m : Hint) → equalHint h k ≡ true → equalHint k m ≡ true → equalHint h m ≡ true
-equalHint-on h k m a b = rw (equalHint-eq h k a) b
+pub sameHint-on : (h k m : Hint) → sameHint h k ≡ true → sameHint k m ≡ true → sameHint h m ≡ true
+sameHint-on h k m a b = rw (sameHint-eq h k a) b
 
 -- ---- malformed LSNs
 pub eqb-on : (a b c : ℕ) → eqb a b ≡ true → eqb b c ≡ true → eqb a c ≡ true

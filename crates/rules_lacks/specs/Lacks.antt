@@ -29,21 +29,21 @@ missing stands xs [] = 0
 missing stands xs (y ∷ ys) = cond (anyOf (λ x. stands x y) xs) 0 1 + missing stands xs ys
 
 -- ---- what stands for what
-unfoldable pub sameRemaining : ℤ → ℤ → Bool
-sameRemaining (pos a) (pos b) = eqb a b
-sameRemaining (pos a) (negsuc b) = false
-sameRemaining (negsuc a) (pos b) = false
-sameRemaining (negsuc a) (negsuc b) = eqb a b
+unfoldable pub sameSigned : ℤ → ℤ → Bool
+sameSigned (pos a) (pos b) = eqb a b
+sameSigned (pos a) (negsuc b) = false
+sameSigned (negsuc a) (pos b) = false
+sameSigned (negsuc a) (negsuc b) = eqb a b
 
 -- parts p of frames fs and q of frames gs: the same checkpoint, number, kind, remaining and bytes
 unfoldable pub samePart : List Frame → List Frame → Held → Held → Bool
 samePart fs gs p q =
-    all (eqb (p .at) (q .at) ∷ eqb (p .number) (q .number) ∷ sameKind (p .kind) (q .kind) ∷ sameRemaining (p .remaining) (q .remaining)
+    all (eqb (p .at) (q .at) ∷ eqb (p .number) (q .number) ∷ sameKind (p .kind) (q .kind) ∷ sameSigned (p .remaining) (q .remaining)
     ∷ sameBytes (partBytes fs p) (partBytes gs q) ∷ [])
 
 -- hints: the same LSN and number
-unfoldable pub equalHint : Hint → Hint → Bool
-equalHint h k = all (eqb (h .lsn) (k .lsn) ∷ eqb (h .number) (k .number) ∷ [])
+unfoldable pub sameHint : Hint → Hint → Bool
+sameHint h k = all (eqb (h .lsn) (k .lsn) ∷ eqb (h .number) (k .number) ∷ [])
 
 -- confirmations: the same LSN and digest, and a threshold not above
 unfoldable pub confirmsAlso : Confirmation → Confirmation → Bool
@@ -58,7 +58,7 @@ lacking own other =
       ending = complete (other .scan) && not (complete (own .scan));
       parts = missing (samePart (own .scan .frames) (other .scan .frames)) (own .scan .parts) (other .scan .parts);
       malformed = missing eqb (own .scan .malformed) (other .scan .malformed);
-      hints = missing equalHint (own .hinting .hints) (other .hinting .hints);
+      hints = missing sameHint (own .hinting .hints) (other .hinting .hints);
       confirmed = missing confirmsAlso (own .hinting .confirmed) (other .hinting .confirmed);
       fingerprint = isSome (stated (other .fingerprint)) && not (isSome (stated (own .fingerprint)));
       image = isSome (other .image) && not (isSome (own .image));

@@ -1,7 +1,7 @@
 -- Examples of what a list lacks, one for each kind of thing.
 use Prim.Native.Nat.{ℕ}
 use mathlib.Core.List.{List, [], _∷_}
-use mathlib.Core.Option.{none, some}
+use mathlib.Core.Option.{none}
 use Rattle.rules.specs.declared.Fingerprint.the-variants.{Unknown, Checked}
 use Rattle.rules.specs.declared.Fingerprint.the-variants as fingerprint
 use Rattle.rules.specs.declared.Held.{Held}
@@ -9,12 +9,12 @@ use Rattle.rules.specs.File.{bit}
 use Rattle.rules.specs.Tests.{numberOf}
 use Rattle.rules.specs.Values.{Frame, Index}
 use Rattle.rules.specs.Load.{limited}
-use Rattle.rules.specs.Examples.{ample, area, hintAt, confirmedAt, checkpoint, indexOf, three, closed, first, empty, numbersOf, Example, example}
+use Rattle.rules.specs.Examples.{ample, area, hintAt, confirmedAt, checkpoint, three, closed, first, numbersOf, Example, example}
 use Rattle.rules.specs.AbsorbExamples.{ofImage}
 use Rattle.rules.specs.HintExamples.{hinting}
 use Rattle.rules.specs.MergeExamples.{partAt, withParts}
 use Rattle.rules_lacks.specs.declared.Lacks.{Lacks}
-use Rattle.rules_lacks.specs.Lacks.{lacks}
+use Rattle.rules_lacks.specs.Lacks.{holdsAll, lacks}
 
 -- ---- values
 -- withParts, with these frames, parts, malformed LSNs and hints
@@ -81,6 +81,13 @@ lacksNumbers l =
 abbrev pub lacked : Index → Index → List ℕ
 lacked own other = numbersOf lacksNumbers (lacks ample own ample other)
 
+unfoldable pub heldNumbers : Lacks → List ℕ
+heldNumbers l = bit (holdsAll l) ∷ []
+
+-- 1 where the own list holds all that the other holds
+abbrev pub holds : Index → Index → List ℕ
+holds own other = numbersOf heldNumbers (lacks ample own ample other)
+
 -- ---- the table
 unfoldable pub lists : List Example
 lists =
@@ -117,4 +124,9 @@ lists =
     ∷ example (numberOf (lacks ample (ofImage 5 first) ample first) ∷ numberOf (lacks ample first ample (ofImage 6 first))
     ∷ numberOf (lacks ample (ofImage 5 first) ample (ofImage 6 first)) ∷ [])
     (0 ∷ 0 ∷ 42 ∷ [])
+    -- nothing but image id and room is lacking, or more
+    ∷ example (holds whole copy) (0 ∷ 1 ∷ [])
+    ∷ example (holds first (ofImage 5 first)) (0 ∷ 1 ∷ [])
+    ∷ example (holds (hinting Unknown 4 [] []) (hinting Unknown 5 [] [])) (0 ∷ 1 ∷ [])
+    ∷ example (holds copy whole) (0 ∷ 0 ∷ [])
     ∷ []

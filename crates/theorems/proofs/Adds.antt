@@ -14,8 +14,10 @@ use Rattle.rules.specs.Merge.{further, takenScan, mergedScan, merged, mergeNumb
 use Rattle.rules.specs.File.{over, hasHinting, versionOf, headerOf, hintSection, confirmedSection, bodyOf, saved}
 use Rattle.rules.proofs.Tests.{test, both, and-left, and-right, all→, →all, accepted→, accepted-eq, →after}
 use Rattle.rules.proofs.Same.{eqb-self, sameCheckpoint-self, sameCheckpoint-eq, sameEnd-self, sameEnd-eq}
-use Rattle.adds.specs.Same.{sameList, sameHint, sameConfirmation}
-use Rattle.adds.proofs.compare.Same.{sameList-self, sameList-eq, sameHint-self, sameHint-eq, sameConfirmation-self, sameConfirmation-eq}
+use Rattle.rules_lacks.specs.Lacks.{sameHint}
+use Rattle.rules_lacks.proofs.Laws.{sameHint-self, sameHint-eq}
+use Rattle.adds.specs.Same.{sameList, sameConfirmation}
+use Rattle.adds.proofs.compare.Same.{sameList-self, sameList-eq, sameConfirmation-self, sameConfirmation-eq}
 use Rattle.index.specs.Index.{Tables, roomOf, roomIn, indexIn, kindsIn, kinded, storeOf}
 use Rattle.index.specs.Needs.{Passes, heldQuestion4}
 use Rattle.index.proofs.Lent.{put-back}

@@ -20,10 +20,12 @@ use Rattle.laws.proofs.hint_lists.Rising.{rising→, rising-each}
 use Rattle.laws.proofs.hint_lists.Hints.{insertAll-keeps, hints-insert}
 use Rattle.laws.proofs.hint_lists.Adding.{insertAll-rising}
 use Rattle.laws.proofs.hint_lists.Thinning.{kept-length, kept-every, thin-length}
+use Rattle.rules_lacks.specs.Lacks.{sameHint}
+use Rattle.rules_lacks.proofs.Laws.{sameHint-self, sameHint-eq}
 use Rattle.adds.specs.declared.compare.Weighed.{Weighed}
-use Rattle.adds.specs.Same.{sameList, sameHint}
+use Rattle.adds.specs.Same.{sameList}
 use Rattle.adds.specs.Marks.{marked, lower, unweighed, weighed, changedBy}
-use Rattle.adds.proofs.compare.Same.{differ, sameList-self, sameList-eq, sameHint-self, sameHint-eq}
+use Rattle.adds.proofs.compare.Same.{differ, sameList-self, sameList-eq}
 use Rattle.adds.proofs.compare.Counts.{count-full}
 use Rattle.adds.proofs.compare.Marks.{hintsOf, noMark, newAt, hints-length, hints-at, marked-hints, kept-all-held}
 use Rattle.adds.proofs.compare.Weighing.{Numbered, weighed-all, leaves, changes}

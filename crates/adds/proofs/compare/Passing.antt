@@ -24,13 +24,15 @@ use Rattle.rules.proofs.Same.{eqb-self}
 use Rattle.laws.proofs.hint_lists.Hints.{joined-none}
 use Rattle.tables.specs.Tables.{hintsIn, confirmationsIn}
 use Rattle.tables.proofs.Walk.{records-turn}
+use Rattle.rules_lacks.specs.Lacks.{sameHint}
+use Rattle.rules_lacks.proofs.Laws.{sameHint-self}
 use Rattle.adds.specs.declared.compare.Turn.{Turn}
 use Rattle.adds.specs.declared.compare.Weighed.{Weighed}
-use Rattle.adds.specs.Same.{sameList, sameHint, sameConfirmation}
+use Rattle.adds.specs.Same.{sameList, sameConfirmation}
 use Rattle.adds.specs.Marks.{mark, marked, marksOf, lsnFrom, unweighed, weighOne, weighed, changedBy}
 use Rattle.adds.specs.Confirmed.{absorbed, unmovedBy, fromLow, arriving, confirmedChange}
 use Rattle.adds.specs.Answers.{LsnAt, Turned, HintsAnswered, ConfirmedAnswered}
-use Rattle.adds.proofs.compare.Same.{sameList-self, sameHint-self}
+use Rattle.adds.proofs.compare.Same.{sameList-self}
 use Rattle.adds.proofs.compare.Marks.{next-new, next-held, next-both}
 use Rattle.adds.proofs.compare.Hints.{hints-change}
 use Rattle.adds.proofs.compare.Confirmed.{confirmed-change}

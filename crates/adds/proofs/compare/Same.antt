@@ -5,10 +5,9 @@ use mathlib.Core.List.{List, [], _∷_}
 use lib.ListN.{length}
 use borrow.Author.Tests.{eqb-true}
 use Rattle.rules.specs.declared.Confirmation.{Confirmation}
-use Rattle.rules.specs.declared.Hint.{Hint}
 use Rattle.rules.proofs.Tests.{never, test, and-left, and-right, both, all→, →all}
 use Rattle.rules.proofs.Same.{eqb-self}
-use Rattle.adds.specs.Same.{sameList, sameHint, sameConfirmation}
+use Rattle.adds.specs.Same.{sameList, sameConfirmation}
 
 -- a test that fails where two values differ
 pub differ : {A : Type 0} (same : A → A → Bool) → ((a b : A) → same a b ≡ true → a ≡ b) → (a b : A) → (a ≡ b → ⊥) → same a b ≡ false
@@ -29,18 +28,6 @@ module _ {A : Type 0} (same : A → A → Bool) where
       let p = eq x y (and-left (same x y) (sameList same xs ys) e) in
       let q = sameList-eq eq xs ys (and-right (same x y) (sameList same xs ys) e) in
       λ i. p i ∷ q i
-
-pub sameHint-self : (h : Hint) → sameHint h h ≡ true
-unfolding sameHint
-sameHint-self h = →all _ (eqb-self (h .lsn), (eqb-self (h .number), tt))
-
-pub sameHint-eq : (h k : Hint) → sameHint h k ≡ true → h ≡ k
-unfolding sameHint
-sameHint-eq h k e =
-    let t = all→ _ e in
-    let e0 : h .lsn ≡ k .lsn = eqb-true _ _ (t .0) in
-    let e1 : h .number ≡ k .number = eqb-true _ _ (t .1 .0) in
-    λ i. record { lsn = e0 i; number = e1 i }
 
 pub sameConfirmation-self : (c : Confirmation) → sameConfirmation c c ≡ true
 unfolding sameConfirmation

@@ -1,11 +1,11 @@
 -- A merge changes nothing but the image id where nothing is lacking. Assumes nothing.
-use mathlib.Core.Path.{_≡_, refl, sym, ap, _∙_}
-use mathlib.Core.Bool.{Bool, true, false, not, _&&_, _||_, cond}
+use mathlib.Core.Path.{_≡_, refl, ap, _∙_}
+use mathlib.Core.Bool.{Bool, true, false, cond}
 use mathlib.Core.List.{List, [], _∷_}
-use mathlib.Core.Option.{Option, none, some}
+use mathlib.Core.Option.{Option}
 use Prim.Native.Nat.{ℕ, zero, suc, _<_, _≤_, min}
 use native.Mathlib.Omega.{arith}
-use lib.Dec.{eqb, leb, ltb}
+use lib.Dec.{eqb}
 use lib.ListN.{length, getD}
 use borrow.Author.Tests.{eq-eqb, le-leb, le-ltb}
 use Rattle.rules.specs.declared.Area.{Area}
@@ -14,12 +14,12 @@ use Rattle.rules.specs.declared.Fingerprint.{Fingerprint}
 use Rattle.rules.specs.declared.Fingerprint.the-variants.{Unknown, Checked}
 use Rattle.rules.specs.declared.Fingerprint.the-variants as fingerprint
 use Rattle.rules.specs.declared.Hint.{Hint}
-use Rattle.rules.specs.Tests.{isSome, orElse, each, Accepted}
+use Rattle.rules.specs.Tests.{isSome, orElse, Accepted}
 use Rattle.rules.specs.Values.{Scan, Index, Lengths, noHint, noConfirmation, count, complete, stated, isChecked}
 use Rattle.rules.specs.Sections.{hintLsn, hintOk, hintsOk, confirmedLsn, confirmationOk, confirmationsOk}
 use Rattle.rules.specs.Questions.{question4}
 use Rattle.rules.specs.Hints.{insert, heldHint, inArea, insertAll, limitedTo, joinedHints, heldConfirmation, lastOnes, keepsNothing, keep, keepAll}
-use Rattle.rules.specs.Merge.{further, takenScan, mergedScan, heldFrom, mergedFingerprint, mergedHinting, merged, merge}
+use Rattle.rules.specs.Merge.{further, mergedScan, heldFrom, mergedFingerprint, merged, merge}
 use Rattle.rules.proofs.Tests.{test, never, and-left, choose, →after}
 use Rattle.laws.specs.Order.{Rises}
 use Rattle.laws.proofs.hint_lists.Lists.{all-at, insert-past, insert-met}
@@ -28,8 +28,8 @@ use Rattle.laws.proofs.hint_lists.Keeping.{last-few}
 use Rattle.laws.proofs.hint_lists.Closure.{HintingIs, hinting→}
 use Rattle.laws.proofs.hint_lists.Calls.{holds-of}
 use Rattle.rules_lacks.specs.declared.Lacks.{Lacks}
-use Rattle.rules_lacks.specs.Lacks.{covers, equalHint, confirmsAlso, lacking, holdsAll, lacks}
-use Rattle.rules_lacks.proofs.Laws.{Found, covers→, equalHint-eq, ConfirmsAlso, confirms→}
+use Rattle.rules_lacks.specs.Lacks.{covers, sameHint, confirmsAlso, lacking}
+use Rattle.rules_lacks.proofs.Laws.{Found, covers→, sameHint-eq, ConfirmsAlso, confirms→}
 use Rattle.theorems.specs.Lacks.{LacksAdds}
 use Rattle.theorems.proofs.lacking.Trans.{Nothing, Asked, →asked, lacks→}
 
@@ -45,20 +45,20 @@ module _ {A : Type 0} (key : A → ℕ) (meet : A → A → A) (d x : A) where
 
 -- ---- hints
 module _ (a : Area) (hs : List Hint) (b : ℕ) (r : Rises hintLsn b hs) where
-  all-held : (list : List Hint) → ((i : ℕ) → i < length list → Found noHint (λ x. equalHint x (getD list i noHint)) hs) → insertAll a hs list ≡ hs
+  all-held : (list : List Hint) → ((i : ℕ) → i < length list → Found noHint (λ x. sameHint x (getD list i noHint)) hs) → insertAll a hs list ≡ hs
   unfolding insertAll
   all-held [] f = refl
   all-held (x ∷ xs) f =
-      let h = f zero (omega arith) in let e = equalHint-eq _ x (h .holds) in
+      let h = f zero (omega arith) in let e = sameHint-eq _ x (h .holds) in
       let s : insert hintLsn heldHint x hs ≡ hs = insert-held hintLsn heldHint noHint x b hs r (h .place) (h .inside) (ap hintLsn e) refl in
       let t : cond (inArea a (x .lsn)) (insert hintLsn heldHint x hs) hs ≡ hs = choose (λ z. z ≡ hs) (inArea a (x .lsn)) _ _ (λ w. s) (λ w. refl) in
       rw t (all-held xs (λ i l. f (suc i) (omega arith)))
 
-pub joined-same : (a : Area) (most : ℕ) (hs list : List Hint) → hintsOk a hs ≡ true → length hs ≤ most → covers equalHint hs list ≡ true → joinedHints a most hs list ≡ hs
+pub joined-same : (a : Area) (most : ℕ) (hs list : List Hint) → hintsOk a hs ≡ true → length hs ≤ most → covers sameHint hs list ≡ true → joinedHints a most hs list ≡ hs
 unfolding joinedHints limitedTo hintsOk
 joined-same a most hs list ok l c =
     let r = rising→ hintLsn hintOk (a .start) (a .end) hs ok .order in
-    let e : insertAll a hs list ≡ hs = all-held a hs (a .start) r list (covers→ noHint equalHint hs list c) in
+    let e : insertAll a hs list ≡ hs = all-held a hs (a .start) r list (covers→ noHint sameHint hs list c) in
     choose (λ z. z ≡ hs) (eqb most 0) hs _ (λ w. refl) (λ w. rw (e, le-leb (length hs) most l))
 
 -- ---- confirmations

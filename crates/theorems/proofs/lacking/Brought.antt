@@ -1,21 +1,22 @@
 -- Where nothing is lacking, adds names nothing but the image id. Assumes nothing.
-use mathlib.Core.Path.{_≡_, refl, sym, ap, subst, _∙_}
-use mathlib.Core.Bool.{Bool, true, not, _&&_}
+use mathlib.Core.Path.{_≡_, ap, subst}
+use mathlib.Core.Bool.{Bool, true, not}
 use lib.Dec.{eqb}
-use Rattle.rules.specs.Tests.{Accepted, orElse}
+use Rattle.rules.specs.Tests.{Accepted}
 use Rattle.rules.specs.Values.{Index, Lengths, sameCheckpoint, sameEnd}
 use Rattle.rules.specs.Questions.{question4}
 use Rattle.rules.specs.Merge.{merged, mergeNumber}
 use Rattle.rules.proofs.Tests.{both, and-left, →all, accepted→}
 use Rattle.rules.proofs.Same.{eqb-self, sameCheckpoint-self, sameEnd-self}
+use Rattle.rules_lacks.specs.Lacks.{sameHint}
+use Rattle.rules_lacks.proofs.Laws.{sameHint-self}
 use Rattle.adds.specs.declared.Brings.{Brings}
-use Rattle.adds.specs.Same.{sameList, sameHint, sameConfirmation}
+use Rattle.adds.specs.Same.{sameConfirmation}
 use Rattle.adds.specs.Brings.{sameFrame, sameHeld, bringsOf, brings}
 use Rattle.adds.proofs.Same.{sameKnown-self, sameFrame-self, sameHeld-self, sameFingerprint-self}
-use Rattle.adds.proofs.compare.Same.{sameList-self, sameHint-self, sameConfirmation-self}
+use Rattle.adds.proofs.compare.Same.{sameList-self, sameConfirmation-self}
 use Rattle.theorems.specs.Adds.{noneButImage}
 use Rattle.rules_lacks.specs.declared.Lacks.{Lacks}
-use Rattle.rules_lacks.specs.Lacks.{holdsAll, lacks}
 use Rattle.theorems.specs.Lacks.{LacksBrings}
 use Rattle.theorems.proofs.lacking.Trans.{lacks→}
 use Rattle.theorems.proofs.lacking.Adds.{merged-same}

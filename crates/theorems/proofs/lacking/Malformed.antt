@@ -1,5 +1,5 @@
 -- Of two lists cut from one reading a merged list lacks no malformed LSN. Assumes nothing.
-use mathlib.Core.Path.{_≡_, refl, sym, ap, subst, _∙_}
+use mathlib.Core.Path.{_≡_, refl, sym, subst, _∙_}
 use mathlib.Core.Bool.{Bool, true, false, not, _&&_}
 use mathlib.Core.Logic.{⊎-elim}
 use mathlib.Core.List.{List, [], _∷_}
@@ -13,7 +13,7 @@ use borrow.Author.Tests.{leb-true, ltb-true, ltb-false, lt-ltb, le-ltb}
 use Rattle.rules.specs.declared.Area.{Area}
 use Rattle.rules.specs.declared.EndState.{EndState}
 use Rattle.rules.specs.Tests.{isSome, Accepted}
-use Rattle.rules.specs.Values.{Scan, Index, Lengths, maxMalformed, boundaries, lsnOf, frontierOf, frontier, count, complete}
+use Rattle.rules.specs.Values.{Scan, Index, Lengths, maxMalformed, boundaries, frontierOf, frontier, count, complete}
 use Rattle.rules.specs.Sections.{ownLsn}
 use Rattle.rules.specs.Questions.{areaOk, question1, question2}
 use Rattle.rules.specs.Record.{below}

@@ -1,9 +1,9 @@
 -- The part that a plan names, where nothing is lacking. Assumes nothing.
 use mathlib.Core.Path.{_≡_, refl, sym, ap, _∙_}
-use mathlib.Core.Bool.{true, false}
+use mathlib.Core.Bool.{true}
 use mathlib.Core.List.{List, [], _∷_, _++_}
 use mathlib.Core.Option.{Option, none, some}
-use Prim.Native.Nat.{ℕ, zero, suc, _+_, _<_, _≤_}
+use Prim.Native.Nat.{ℕ, zero, suc, _+_, _<_}
 use native.Mathlib.Omega.{arith}
 use lib.Dec.{eqb, leb}
 use lib.ListN.{length, getD}
@@ -17,10 +17,9 @@ use Rattle.rules.specs.declared.HeldPart.{HeldPart}
 use Rattle.rules.specs.declared.Plan.{Plan}
 use Rattle.rules.specs.declared.Plan.the-variants.{Start, At, End}
 use Rattle.rules.specs.declared.Resume.{Resume}
-use Rattle.rules.specs.Values.{Frame, Scan, noHeld, partBytes}
+use Rattle.rules.specs.Values.{Frame, Scan, noHeld}
 use Rattle.rules.specs.Sections.{partOk}
 use Rattle.rules.specs.Plan.{offsetOf, assemblyOf, planFrom, planOr, planned, bytesAt}
-use Rattle.rules.specs.Run.{contentOf}
 use Rattle.rules.proofs.Tests.{test}
 use Rattle.rules.proofs.Walk.{walk-rises}
 use Rattle.laws.proofs.scans.Parts.{keep, atAfter, part→, follows→, HeldIs, part-at}

@@ -1,9 +1,9 @@
 -- The own list does all that the other does, where nothing is lacking. Assumes nothing.
 use mathlib.Core.Path.{_≡_, refl, sym, ap, subst, _∙_}
-use mathlib.Core.Bool.{Bool, true, false, not, _&&_}
+use mathlib.Core.Bool.{Bool, true, false}
 use mathlib.Core.List.{List, [], _∷_}
 use mathlib.Core.Option.{Option, none, some}
-use Prim.Native.Nat.{ℕ, zero, suc, _<_, _≤_}
+use Prim.Native.Nat.{ℕ, _<_, _≤_}
 use native.Mathlib.Omega.{arith}
 use lib.Dec.{leb, eqb}
 use lib.ListN.{length, getD, take}
@@ -15,17 +15,17 @@ use Rattle.rules.specs.declared.EndState.{EndState}
 use Rattle.rules.specs.declared.Hint.{Hint}
 use Rattle.rules.specs.declared.Plan.{Plan}
 use Rattle.rules.specs.Tests.{isSome, agree, agrees}
-use Rattle.rules.specs.Values.{Scan, Index, Lengths, noCheckpoint, noHeld, noHint, noConfirmation, checkpointAt, lsnOf, boundaries, count, complete, stated, sameCheckpoint, sameEnd}
+use Rattle.rules.specs.Values.{Scan, Index, Lengths, noCheckpoint, noHeld, noHint, noConfirmation, checkpointAt, boundaries, count, complete, stated, sameCheckpoint, sameEnd}
 use Rattle.rules.specs.Questions.{areaOk, question1, question2, question4}
 use Rattle.rules.specs.Merge.{question41, question42, question43}
 use Rattle.rules.specs.Plan.{lastNotAbove, planFrom, planOr, planned, startOf, jump}
 use Rattle.rules.specs.Run.{Content, contentOf}
-use Rattle.rules.proofs.Tests.{test, never, both, and-left, and-right, all→}
+use Rattle.rules.proofs.Tests.{test, never, and-left, and-right, all→}
 use Rattle.rules.proofs.Same.{sameArea-eq, sameCheckpoint-eq, sameEnd-eq}
 use Rattle.laws.proofs.scans.Record.{interval-pos}
 use Rattle.laws.proofs.scans.Scans.{scan-of, scan→}
-use Rattle.rules_lacks.specs.Lacks.{samePart, equalHint, confirmsAlso}
-use Rattle.rules_lacks.proofs.Laws.{covers→, samePart→, equalHint-eq, confirms→}
+use Rattle.rules_lacks.specs.Lacks.{samePart, sameHint, confirmsAlso}
+use Rattle.rules_lacks.proofs.Laws.{covers→, samePart→, sameHint-eq, confirms→}
 use Rattle.theorems.specs.Terms.{Holds, storedIn}
 use Rattle.theorems.specs.Hints.{Among}
 use Rattle.theorems.specs.Lacks.{Confirms, Serves, NothingLacking}
@@ -103,8 +103,8 @@ module _ (own other : Index) (n : Nothing own other) where
 
   each-hint : (h : Hint) → Among (other .hinting .hints) h → Among (own .hinting .hints) h
   each-hint h o =
-      let f = covers→ noHint equalHint (own .hinting .hints) (other .hinting .hints) (n .hints) (o .place) (o .inside) in
-      record { place = f .place; inside = f .inside; holds = equalHint-eq _ _ (f .holds) ∙ o .holds }
+      let f = covers→ noHint sameHint (own .hinting .hints) (other .hinting .hints) (n .hints) (o .place) (o .inside) in
+      record { place = f .place; inside = f .inside; holds = sameHint-eq _ _ (f .holds) ∙ o .holds }
 
   each-confirmed : (i : ℕ) → i < length (other .hinting .confirmed) → Confirms (own .hinting .confirmed) (getD (other .hinting .confirmed) i noConfirmation)
   each-confirmed i l =

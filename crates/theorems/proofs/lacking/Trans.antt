@@ -1,24 +1,24 @@
 -- Covering goes on. Assumes nothing.
-use mathlib.Core.Path.{_≡_, refl, sym, ap, subst, _∙_}
-use mathlib.Core.Bool.{Bool, true, false, not, _&&_, _||_}
+use mathlib.Core.Path.{_≡_, refl, sym, subst, _∙_}
+use mathlib.Core.Bool.{Bool, true, false, not, _&&_}
 use mathlib.Core.List.{List, [], _∷_}
 use mathlib.Core.Option.{Option, none, some}
 use Prim.Native.Nat.{ℕ, _-_, _≤_}
 use native.Mathlib.Omega.{arith}
 use lib.Dec.{eqb}
-use lib.ListN.{length, take}
+use lib.ListN.{length}
 use borrow.Author.Tests.{eqb-true, eq-eqb}
 use Rattle.rules.specs.declared.Checkpoint.{Checkpoint}
 use Rattle.rules.specs.declared.EndState.{EndState}
 use Rattle.rules.specs.Tests.{isSome, agree, agrees, Accepted}
-use Rattle.rules.specs.Values.{Index, Lengths, noHeld, noHint, noConfirmation, count, complete, stated, sameArea, sameCheckpoint, sameEnd}
+use Rattle.rules.specs.Values.{Index, Lengths, noHeld, noHint, noConfirmation, count, complete, stated, sameCheckpoint, sameEnd}
 use Rattle.rules.specs.Questions.{question1, question2, question3, question4}
 use Rattle.rules.specs.Merge.{question41, question42, question43, mergeNumber}
-use Rattle.rules.proofs.Tests.{test, never, both, and-left, and-right, all→, →all, asked, asks, accepted→, →after}
-use Rattle.rules.proofs.Same.{eqb-self, sameArea-eq, sameCheckpoint-eq, sameCheckpoint-self, sameEnd-eq}
+use Rattle.rules.proofs.Tests.{never, both, and-left, and-right, all→, →all, asked, asks, accepted→, →after}
+use Rattle.rules.proofs.Same.{eqb-self, sameArea-eq, sameCheckpoint-eq, sameEnd-eq}
 use Rattle.rules_lacks.specs.declared.Lacks.{Lacks}
-use Rattle.rules_lacks.specs.Lacks.{covers, samePart, equalHint, confirmsAlso, lacking, holdsAll, lacks}
-use Rattle.rules_lacks.proofs.Laws.{covers-count, covers-self, covers-on, →samePart, samePart-on, equalHint-self, equalHint-on, eqb-on, ConfirmsAlso, →confirms, confirms-on}
+use Rattle.rules_lacks.specs.Lacks.{covers, samePart, sameHint, confirmsAlso, lacking, holdsAll, lacks}
+use Rattle.rules_lacks.proofs.Laws.{covers-count, covers-self, covers-on, →samePart, samePart-on, sameHint-self, sameHint-on, eqb-on, ConfirmsAlso, →confirms, confirms-on}
 use Rattle.theorems.specs.Lacks.{LacksSelf, LacksTrans, CountsTell}
 
 -- ---- counts
@@ -31,7 +31,7 @@ pub record Nothing (own other : Index) : Type 0 where
   pub ending : complete (other .scan) ≡ true → complete (own .scan) ≡ true
   pub parts : covers (samePart (own .scan .frames) (other .scan .frames)) (own .scan .parts) (other .scan .parts) ≡ true
   pub malformed : covers eqb (own .scan .malformed) (other .scan .malformed) ≡ true
-  pub hints : covers equalHint (own .hinting .hints) (other .hinting .hints) ≡ true
+  pub hints : covers sameHint (own .hinting .hints) (other .hinting .hints) ≡ true
   pub confirmed : covers confirmsAlso (own .hinting .confirmed) (other .hinting .confirmed) ≡ true
   pub fingerprint : isSome (stated (other .fingerprint)) ≡ true → isSome (stated (own .fingerprint)) ≡ true
 
@@ -88,7 +88,7 @@ lacks-self x =
       ending = λ h. h;
       parts = covers-self noHeld (samePart (x .scan .frames) (x .scan .frames)) (λ p. →samePart (x .scan .frames) (x .scan .frames) p p refl refl) (x .scan .parts);
       malformed = covers-self 0 eqb eqb-self (x .scan .malformed);
-      hints = covers-self noHint equalHint equalHint-self (x .hinting .hints);
+      hints = covers-self noHint sameHint sameHint-self (x .hinting .hints);
       confirmed = covers-self noConfirmation confirmsAlso (λ c. →confirms c c (record { lsn = refl; digest = refl; threshold = omega arith })) (x .hinting .confirmed);
       fingerprint = λ h. h;
     })
@@ -104,7 +104,7 @@ nothing-on a b c p q =
           covers-on noHeld (samePart (a .scan .frames) (b .scan .frames)) (samePart (b .scan .frames) (c .scan .frames)) (samePart (a .scan .frames) (c .scan .frames))
           (samePart-on (a .scan .frames) (b .scan .frames) (c .scan .frames)) (a .scan .parts) (b .scan .parts) (c .scan .parts) (p .parts) (q .parts);
       malformed = covers-on 0 eqb eqb eqb eqb-on (a .scan .malformed) (b .scan .malformed) (c .scan .malformed) (p .malformed) (q .malformed);
-      hints = covers-on noHint equalHint equalHint equalHint equalHint-on (a .hinting .hints) (b .hinting .hints) (c .hinting .hints) (p .hints) (q .hints);
+      hints = covers-on noHint sameHint sameHint sameHint sameHint-on (a .hinting .hints) (b .hinting .hints) (c .hinting .hints) (p .hints) (q .hints);
       confirmed =
           covers-on noConfirmation confirmsAlso confirmsAlso confirmsAlso confirms-on (a .hinting .confirmed) (b .hinting .confirmed) (c .hinting .confirmed) (p .confirmed)
           (q .confirmed);
