@@ -8,3 +8,4 @@ pub mod MergeLacks
 pub mod MergeLeft
 pub mod Malformed
 pub mod InTables
+pub mod Player

@@ -134,6 +134,9 @@ pub record MergedHolds (own other y : Index) : Type 0 where
   pub ending' : lacking y other .ending ≡ false
   pub fingerprint' : lacking y other .fingerprint ≡ false
   pub image' : lacking y other .image ≡ false
+  -- its room is the own list's
+  pub budget' : lacking y other .budget ≡ lacking own other .budget
+  pub most' : lacking y other .most ≡ lacking own other .most
 
 abbrev pub MergeLacks : Type 0
 MergeLacks = (l m : Lengths) (own other y : Index) → merge l own m other ≡ Accepted y → MergedHolds own other y

@@ -3,22 +3,27 @@ use Prim.Native.Nat.{ℕ, _≤_}
 use mathlib.Core.Path.{_≡_}
 use mathlib.Core.Bool.{true}
 use mathlib.Core.Option.{some}
+use lib.Dec.{eqb}
 use Rattle.rules.specs.declared.AreaIndex.{AreaIndex}
 use Rattle.rules.specs.declared.Assembly.the-variants.{Stored}
 use Rattle.rules.specs.declared.HeldPart.{HeldPart}
 use Rattle.rules.specs.declared.Plan.{Plan}
 use Rattle.rules.specs.declared.Plan.the-variants.{At}
 use Rattle.rules.specs.declared.Resume.{Resume}
-use Rattle.rules.specs.Tests.{Accepted}
+use Rattle.rules.specs.Tests.{Accepted, agree}
 use Rattle.rules.specs.Values.{isChecked}
 use Rattle.rules.specs.Hints.{Hinted}
 use Rattle.rules.specs.Plan.{startOf, bytesAt}
-use Rattle.index.specs.Index.{Tables, indexIn}
+use Rattle.index.specs.declared.Made.the-variants as made
+use Rattle.index.specs.Index.{Tables, indexIn, out}
 use Rattle.plan.specs.Calls.{planIn}
 use Rattle.hint.specs.Calls.{hintIn}
+use Rattle.merge.specs.Merge.{mergeIn}
 use Rattle.rules_lacks.specs.declared.Lacks.{Lacks}
 use Rattle.rules_lacks.specs.Lacks.{holdsAll}
 use Rattle.lacks.specs.Lacks.{lacksIn}
+use Rattle.theorems.specs.Adds.{SameAnswersInTables}
+use Rattle.theorems.specs.Demand3InTables.{LentIn}
 use Rattle.theorems.specs.Lacks.{Serves, HintServes}
 
 -- k says what h says, and its bytes in the store of t are those of h in that of u
@@ -46,3 +51,16 @@ LacksHintInTables =
     → (isChecked (y .fingerprint) ≡ true → isChecked (x .fingerprint) ≡ true)
     → (first end playtime : ℕ) (q : Hinted) → hintIn y u first end playtime ≡ Accepted (some q)
     → (p : Hinted) × (hintIn x t first end playtime ≡ Accepted (some p)) × HintServes (indexIn x t) (indexIn y u) first p q
+
+-- all lists below a kept one may go at once
+abbrev pub LacksTransInTables : Type 0
+LacksTransInTables =
+    (x : AreaIndex) (t : Tables) (y : AreaIndex) (u : Tables) (z : AreaIndex) (v : Tables) (b c : Lacks) → lacksIn x t y u ≡ Accepted b → holdsAll b ≡ true
+    → lacksIn y u z v ≡ Accepted c → holdsAll c ≡ true → agree eqb (indexIn x t .image) (indexIn z v .image) ≡ true
+    → (d : Lacks) × (lacksIn x t z v ≡ Accepted d) × (holdsAll d ≡ true)
+
+-- after a merge, which leaves the numbers z and the tables t', every answer and the file are those of the own list
+abbrev pub LacksAddsInTables : Type 0
+LacksAddsInTables =
+    (x : AreaIndex) (t : Tables) (y : AreaIndex) (u : Tables) (b : Lacks) (z : AreaIndex) (t' : Tables) → LentIn x t → LentIn y u → lacksIn x t y u ≡ Accepted b
+    → holdsAll b ≡ true → mergeIn x t y u ≡ out (made.Index z) t' → SameAnswersInTables x t z t'

@@ -9,6 +9,7 @@ pub mod Hints
 pub mod Jump
 pub mod Lacks
 pub mod LacksInTables
+pub mod LacksPlayer
 pub mod PartRule
 pub mod Player
 pub mod Questions

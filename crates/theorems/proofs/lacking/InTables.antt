@@ -1,7 +1,7 @@
 -- The statements over lent tables. Assumes nothing.
 use mathlib.Core.Path.{_≡_, refl, sym, ap, subst, _∙_}
 use mathlib.Core.Bool.{Bool, true, _&&_}
-use mathlib.Core.List.{List, _++_}
+use mathlib.Core.List.{List}
 use mathlib.Core.Option.{some}
 use Prim.Native.Nat.{ℕ, _≤_}
 use lib.ListN.{drop}
@@ -15,9 +15,10 @@ use Rattle.rules.specs.declared.Resume.{Resume}
 use Rattle.rules.specs.Tests.{Answer, Accepted}
 use Rattle.rules.specs.Values.{used}
 use Rattle.rules.specs.Plan.{planned, startOf, bytesAt, plan}
-use Rattle.rules.specs.Merge.{question41}
+use Rattle.rules.specs.Merge.{question41, merged}
 use Rattle.rules.specs.Hints.{hint}
-use Rattle.rules.proofs.Tests.{and-left, all→, after→, accepted→}
+use Rattle.rules.proofs.Tests.{both, and-left, and-right, all→, after→, accepted→, →after}
+use Rattle.adds.specs.Brings.{bringsOf, brings}
 use Rattle.rules.proofs.Same.{sameArea-eq}
 use Rattle.index.specs.Index.{Tables, roomOf, indexIn, kindsIn, kinded, refusal}
 use Rattle.index.specs.Needs.{Passes}
@@ -27,12 +28,13 @@ use Rattle.plan.specs.Calls.{planIn}
 use Rattle.plan.proofs.Steps.{answer-is}
 use Rattle.hint.specs.Calls.{hintIn}
 use Rattle.rules_lacks.specs.declared.Lacks.{Lacks}
-use Rattle.rules_lacks.specs.Lacks.{lacks, holdsAll}
-use Rattle.lacks.specs.Lacks.{lacksIn}
+use Rattle.rules_lacks.specs.Lacks.{lacks}
 use Rattle.theorems.proofs.MergeInTables.{kinded→}
 use Rattle.theorems.specs.Lacks.{Serves, SamePart}
-use Rattle.theorems.specs.LacksInTables.{SamePartIn, ServesIn, NothingLackingInTables, LacksHintInTables}
-use Rattle.theorems.proofs.lacking.Trans.{Asked, lacks→}
+use Rattle.theorems.specs.LacksInTables.{SamePartIn, ServesIn, NothingLackingInTables, LacksHintInTables, LacksTransInTables, LacksAddsInTables}
+use Rattle.theorems.proofs.Adds.{only-image-named-in-tables}
+use Rattle.theorems.proofs.lacking.Trans.{Asked, →asked, lacks→, lacks-trans}
+use Rattle.theorems.proofs.lacking.Brought.{lacks-brings}
 use Rattle.theorems.proofs.lacking.Serves.{nothing-lacking}
 use Rattle.theorems.proofs.lacking.HintPlace.{lacks-hint}
 
@@ -88,3 +90,21 @@ lacks-hint-in-tables x t y u b e h mark first end playtime q d =
     let f = kinded→ (kindsIn y u) (hint (roomOf u) (indexIn y u) first end playtime) (some q) d in
     let r = lacks-hint (roomOf t) (roomOf u) (indexIn x t) (indexIn y u) b (k .1) h mark first end playtime q (f .1) in
     (r .0, kinded-is (kindsIn x t) (hint (roomOf t) (indexIn x t) first end playtime) (and-left (kindsIn x t) (kindsIn y u) (k .0)) ∙ r .1, r .2)
+
+pub lacks-trans-in-tables : LacksTransInTables
+lacks-trans-in-tables x t y u z v b c e h f g i =
+    let k = kinded→ (kindsIn x t && kindsIn y u) (lacks (roomOf t) (indexIn x t) (roomOf u) (indexIn y u)) b e in
+    let m = kinded→ (kindsIn y u && kindsIn z v) (lacks (roomOf u) (indexIn y u) (roomOf v) (indexIn z v)) c f in
+    let r = lacks-trans (roomOf t) (roomOf u) (roomOf v) (indexIn x t) (indexIn y u) (indexIn z v) b c (k .1) h (m .1) g i in
+    let ok = both (and-left (kindsIn x t) (kindsIn y u) (k .0)) (and-right (kindsIn y u) (kindsIn z v) (m .0)) in
+    (r .0, kinded-is (kindsIn x t && kindsIn z v) (lacks (roomOf t) (indexIn x t) (roomOf v) (indexIn z v)) ok ∙ r .1, r .2)
+
+pub lacks-adds-in-tables : LacksAddsInTables
+unfolding brings
+lacks-adds-in-tables x t y u b z t' lx ly e h m =
+    let k = kinded→ (kindsIn x t && kindsIn y u) (lacks (roomOf t) (indexIn x t) (roomOf u) (indexIn y u)) b e in
+    let p = lacks→ (roomOf t) (roomOf u) (indexIn x t) (indexIn y u) b (k .1) h in
+    let a : brings (roomOf t) (indexIn x t) (roomOf u) (indexIn y u) ≡ Accepted (bringsOf (indexIn x t) (merged (indexIn x t) (indexIn y u))) =
+    →after (→asked (roomOf t) (roomOf u) (indexIn x t) (indexIn y u) (p .0)) refl in
+    only-image-named-in-tables x t y u _ z t' lx ly (kinded-is (kindsIn x t && kindsIn y u) _ (k .0) ∙ a) m
+    (lacks-brings (roomOf t) (roomOf u) (indexIn x t) (indexIn y u) b _ (k .1) h a)

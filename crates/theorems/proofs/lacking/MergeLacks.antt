@@ -1,34 +1,27 @@
 -- What a merged list can lack of the two. Assumes nothing.
 use mathlib.Core.Path.{_≡_, refl, sym, ap, subst, _∙_}
-use mathlib.Core.Bool.{Bool, true, false, not, _&&_, _||_, cond}
-use mathlib.Core.Logic.{⊎-elim}
-use mathlib.Core.List.{List, [], _∷_, _++_}
+use mathlib.Core.Bool.{Bool, true, false, not, _&&_, cond}
+use mathlib.Core.List.{List, [], _∷_}
 use mathlib.Core.Option.{Option, none, some}
-use Prim.Native.Nat.{ℕ, zero, suc, _-_, _<_, _≤_}
+use Prim.Native.Nat.{ℕ, _-_, _≤_}
 use native.Mathlib.Omega.{arith}
-use lib.Dec.{eqb, ltb}
-use lib.ListN.{length, getD, take, length-append}
-use borrow.Author.Tests.{ltb-true, ltb-false, le-ltb, lt-ltb}
+use lib.Dec.{ltb}
+use lib.ListN.{length, getD, length-append}
+use borrow.Author.Tests.{ltb-true, ltb-false, le-ltb}
 use Rattle.rules.specs.declared.Fingerprint.{Fingerprint}
 use Rattle.rules.specs.declared.Fingerprint.the-variants.{Unknown, Checked}
 use Rattle.rules.specs.declared.Fingerprint.the-variants as fingerprint
 use Rattle.rules.specs.declared.Held.{Held}
 use Rattle.rules.specs.PartRule.{Stored, Piece, opens, stores, partOf, opened, grown, addPart, piece, addParts}
 use Rattle.rules.specs.Tests.{isSome, orElse, Accepted}
-use Rattle.rules.specs.Values.{Frame, Scan, Index, Lengths, noHeld, count, complete, stated, maxMalformed}
-use Rattle.rules.specs.Sections.{ownLsn}
-use Rattle.rules.specs.Record.{below}
+use Rattle.rules.specs.Values.{Frame, Scan, Index, Lengths, noHeld, count, complete, stated}
 use Rattle.rules.specs.Merge.{further, mergedScan, heldFrom, mergedFingerprint, merged, mergeNumber, merge}
 use Rattle.rules.specs.Run.{Reading, Cut}
 use Rattle.rules.proofs.Tests.{test, never, choose, accepted→}
 use Rattle.laws.specs.Order.{Rises}
 use Rattle.laws.proofs.hint_lists.Calls.{taken, merged-numbers}
-use Rattle.laws.proofs.hint_lists.Lists.{all-at}
-use Rattle.laws.proofs.hint_lists.Rising.{rises-all}
-use Rattle.theorems.specs.Terms.{storedIn}
 use Rattle.theorems.specs.Useful.{MergeOf}
 use Rattle.theorems.proofs.Jump.{Joinable, joinable}
-use Rattle.theorems.proofs.ScanLaws.{counts}
 use Rattle.theorems.proofs.Useful.{merge-takes}
 use Rattle.rules_lacks.specs.Lacks.{covers, samePart, lacking}
 use Rattle.rules_lacks.proofs.Laws.{Found, →covers, →samePart, none-missing}
@@ -147,4 +140,6 @@ merge-lacks l m own other y e =
       ending' = known-none _ _ (o .complete);
       fingerprint' = known-none _ _ (λ z. ap (λ (g : Fingerprint). isSome (stated g)) (sym f) ∙ stated-other (own .fingerprint) (other .fingerprint) z);
       image' = known-none _ _ (λ z. ap isSome (sym i) ∙ else-other (own .image) (other .image) z);
+      budget' = rw b;
+      most' = rw (← h);
     }
