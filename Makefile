@@ -2,7 +2,7 @@
 # pkg-config file, the desk's program and its manual page.
 PREFIX ?= /usr/local
 DESTDIR ?=
-VERSION = 1.0
+VERSION = $(shell sed -n 's|^\#define SEEK_VERSION "\(.*\)"|\1|p' desk/seek/desk.h)
 ARCHIVE = target/libseek.a
 
 all: $(ARCHIVE)

@@ -15,6 +15,7 @@ static const char help[] =
     "seek: the seek index of Super Audio discs, for the service desk\n"
     "\n"
     "  seek show FILE..          what each file holds\n"
+    "  seek check FILE..         is each file right?\n"
     "  seek compare A B          may B be deleted if A is kept, and the other way\n"
     "                            round?\n"
     "  seek compare A B C..      beginning with the list that reaches furthest: which\n"
@@ -25,12 +26,13 @@ static const char help[] =
     "  seek unpack DISC          writes each list of a disc file as a list file: of\n"
     "                            our.disc our-two-channel.sbx, our-multichannel.sbx\n"
     "  seek plan FILE FRAME..    where a jump to a frame starts; a frame is a number,\n"
-    "                            or minutes:seconds:frames at 75 frames a second\n"
+    "                            minutes:seconds or minutes:seconds:frames, of which\n"
+    "                            there are 75 a second\n"
     "\n"
     "A file is a list file, or a disc file with the lists of one or both areas of a\n"
-    "disc. Disc files are compared and merged slot by slot: slot 0 is the two-channel\n"
-    "area, slot 1 the multichannel one. With a disc file among them, merge writes a\n"
-    "disc file.\n"
+    "disc; the name - is standard input. Disc files are compared and merged slot by\n"
+    "slot: slot 0 is the two-channel area, slot 1 the multichannel one. With a disc\n"
+    "file among them, merge writes a disc file.\n"
     "\n"
     "  --slot 0|1          of each disc file take only the list of this slot, as a\n"
     "                      list file; not for compare\n"
@@ -39,12 +41,13 @@ static const char help[] =
     "  --area FILE         every list must be of the area of this file; one of\n"
     "                      another area is refused (26)\n"
     "  --json              one JSON object a line, for machines (docs/DESK.md)\n"
-    "  -o OUT              the file that merge and pack write; for unpack what its\n"
-    "                      files' names begin with\n"
+    "  -o OUT              the file that merge and pack write, - for standard output;\n"
+    "                      for unpack what its files' names begin with\n"
     "  -f                  an existing file may be replaced, but never one that is\n"
     "                      read\n"
     "  --                  all words after it are names, also those that begin with -\n"
-    "  --help              this text\n"
+    "  --help, -h          this text\n"
+    "  --version           the program's version\n"
     "\n"
     "Status\n"
     "  0   done; for compare: B may be deleted, or with more than two files every\n"
@@ -60,6 +63,7 @@ static const struct {
     const char *needs;
 } commands[] = {
     {"show", show, 1, INT_MAX, 0, "a file"},
+    {"check", check, 1, INT_MAX, 0, "a file"},
     {"compare", compare, 2, INT_MAX, 0, "two files or more"},
     {"merge", merge, 2, INT_MAX, 2, "-o OUT and two files or more"},
     {"pack", pack, 1, 2, 2, "-o DISC and one list file or two"},
@@ -83,26 +87,43 @@ static int slot_option(const char *slot)
     return DONE;
 }
 
+/* The word of an option: behind it (-oOUT, --slot=0), else the next one. */
+static const char *value(int argc, char **argv, int *i, const char *option)
+{
+    const char *w = argv[*i] + strlen(option);
+    if (option[1] == '-' && *w == '=')
+        return w + 1;
+    if (*w)
+        return w;
+    return *i + 1 < argc ? argv[++*i] : NULL;
+}
+
+/* Is this the option, alone or with its word behind it? */
+static int is(const char *w, const char *option)
+{
+    size_t n = strlen(option);
+    return !strncmp(w, option, n) && (!w[n] || option[1] != '-' || w[n] == '=');
+}
+
 static int option(int argc, char **argv, int *i)
 {
-    const char *w = argv[*i];
-    int left = argc - 1 - *i;
+    const char *w = argv[*i], *v = "";
     if (!strcmp(w, "--json"))
         opt.json = 1;
     else if (!strcmp(w, "-f"))
         opt.force = 1;
-    else if (!strcmp(w, "-o") && left > 0)
-        opt.out = argv[++*i];
-    else if (!strcmp(w, "--area") && left > 0)
-        opt.area = argv[++*i];
-    else if (!strcmp(w, "--slot") && left > 0)
-        return slot_option(argv[++*i]);
-    else if (!strcmp(w, "--range") && left > 1) {
+    else if (is(w, "-o"))
+        opt.out = v = value(argc, argv, i, "-o");
+    else if (is(w, "--area"))
+        opt.area = v = value(argc, argv, i, "--area");
+    else if (is(w, "--slot") && (v = value(argc, argv, i, "--slot")) != NULL)
+        return slot_option(v);
+    else if (!strcmp(w, "--range") && argc - 1 - *i > 1) {
         *i += 2;
         return range_option(argv[*i - 1], argv[*i]);
     } else
-        return complain("%s: no such option, or words are missing; seek --help tells them", w);
-    return DONE;
+        v = NULL;
+    return v ? DONE : complain("%s: no such option, or words are missing; seek --help tells them", shown(w));
 }
 
 /* The areas of the file that --area names, by slot. */
@@ -133,9 +154,9 @@ static int command(char **words, int n)
     while (c < last && strcmp(words[0], commands[c].name))
         c++;
     if (c == last)
-        return complain("%s: no such command; seek --help tells them", words[0]);
+        return complain("%s: no such command; seek --help tells them", shown(words[0]));
     if (!commands[c].writes && (opt.out || opt.force))
-        return complain("-o and -f are for merge, pack and unpack");
+        return complain("-o and -f are for the commands that write a file");
     if (commands[c].run == compare && opt.slot >= 0)
         return complain("--slot is not for compare: a disc file is kept or deleted whole");
     if (n - 1 < commands[c].least || n - 1 > commands[c].most || (commands[c].writes == 2 && !opt.out))
@@ -144,24 +165,38 @@ static int command(char **words, int n)
     return status == DONE ? commands[c].run(words + 1, n - 1) : status;
 }
 
-int main(int argc, char **argv)
+/* The words that are names, and the options; *help is the option that asks for a text. */
+static int words_of(int argc, char **argv, char **words, int *n, const char **asked)
 {
-    char **words = calloc((size_t)argc + 1, sizeof *words);
-    int i, n = 0, only_names = 0, status = words ? DONE : complain("not enough memory");
-    signal(SIGXFSZ, SIG_IGN);
-    setvbuf(stdout, NULL, _IOLBF, BUFSIZ);
-    for (i = 1; i < argc && status == DONE; i++) {
+    int i, only_names = 0, status = DONE;
+    for (i = 1; i < argc && status == DONE && !*asked; i++) {
         if (only_names || argv[i][0] != '-' || !argv[i][1])
-            words[n++] = argv[i];
+            words[(*n)++] = argv[i];
         else if (!strcmp(argv[i], "--"))
             only_names = 1;
-        else if (!strcmp(argv[i], "--help"))
-            break;
+        else if (!strcmp(argv[i], "--help") || !strcmp(argv[i], "-h"))
+            *asked = help;
+        else if (!strcmp(argv[i], "--version"))
+            *asked = "seek " SEEK_VERSION "\n";
         else
             status = option(argc, argv, &i);
     }
-    if (status == DONE && i < argc)
-        fputs(help, stdout);
+    return status;
+}
+
+int main(int argc, char **argv)
+{
+    char **words = calloc((size_t)argc + 1, sizeof *words);
+    const char *asked = NULL;
+    int n = 0, status;
+    opt.told = stdout;
+    signal(SIGXFSZ, SIG_IGN);
+    setvbuf(stdout, NULL, _IOLBF, BUFSIZ);
+    status = words ? words_of(argc, argv, words, &n, &asked) : complain("not enough memory");
+    if (opt.out && to_output(opt.out))
+        opt.told = stderr;
+    if (status == DONE && asked)
+        fputs(asked, stdout);
     else if (status == DONE)
         status = command(words, n);
     free(words);

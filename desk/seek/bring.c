@@ -1,7 +1,6 @@
 /* What a list brings to another. */
 #include "desk.h"
 
-#include <stdio.h>
 #include <string.h>
 
 int nothing(const Brought *b)
@@ -75,29 +74,29 @@ void tell(const Brought *b)
         ITEM("the disc's fingerprint");
 #undef ITEM
     for (i = 0; i < n; i++)
-        printf("%s%s", i == 0 ? "" : i + 1 < n ? ", " : n > 2 || b->named.checkpoints ? ", and " : " and ", text[i]);
+        fprintf(opt.told, "%s%s", i == 0 ? "" : i + 1 < n ? ", " : n > 2 || b->named.checkpoints ? ", and " : " and ", text[i]);
 }
 
 /* The same as a JSON object. slot: that of lists in disc files, -1 for list files. */
 void brought_json(const char *kept, const char *other, int slot, uint32_t number, const Brought *b)
 {
     const seek_brings *n = &b->named;
-    printf("{\"kept\":");
+    fprintf(opt.told, "{\"kept\":");
     json_text(kept);
-    printf(",\"other\":");
+    fprintf(opt.told, ",\"other\":");
     json_text(other);
     if (slot >= 0)
-        printf(",\"slot\":%d", slot);
-    printf(",\"refused\":%u", number);
+        fprintf(opt.told, ",\"slot\":%d", slot);
+    fprintf(opt.told, ",\"refused\":%u", number);
     if (number) {
-        printf(",\"meaning\":");
+        fprintf(opt.told, ",\"meaning\":");
         json_text(seek_text(number));
     } else
-        printf(",\"%s\":%s,\"checkpoints\":%s,\"end\":%s,\"parts\":%s,\"malformed\":%s,\"hints\":%s,\"confirmations\":%s,\"fingerprint\":%s"
+        fprintf(opt.told, ",\"%s\":%s,\"checkpoints\":%s,\"end\":%s,\"parts\":%s,\"malformed\":%s,\"hints\":%s,\"confirmations\":%s,\"fingerprint\":%s"
                ",\"checkpoints_brought\":%" PRIu64 ",\"parts_brought\":%" PRIu64 ",\"hints_brought\":%" PRIu64 ",\"confirmations_brought\":%" PRIu64
                ",\"up_to\":%" PRIu64,
                slot >= 0 ? "brings_nothing" : "may_be_deleted", truth(nothing(b)), truth(n->checkpoints), truth(n->end), truth(n->parts),
                truth(n->malformed), truth(n->hints), truth(n->confirmations), truth(n->fingerprint), b->checkpoints, b->parts, b->hints,
                b->confirmations, b->to);
-    printf("}\n");
+    fprintf(opt.told, "}\n");
 }

@@ -1,12 +1,11 @@
 /* compare: may a list file be deleted while others are kept? */
 #include "desk.h"
 
-#include <stdio.h>
 #include <stdlib.h>
 
 static void cannot(const List *a, const List *b, uint32_t number)
 {
-    printf("%s and %s cannot be merged (%u): %s. %s\n", a->name, b->name, number, seek_text(number), advice(number));
+    fprintf(opt.told, "%s and %s cannot be merged (%u): %s. %s\n", a->name, b->name, number, seek_text(number), advice(number));
 }
 
 /* May other be deleted if own is kept? *number is the merge's refusal. */
@@ -21,12 +20,12 @@ static int one_way(const List *own, const List *other, uint32_t *number)
     if (opt.json)
         brought_json(own->file, other->file, -1, *number, &b);
     else if (!*number && nothing(&b))
-        printf("%s may be deleted: %s %s and holds all that %s would bring.\n", other->name, own->name,
+        fprintf(opt.told, "%s may be deleted: %s %s and holds all that %s would bring.\n", other->name, own->name,
                seek_is_complete(&own->list) ? "already runs to the end of the disc" : "reads at least as far", other->name);
     else if (!*number) {
-        printf("Keep %s: beside %s it brings ", other->name, own->name);
+        fprintf(opt.told, "Keep %s: beside %s it brings ", other->name, own->name);
         tell(&b);
-        printf(".\n");
+        fprintf(opt.told, ".\n");
     }
     return *number || !nothing(&b) ? REFUSED : DONE;
 }
@@ -42,7 +41,7 @@ static int both_ways(const List *a, const List *b)
     if (!opt.json && back && back != number)
         cannot(b, a, back);
     if (!opt.json && there == DONE && again == DONE)
-        printf("Delete one of them at most: each may go only while the other is kept.\n");
+        fprintf(opt.told, "Delete one of them at most: each may go only while the other is kept.\n");
     return there;
 }
 
@@ -62,13 +61,13 @@ static int one_more(List *own, const List *first, const List *other)
     if (opt.json)
         brought_json(first->file, other->file, -1, number, &b);
     else if (number)
-        printf("%s cannot be merged with those before it (%u): %s. %s\n", other->name, number, seek_text(number), advice(number));
+        fprintf(opt.told, "%s cannot be merged with those before it (%u): %s. %s\n", other->name, number, seek_text(number), advice(number));
     else if (nothing(&b))
-        printf("%s may be deleted: the lists kept before it hold all that it would bring.\n", other->name);
+        fprintf(opt.told, "%s may be deleted: the lists kept before it hold all that it would bring.\n", other->name);
     else {
-        printf("Keep %s: it brings ", other->name);
+        fprintf(opt.told, "Keep %s: it brings ", other->name);
         tell(&b);
-        printf(".\n");
+        fprintf(opt.told, ".\n");
     }
     return number || !nothing(&b) ? REFUSED : DONE;
 }
@@ -84,7 +83,7 @@ static int several(File *f, int n)
     if (copy_list(&own, first) != DONE)
         return USAGE;
     if (!opt.json)
-        printf("Keep %s: no other of these lists reaches further.\n", first->name);
+        fprintf(opt.told, "Keep %s: no other of these lists reaches further.\n", first->name);
     for (i = 0; i < n; i++)
         if (only_list(&f[i]) != first && one_more(&own, first, only_list(&f[i])) != DONE)
             status = REFUSED;

@@ -1,15 +1,19 @@
-/* What the files of the desk's program share. Each answers for itself: text.c words and refusals, file.c files and their lists, bring.c what a list brings,
- * write.c files written; show.c, compare.c, discs.c, merge.c, pack.c and plan.c the commands. */
+/* What the files of the desk's program share. Each answers for itself: text.c words and lines, refuse.c refusals, read.c bytes read, file.c files and their
+ * lists, hold.c what a list holds, write.c files written; show.c, check.c, compare.c, discs.c, merge.c, pack.c and plan.c the commands. */
 #ifndef DESK_H
 #define DESK_H
 
+#define _DEFAULT_SOURCE
 #define _POSIX_C_SOURCE 200809L
 #include <inttypes.h>
 #include <stddef.h>
 #include <stdint.h>
+#include <stdio.h>
 #include <sys/stat.h>
 
 #include "seek.h"
+
+#define SEEK_VERSION "1.0"
 
 enum { DONE = 0, REFUSED = 1, USAGE = 2 };
 
@@ -21,13 +25,44 @@ typedef struct {
     const char *out, *area;   /* -o, --area */
     int known[2];             /* by slot: the areas of the file that --area names */
     seek_area wanted[2];
+    FILE *told;               /* where answers go: standard output, or with -o - standard error */
 } Options;
 extern Options opt;
+
+/* ---- words and lines */
+enum { NO_BREAK = 0x1f };     /* a space of a name, at which no line is broken */
+
+typedef struct {
+    char *at;
+    size_t length, room;
+} Text;
+
+void add(Text *t, const char *format, ...);
+const char *text_of(const Text *t);
+const char *kept_text(Text *t);
+void free_text(Text *t);
+const char *shown(const char *name);
+const char *fitted(const char *name, int most);
+int columns(const char *s);
+int width(void);
+void say(int first, int others, const char *format, ...);
+int complain(const char *format, ...);
+const char *grouped(uint64_t v);
+const char *clock_of(uint64_t frames);
+const char *plural(uint64_t n, const char *one, const char *many);
+const char *counted(uint64_t n, const char *one, const char *many);
+const char *area_word(int slot);
+int digits(const char **s, uint64_t *v);
+const char *truth(int v);
+void json_text(const char *text);
+void json_name(const char *key, const char *text);
+void json_number(const char *key, uint64_t v);
+void json_time(const char *key, int known, uint64_t frames);
 
 /* ---- files and their lists */
 typedef struct {
     const char *file;      /* the file's name, */
-    const char *name;      /* with the area's word where the list is in a disc file */
+    const char *name;      /* as it is printed, with the area's word where the list is in a disc file */
     int in_disc;
     const uint8_t *bytes;  /* its list file */
     size_t length;
@@ -38,20 +73,32 @@ typedef struct {
     uint32_t number;       /* the refusal, 0 for none */
 } List;
 
+/* The bytes of a file; of a file that begins neither as a list file nor as a disc file only the first are read. */
+typedef struct {
+    uint8_t *at;
+    size_t length;
+    struct stat known;     /* which file it is */
+    int foreign;           /* it is neither, by its first bytes, */
+    const char *kind;      /* and what it is, where that can be told */
+} Bytes;
+
 /* A file that was given: a list file, or a disc file of one or two lists. With --slot a disc file stands for its list of that slot, as a list file. */
 typedef struct {
     const char *name;
-    uint8_t *bytes;
-    size_t length;
-    struct stat known;     /* which file it is */
+    Bytes bytes;
+    int unread;            /* it could not be read */
     int disc;
     int present[2];        /* by slot */
     List list[2];
     char *names[2];
     uint32_t number;       /* the refusal, 0 for none */
     const List *at;        /* the list that is refused, where the file is not refused for its contents table */
+    int length;            /* what is wrong with its length, where that can be told */
 } File;
 
+enum { CUT = 1, NEWLINE = 2, LONGER = 3 };
+
+int read_bytes(const char *name, Bytes *b);
 int open_file(File *f, const char *name);
 int open_files(File *f, char **names, int n);
 void close_file(File *f);
@@ -63,19 +110,16 @@ int any_disc(const File *f, int n);
 int same_file(const struct stat *a, const struct stat *b);
 int given_twice(const File *f, int n);
 
-/* What a list holds. */
+/* ---- what a list holds */
 uint64_t frontier(const List *l);
+uint64_t frontier_frame(const List *l);
 uint64_t malformed_counted(const List *l);
 uint64_t held_bytes(const List *l);
+uint64_t coverage(const List *l);
+uint64_t field(const uint8_t *at, unsigned width);
 
-/* ---- words and refusals */
-int complain(const char *format, ...);
-const char *grouped(uint64_t v);
-const char *plural(uint64_t n, const char *one, const char *many);
-const char *area_word(int slot);
-const char *truth(int v);
+/* ---- refusals */
 const char *advice(uint32_t number);
-void json_text(const char *text);
 int refused(const char *name, uint32_t number);
 int refused_list(const List *l);
 int refused_file(const File *f);
@@ -99,6 +143,7 @@ typedef struct {
     size_t length;
 } Output;
 
+int to_output(const char *out);
 int may_write(const char *out, const File *f, int n, const char *input);
 int write_files(const Output *out, int n);
 int save_list(const List *l, Output *out);
@@ -107,6 +152,7 @@ void written(const char *out, const List *l, int with_slot);
 
 /* ---- commands */
 int show(char **names, int n);
+int check(char **names, int n);
 int compare(char **names, int n);
 int further(const List *a, const List *b);
 int compare_discs(File *f, int n);
@@ -114,6 +160,5 @@ int merge(char **names, int n);
 int pack(char **names, int n);
 int unpack(char **names, int n);
 int plan(char **words, int n);
-int digits(const char **s, uint64_t *v);
 
 #endif

@@ -1,7 +1,6 @@
 /* compare where one of the files is a disc file: lists are compared slot by slot, and a file may be deleted only if each of its lists may. */
 #include "desk.h"
 
-#include <stdio.h>
 #include <stdlib.h>
 #include <string.h>
 
@@ -51,33 +50,33 @@ static void said_json(const Kept *k, const File *other, int s, const Said *said)
         brought_json(k->first[s], other->name, s, said->number, &said->brought);
         return;
     }
-    printf("{\"kept\":");
+    fprintf(opt.told, "{\"kept\":");
     json_text(k->name);
-    printf(",\"other\":");
+    fprintf(opt.told, ",\"other\":");
     json_text(other->name);
-    printf(",\"slot\":%d,\"absent\":true}\n", s);
+    fprintf(opt.told, ",\"slot\":%d,\"absent\":true}\n", s);
 }
 
 static void said_text(const Kept *k, int s, const Said *said)
 {
     const Brought *b = &said->brought;
     const char *name = k->name;
-    printf("  %s: ", area_word(s));
+    fprintf(opt.told, "  %s: ", area_word(s));
     if (said->absent)
-        printf("%s has no list of this area", name);
+        fprintf(opt.told, "%s has no list of this area", name);
     else if (said->number)
-        printf("it cannot be merged with %s%s (%u): %s. %s", name ? "that of " : "those before it", name ? name : "", said->number, seek_text(said->number),
+        fprintf(opt.told, "it cannot be merged with %s%s (%u): %s. %s", name ? "that of " : "those before it", name ? name : "", said->number, seek_text(said->number),
                advice(said->number));
     else if (nothing(b) && name)
-        printf("%s %s and holds all that this list would bring", name,
+        fprintf(opt.told, "%s %s and holds all that this list would bring", name,
                seek_is_complete(&k->list[s].list) ? "already runs to the end of the disc" : "reads at least as far");
     else if (nothing(b))
-        printf("the lists kept before it hold all that this list would bring");
+        fprintf(opt.told, "the lists kept before it hold all that this list would bring");
     else {
-        printf("%s%s%sit brings ", name ? "beside " : "", name ? name : "", name ? " " : "");
+        fprintf(opt.told, "%s%s%sit brings ", name ? "beside " : "", name ? name : "", name ? " " : "");
         tell(b);
     }
-    puts(said->number ? "" : ".");
+    fputs(said->number ? "\n" : ".\n", opt.told);
 }
 
 /* The answer for a file, and for each of its lists that was asked about. */
@@ -85,7 +84,7 @@ static void answer(const Kept *k, const File *other, const Said *said, int neede
 {
     int s;
     if (!opt.json)
-        printf(needed ? "Keep %s:%s\n" : "%s may be deleted:%s\n", other->name, why);
+        fprintf(opt.told, needed ? "Keep %s:%s\n" : "%s may be deleted:%s\n", other->name, why);
     for (s = 0; s < 2; s++)
         if (said[s].asked && opt.json)
             said_json(k, other, s, &said[s]);
@@ -93,15 +92,15 @@ static void answer(const Kept *k, const File *other, const Said *said, int neede
             said_text(k, s, &said[s]);
     if (!opt.json)
         return;
-    printf("{");
+    fprintf(opt.told, "{");
     if (k->name) {
-        printf("\"kept\":");
+        fprintf(opt.told, "\"kept\":");
         json_text(k->name);
-        printf(",");
+        fprintf(opt.told, ",");
     }
-    printf("\"other\":");
+    fprintf(opt.told, "\"other\":");
     json_text(other->name);
-    printf(",\"may_be_deleted\":%s}\n", truth(!needed));
+    fprintf(opt.told, ",\"may_be_deleted\":%s}\n", truth(!needed));
 }
 
 /* May other be deleted beside those kept? If not, they take in its lists. */
@@ -137,7 +136,7 @@ static int both_ways(const File *a, const File *b)
 {
     int there = one_way(a, b), again = there == USAGE ? USAGE : one_way(b, a);
     if (!opt.json && there == DONE && again == DONE)
-        printf("Delete one of them at most: each may go only while the other is kept.\n");
+        fprintf(opt.told, "Delete one of them at most: each may go only while the other is kept.\n");
     return again == USAGE ? USAGE : there;
 }
 

@@ -1,40 +1,8 @@
-/* Files and their lists: read, told apart by their first bytes, loaded. */
+/* Files and their lists: told apart by their first bytes, loaded. */
 #include "desk.h"
 
-#include <errno.h>
-#include <stdio.h>
 #include <stdlib.h>
 #include <string.h>
-
-static uint8_t *read_file(const char *name, size_t *length, struct stat *known)
-{
-    FILE *f = fopen(name, "rb");
-    uint8_t *bytes = NULL;
-    size_t n = 0, room = 0, got = 1;
-    int wrong = !f || fstat(fileno(f), known);
-    while (!wrong && got) {
-        if (n == room) {
-            uint8_t *more = realloc(bytes, room = room ? room * 2 : 65536);
-            if (!more) {
-                wrong = 1;
-                break;
-            }
-            bytes = more;
-        }
-        got = fread(bytes + n, 1, room - n, f);
-        n += got;
-        wrong = ferror(f);
-    }
-    if (wrong) {
-        complain("%s: %s", name, strerror(errno));
-        free(bytes);
-        bytes = NULL;
-    }
-    if (f)
-        fclose(f);
-    *length = n;
-    return bytes;
-}
 
 /* ---- a list */
 /* The area that a list is loaded under: the one that its file tells, or that of --area, with the range of --range. A list in a disc file is of the slot that the
@@ -110,19 +78,45 @@ int copy_list(List *to, const List *from)
     return load_list(to);
 }
 
+/* The list's name as it is printed. */
+static void name_list(File *f, int s, int in_disc)
+{
+    Text t = {0};
+    List *l = &f->list[s];
+    add(&t, in_disc ? "%s (%s)" : "%s", shown(f->name), area_word(s));
+    free(f->names[s]);
+    f->names[s] = t.at;
+    l->file = f->name;
+    l->name = f->names[s];
+    l->in_disc = in_disc;
+}
+
 /* ---- a list file */
+/* Is a list file that is refused for its sum right without its last bytes, a newline? */
+static int newline_behind(const List *l)
+{
+    List shorter = *l;
+    seek_table_sizes sizes;
+    if (l->number != SEEK_FILE_SUM || l->bytes[l->length - 1] != '\n')
+        return 0;
+    shorter.length -= l->bytes[l->length - 2] == '\r' ? 2 : 1;
+    return sizes_of(&shorter, &sizes) == 0;
+}
+
 static int open_list(File *f)
 {
     List l = {0};
     int s, status;
-    l.file = l.name = f->name;
-    l.bytes = f->bytes;
-    l.length = f->length;
+    l.name = shown(f->name);
+    l.bytes = f->bytes.at;
+    l.length = f->bytes.length;
     status = load_list(&l);
     s = !l.number && l.area.slot;
     if (status == DONE && !l.number && opt.slot >= 0 && s != opt.slot)
-        status = complain("%s: this is a %s list (slot %d), and --slot asks for slot %d", f->name, area_word(s), s, opt.slot);
+        status = complain("%s: this is a %s list (slot %d), and --slot asks for slot %d", shown(f->name), area_word(s), s, opt.slot);
     f->list[s] = l;
+    f->length = newline_behind(&l) ? NEWLINE : 0;
+    name_list(f, s, 0);
     f->number = l.number;
     f->present[s] = status == DONE && !l.number;
     f->at = l.number ? &f->list[s] : NULL;
@@ -130,27 +124,14 @@ static int open_list(File *f)
 }
 
 /* ---- a disc file */
-/* The lists that the contents table names, not yet loaded. */
-static int find_lists(File *f, const seek_contents *c)
+static void find_list(File *f, int s, uint64_t offset, uint64_t length)
 {
-    int s;
-    for (s = 0; s < 2; s++) {
-        List *l = &f->list[s];
-        size_t room = strlen(f->name) + 16;
-        l->area.slot = (uint8_t)s;
-        if (!c->present[s])
-            continue;
-        f->names[s] = malloc(room);
-        if (!f->names[s])
-            return complain("not enough memory");
-        snprintf(f->names[s], room, "%s (%s)", f->name, area_word(s));
-        l->file = f->name;
-        l->name = f->names[s];
-        l->in_disc = f->present[s] = 1;
-        l->bytes = f->bytes + c->offset[s];
-        l->length = (size_t)c->length[s];
-    }
-    return DONE;
+    List *l = &f->list[s];
+    name_list(f, s, 1);
+    f->present[s] = 1;
+    l->area.slot = (uint8_t)s;
+    l->bytes = f->bytes.at + offset;
+    l->length = (size_t)length;
 }
 
 /* The disc file's list of the slot that --slot names, taken as a list file. */
@@ -158,13 +139,34 @@ static int take_slot(File *f)
 {
     int status;
     if (!f->present[opt.slot])
-        return complain("%s: this disc file has no %s list (slot %d)", f->name, area_word(opt.slot), opt.slot);
+        return complain("%s: this disc file has no %s list (slot %d)", shown(f->name), area_word(opt.slot), opt.slot);
     f->disc = f->present[!opt.slot] = 0;
     status = load_list(&f->list[opt.slot]);
     f->number = f->list[opt.slot].number;
     f->present[opt.slot] = status == DONE && !f->number;
     f->at = f->number ? &f->list[opt.slot] : NULL;
     return status;
+}
+
+/* A disc file whose contents table is refused: a list that lies whole where the table says can still be taken out, if it is right by itself. */
+static int salvage(File *f)
+{
+    const uint8_t *table = f->bytes.at;
+    uint64_t i, last = 0, n = f->bytes.length;
+    seek_table_sizes sizes;
+    f->disc = 1;
+    for (i = 0; i < field(table, 4) && 16 + 12 * i <= n; i++) {
+        const uint8_t *entry = table + 4 + 12 * i;
+        uint64_t s = field(entry, 4), offset = field(entry + 4, 4), length = field(entry + 8, 4);
+        last = offset + length > last ? offset + length : last;
+        if (s > 1 || f->present[s] || offset + length > n)
+            continue;
+        find_list(f, (int)s, offset, length);
+        f->list[s].number = sizes_of(&f->list[s], &sizes);
+        f->present[s] = !f->list[s].number;
+    }
+    f->length = last > n ? CUT : last == n ? 0 : n - last <= 2 && table[n - 1] == '\n' ? NEWLINE : LONGER;
+    return opt.slot >= 0 && f->present[opt.slot] ? take_slot(f) : DONE;
 }
 
 /* A refused disc file: the first list that is refused by itself, and its number. */
@@ -190,7 +192,7 @@ static int load_disc(File *f)
     for (s = 0; s < 2; s++)
         if (f->present[s])
             (void)area_of(&l[s]); /* where the area cannot be told, loading refuses the list with the same number */
-    f->number = seek_disc_sizes(&l[0].area, &l[1].area, f->bytes, f->length, UINT64_MAX, &sizes[0], &sizes[1]);
+    f->number = seek_disc_sizes(&l[0].area, &l[1].area, f->bytes.at, f->bytes.length, UINT64_MAX, &sizes[0], &sizes[1]);
     if (f->number) {
         find_refused(f);
         return DONE;
@@ -198,38 +200,45 @@ static int load_disc(File *f)
     for (s = 0; s < 2; s++)
         if (f->present[s] && make_tables(&l[s], &sizes[s]) != DONE)
             return USAGE;
-    f->number = seek_disc_load(&l[0].list, &l[1].list, &l[0].area, &l[1].area, f->bytes, f->length, UINT64_MAX, loaded);
+    f->number = seek_disc_load(&l[0].list, &l[1].list, &l[0].area, &l[1].area, f->bytes.at, f->bytes.length, UINT64_MAX, loaded);
     return DONE;
 }
 
 static int open_disc(File *f)
 {
     seek_contents c;
-    f->number = seek_disc_contents(f->bytes, f->length, &c);
+    int s;
+    f->number = seek_disc_contents(f->bytes.at, f->bytes.length, &c);
     if (f->number)
-        return DONE;
+        return salvage(f);
     f->disc = 1;
-    if (find_lists(f, &c) != DONE)
-        return USAGE;
+    for (s = 0; s < 2; s++) {
+        f->list[s].area.slot = (uint8_t)s;
+        if (c.present[s])
+            find_list(f, s, c.offset[s], c.length[s]);
+    }
     if (opt.slot >= 0)
         return take_slot(f);
     if (opt.ranged && f->present[0] && f->present[1])
-        return complain("%s: --range is for one list, and this disc file has two; --slot says which", f->name);
+        return complain("%s: --range is for one list, and this disc file has two; --slot says which", shown(f->name));
     return load_disc(f);
 }
 
 /* ---- files */
-/* A list file begins with its magic. Fewer bytes are told as a list file that ends too early. */
-static int is_list_file(const File *f) { return f->length < 8 || memcmp(f->bytes, "SBSEEKIX", 8) == 0; }
+/* Fewer than 8 bytes are told as a list file that ends too early. */
+static int is_list_file(const Bytes *b) { return b->length < 8 || memcmp(b->at, "SBSEEKIX", 8) == 0; }
 
 int open_file(File *f, const char *name)
 {
-    int status = USAGE;
+    int status;
     memset(f, 0, sizeof *f);
     f->name = name;
-    f->bytes = read_file(name, &f->length, &f->known);
-    if (f->bytes)
-        status = is_list_file(f) ? open_list(f) : open_disc(f);
+    status = read_bytes(name, &f->bytes);
+    if (status == DONE && f->bytes.foreign)
+        f->number = SEEK_DISC;
+    else if (status == DONE)
+        status = is_list_file(&f->bytes) ? open_list(f) : open_disc(f);
+    f->unread = status != DONE;
     if (status != DONE)
         close_file(f);
     return status;
@@ -244,8 +253,8 @@ void close_file(File *f)
         f->list[s].memory = NULL;
         f->names[s] = NULL;
     }
-    free(f->bytes);
-    f->bytes = NULL;
+    free(f->bytes.at);
+    f->bytes.at = NULL;
 }
 
 /* Opens all; the status of the first that cannot be read or is refused. */
@@ -289,42 +298,7 @@ int given_twice(const File *f, int n)
     int i, j;
     for (i = 0; i < n; i++)
         for (j = 0; j < i; j++)
-            if (same_file(&f[i].known, &f[j].known))
-                return complain("%s and %s are the same file", f[j].name, f[i].name);
+            if (same_file(&f[i].bytes.known, &f[j].bytes.known))
+                return complain("%s and %s are the same file", shown(f[j].name), shown(f[i].name));
     return DONE;
-}
-
-/* ---- what a list holds */
-/* The sector up to which the list has read: where a jump to the last frame starts; and the malformed sectors counted up to it. */
-static uint64_t reached(const List *l, uint64_t *malformed)
-{
-    seek_jump j;
-    *malformed = 0;
-    if (seek_plan(&l->list, UINT32_MAX, &j) || j.where == SEEK_AT_START)
-        return l->area.start;
-    *malformed = j.malformed;
-    return j.where == SEEK_AT_END ? l->area.end : j.lsn;
-}
-
-uint64_t frontier(const List *l)
-{
-    uint64_t malformed;
-    return reached(l, &malformed);
-}
-
-uint64_t malformed_counted(const List *l)
-{
-    uint64_t malformed;
-    reached(l, &malformed);
-    return malformed;
-}
-
-uint64_t held_bytes(const List *l)
-{
-    uint64_t i, sum = 0;
-    for (i = 0; i < seek_frame_count(&l->list); i++) {
-        const uint8_t *f = l->list.frames.at + 8 * i + 4;
-        sum += f[0] | (uint64_t)f[1] << 8 | (uint64_t)f[2] << 16 | (uint64_t)f[3] << 24;
-    }
-    return sum;
 }

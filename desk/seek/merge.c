@@ -1,7 +1,6 @@
 /* merge: list files into a list file; where a disc file is among them, slot by slot into a disc file. */
 #include "desk.h"
 
-#include <stdio.h>
 #include <stdlib.h>
 
 static int merge_one(List *own, const List *other, int slot)
@@ -11,13 +10,13 @@ static int merge_one(List *own, const List *other, int slot)
     if (opt.json)
         brought_json(own->file, other->file, slot, number, &b);
     else if (number)
-        printf("%s cannot be merged (%u): %s. %s\n", other->name, number, seek_text(number), advice(number));
+        fprintf(opt.told, "%s cannot be merged (%u): %s. %s\n", other->name, number, seek_text(number), advice(number));
     else if (nothing(&b))
-        printf("%s brought nothing new.\n", other->name);
+        fprintf(opt.told, "%s brought nothing new.\n", other->name);
     else {
-        printf("%s brought ", other->name);
+        fprintf(opt.told, "%s brought ", other->name);
         tell(&b);
-        printf(".\n");
+        fprintf(opt.told, ".\n");
     }
     return number ? REFUSED : DONE;
 }

@@ -1,7 +1,6 @@
 /* pack: one list or both into a disc file. unpack: each list of a disc file into a list file. */
 #include "desk.h"
 
-#include <stdio.h>
 #include <stdlib.h>
 #include <string.h>
 
@@ -12,8 +11,8 @@ static int cannot_pack(const File *f, int n, uint32_t number)
     int one_slot = n == 2 && f[0].present[0] == f[1].present[0];
     if (opt.json || !one_slot)
         return refused(opt.out, number);
-    printf("%s and %s cannot be packed (%u): %s. Both are %s lists: seek merge makes one list of them; or give the list of the other area.\n", f[0].name,
-           f[1].name, number, seek_text(number), area_word(f[0].present[1]));
+    say(0, 2, "%s and %s cannot be packed (%u): %s. Both are %s lists: seek merge makes one list of them; or give the list of the other area.",
+        shown(f[0].name), shown(f[1].name), number, seek_text(number), area_word(f[0].present[1]));
     return REFUSED;
 }
 
@@ -21,13 +20,15 @@ static int cannot_pack(const File *f, int n, uint32_t number)
 static void packed(const List *l)
 {
     if (opt.json) {
-        printf("{\"packed\":");
-        json_text(l->file);
-        printf(",\"into\":");
-        json_text(opt.out);
-        printf(",\"slot\":%u,\"image_sectors\":%" PRIu64 "}\n", l->area.slot, l->area.sectors);
+        fputc('{', opt.told);
+        json_name("packed", l->file);
+        fputc(',', opt.told);
+        json_name("into", opt.out);
+        json_number("slot", l->area.slot);
+        json_number("image_sectors", l->area.sectors);
+        fputs("}\n", opt.told);
     } else
-        printf("%s is the %s list, of an image of %s sectors.\n", l->name, area_word(l->area.slot), grouped(l->area.sectors));
+        say(0, 2, "%s is the %s list, of an image of %s sectors.", l->name, area_word(l->area.slot), grouped(l->area.sectors));
 }
 
 static int pack_lists(File *f, int n, Output *out)
@@ -42,7 +43,7 @@ static int pack_lists(File *f, int n, Output *out)
     for (i = 0; i < n && status == DONE; i++)
         packed(only_list(&f[i]));
     if (status == DONE && !opt.json && other && l->area.sectors != other->area.sectors)
-        printf("These are two images: ask the school whether both lists are of one disc.\n");
+        say(0, 2, "These are two images: ask the school whether both lists are of one disc.");
     for (s = 0; s < 2 && status == DONE; s++)
         for (i = 0; i < n; i++)
             if (f[i].present[s])
@@ -58,7 +59,7 @@ static int may_pack(const File *f, int n)
         return complain("--range is for one list, and two are to be packed");
     for (i = 0; i < n; i++)
         if (f[i].disc)
-            return complain("%s: this is a disc file already; seek merge joins it with others, and --slot takes one of its lists", f[i].name);
+            return complain("%s: this is a disc file already; seek merge joins it with others, and --slot takes one of its lists", shown(f[i].name));
     return DONE;
 }
 
@@ -91,15 +92,17 @@ int pack(char **names, int n)
 static char *list_name(const char *disc, int s)
 {
     const char *base = strrchr(disc, '/'), *end;
-    size_t l = strlen(opt.out ? opt.out : disc), room = l + 32;
-    char *name = malloc(room);
+    size_t l = strlen(opt.out ? opt.out : disc);
+    Text t = {0};
     base = base ? base + 1 : disc;
     end = strrchr(base, '.');
     if (!opt.out && end && end > base)
         l = (size_t)(end - disc);
-    if (name)
-        snprintf(name, room, "%.*s-%s.sbx", (int)l, opt.out ? opt.out : disc, area_word(s));
-    return name;
+    if (opt.out && to_output(opt.out))
+        add(&t, "-");
+    else
+        add(&t, "%.*s-%s.sbx", (int)l, opt.out ? opt.out : disc, area_word(s));
+    return t.at;
 }
 
 /* The list files of a disc file's lists, by slot, not yet written. */
@@ -115,8 +118,6 @@ static int save_one(const File *f, int s, Lists *to)
     int i = to->n++, status;
     to->list[i] = &f->list[s];
     to->out[i].name = to->name[i] = list_name(f->name, s);
-    if (!to->name[i])
-        return complain("not enough memory");
     status = may_write(to->name[i], f, 1, "this is the disc file itself");
     return status == DONE ? save_list(to->list[i], &to->out[i]) : status;
 }
@@ -145,7 +146,11 @@ static int unpack_file(File *f)
     if (f->number)
         return refused_file(f);
     if (!only_list(f)->in_disc)
-        return complain("%s: this is a list file, not a disc file", f->name);
+        return complain("%s: this is a list file, not a disc file", shown(f->name));
+    if (opt.out && to_output(opt.out) && f->present[0] && f->present[1])
+        return complain("%s: two lists do not go to standard output; --slot says which", shown(f->name));
+    if (!opt.out && !strcmp(f->name, "-"))
+        return complain("-o says what the names of the list files begin with, since standard input has no name");
     return unpack_lists(f);
 }
 

@@ -1,31 +1,17 @@
 /* plan: where a jump to a frame starts. */
 #include "desk.h"
 
-#include <stdio.h>
-
-/* A number of at most 11 digits; -1 where there is none. */
-int digits(const char **s, uint64_t *v)
-{
-    *v = 0;
-    if (**s < '0' || **s > '9')
-        return -1;
-    for (; **s >= '0' && **s <= '9'; (*s)++) {
-        *v = *v * 10 + (uint64_t)(**s - '0');
-        if (*v > UINT64_C(99999999999))
-            return -1;
-    }
-    return 0;
-}
-
-/* A number, or minutes:seconds:frames at 75 a second. */
+/* A number, minutes:seconds, or minutes:seconds:frames at 75 a second. */
 static int frame_of(const char *s, uint32_t *frame)
 {
-    uint64_t a, b, c;
+    uint64_t a, b, c = 0;
     if (digits(&s, &a))
         return -1;
     if (*s == ':') {
         s++;
-        if (digits(&s, &b) || *s++ != ':' || digits(&s, &c) || b > 59 || c > 74)
+        if (digits(&s, &b) || b > 59)
+            return -1;
+        if (*s == ':' && (s++, digits(&s, &c) || c > 74))
             return -1;
         a = (a * 60 + b) * 75 + c;
     }
@@ -37,25 +23,45 @@ static int frame_of(const char *s, uint32_t *frame)
 
 static void plan_json(const List *l, uint32_t frame, uint64_t lsn, const seek_jump *j)
 {
-    printf("{\"file\":");
-    json_text(l->file);
+    fputc('{', opt.told);
+    json_name("file", l->file);
     if (l->in_disc)
-        printf(",\"slot\":%u", l->area.slot);
-    printf(",\"refused\":0,\"frame\":%u,\"start\":%" PRIu64 ",\"where\":\"%s\",\"held_bytes\":%" PRIu64 "}\n", frame, lsn,
-           j->where == SEEK_AT_START ? "start" : j->where == SEEK_AT_END ? "end" : "checkpoint", j->held ? j->length : 0);
+        json_number("slot", l->area.slot);
+    json_number("refused", 0);
+    json_number("frame", frame);
+    json_time("frame_time", 1, frame);
+    json_number("start", lsn);
+    json_time("start_time", 1, j->where == SEEK_AT_START ? 0 : j->threshold);
+    fprintf(opt.told, ",\"where\":\"%s\"", j->where == SEEK_AT_START ? "start" : j->where == SEEK_AT_END ? "end" : "checkpoint");
+    json_number("held_bytes", j->held ? j->length : 0);
+    fputs("}\n", opt.told);
 }
 
-static void plan_text(const char *word, uint32_t frame, uint64_t lsn, const seek_jump *j)
+/* How many frames lie between the end of the list and the frame; 0 where the list goes on, or runs to the end. */
+static uint64_t beyond(const List *l, uint32_t frame, const seek_jump *j)
 {
-    printf("%s (%02u:%02u:%02u): sector %s, ", word, frame / 4500, frame / 75 % 60, frame % 75, grouped(lsn));
+    uint64_t n = seek_checkpoint_count(&l->list), from = j->where == SEEK_AT_CHECKPOINT ? j->threshold : 0;
+    int last = j->where == SEEK_AT_CHECKPOINT ? j->number + 1 == n : j->where == SEEK_AT_START && n == 0;
+    return last && !seek_is_complete(&l->list) && frame > from ? frame - from : 0;
+}
+
+static void plan_text(const List *l, const char *word, uint32_t frame, uint64_t lsn, const seek_jump *j)
+{
+    uint64_t slow = beyond(l, frame, j);
+    Text t = {0};
+    add(&t, "%s (%02u:%02u:%02u): sector %s", word, frame / 4500, frame / 75 % 60, frame % 75, grouped(lsn));
     if (j->where == SEEK_AT_START)
-        printf("the area's start\n");
+        add(&t, ", the area's start");
     else if (j->where == SEEK_AT_END)
-        printf("the area's end: the frame lies at or past the end of the disc\n");
-    else if (j->held)
-        printf("checkpoint %s, with %s held bytes of frame %s\n", grouped(j->number), grouped(j->length), grouped(j->frame));
+        add(&t, " (%s), the area's end: the frame lies at or past the end of the %s area", clock_of(j->threshold), area_word(l->area.slot));
     else
-        printf("checkpoint %s\n", grouped(j->number));
+        add(&t, " (%s), checkpoint %s", clock_of(j->threshold), grouped(j->number));
+    if (j->where == SEEK_AT_CHECKPOINT && j->held)
+        add(&t, ", with %s held bytes of frame %s", grouped(j->length), grouped(j->frame));
+    if (slow >= 75)
+        add(&t, ". The jump is slow: the list ends there, and the player reads %s of sound to reach the frame", clock_of(slow));
+    say(0, 2, "%s", text_of(&t));
+    free_text(&t);
 }
 
 static int plan_one(List *l, const char *word)
@@ -71,7 +77,7 @@ static int plan_one(List *l, const char *word)
     if (opt.json)
         plan_json(l, frame, lsn, &j);
     else
-        plan_text(word, frame, lsn, &j);
+        plan_text(l, word, frame, lsn, &j);
     return DONE;
 }
 
@@ -80,9 +86,9 @@ static int plan_frames(File *f, char **words, int n)
     List *l = only_list(f);
     int i, status = DONE;
     if (f->present[0] && f->present[1])
-        return complain("%s: this disc file has two lists; --slot 0 plans in the two-channel area, --slot 1 in the multichannel area", f->name);
+        return complain("%s: this disc file has two lists; --slot 0 plans in the two-channel area, --slot 1 in the multichannel area", shown(f->name));
     if (l->in_disc && !opt.json)
-        printf("%s\n", l->name);
+        say(0, 0, "%s", l->name);
     for (i = 0; i < n && status == DONE; i++)
         status = plan_one(l, words[i]);
     return status;
@@ -95,7 +101,7 @@ int plan(char **words, int n)
     for (i = 1; i < n; i++) {
         uint32_t frame;
         if (frame_of(words[i], &frame))
-            return complain("%s: neither a frame number nor minutes:seconds:frames", words[i]);
+            return complain("%s: neither a frame number, minutes:seconds nor minutes:seconds:frames", shown(words[i]));
     }
     status = open_file(&f, words[0]);
     if (status != DONE)

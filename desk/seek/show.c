@@ -1,164 +1,278 @@
 /* show: what each file holds. */
 #include "desk.h"
 
-#include <stdio.h>
 #include <stdlib.h>
-#include <string.h>
 
-enum { BAR = 60 };
-
-/* The bars of all lists that were shown, each with its list's name. */
-typedef struct {
-    char bar[BAR + 1];
-    char *name;
-} Bar;
-
-static void draw(const List *l, char *to)
-{
-    uint64_t width = l->area.end - l->area.start, read = BAR * (frontier(l) - l->area.start), i;
-    for (i = 0; i < BAR; i++)
-        to[i] = seek_is_complete(&l->list) || (i + 1) * width <= read ? '#' : i * width < read ? '-' : '.';
-    to[BAR] = 0;
-}
-
+/* ---- one list */
 static unsigned version(const List *l) { return l->bytes[8]; }
-
-static uint64_t share(const List *l)
-{
-    return l->boundaries ? seek_checkpoint_count(&l->list) * 10000 / l->boundaries : 10000;
-}
 
 static void show_json(const List *in)
 {
     const seek_list *l = &in->list;
-    printf("{\"file\":");
-    json_text(in->file);
-    printf("%s,\"refused\":0,\"slot\":%u,\"key_start\":%u,\"key_end\":%u,\"channels\":%u,\"image_sectors\":%" PRIu64 ",\"start\":%" PRIu64
-           ",\"end\":%" PRIu64 ",\"version\":%u,\"interval\":%" PRIu64 ",\"checkpoints\":%" PRIu64 ",\"boundaries\":%" PRIu64
-           ",\"complete\":%s,\"frontier\":%" PRIu64,
-           in->in_disc ? ",\"disc\":true" : "", in->area.slot, in->area.key_start, in->area.key_end, in->area.channels, in->area.sectors, in->area.start,
-           in->area.end, version(in), seek_interval(l), seek_checkpoint_count(l), in->boundaries, truth(seek_is_complete(l)), frontier(in));
-    printf(",\"parts\":%" PRIu64 ",\"held_bytes\":%" PRIu64 ",\"malformed\":%" PRIu64 ",\"malformed_listed\":%" PRIu64
-           ",\"hints\":%" PRIu64 ",\"hint_limit\":%" PRIu64
-           ",\"hint_spacing\":%" PRIu64 ",\"fingerprint\":",
-           seek_part_count(l), held_bytes(in), malformed_counted(in), seek_malformed_count(l), seek_hint_count(l), seek_hint_limit(l),
-           seek_spacing(l));
-    if (seek_has_fingerprint(l))
-        printf("\"%016" PRIx64 "\"", seek_fingerprint_value(l));
+    fputc('{', opt.told);
+    json_name("file", in->file);
+    if (in->in_disc)
+        fputs(",\"disc\":true", opt.told);
+    fputs(",\"refused\":0,\"verdict\":\"right\"", opt.told);
+    json_number("slot", in->area.slot);
+    json_number("key_start", in->area.key_start);
+    json_number("key_end", in->area.key_end);
+    json_number("channels", in->area.channels);
+    json_number("image_sectors", in->area.sectors);
+    json_number("start", in->area.start);
+    json_number("end", in->area.end);
+    json_number("version", version(in));
+    json_number("length", in->length);
+    json_number("interval", seek_interval(l));
+    json_number("budget", seek_budget(l));
+    json_number("checkpoints", seek_checkpoint_count(l));
+    json_number("boundaries", in->boundaries);
+    json_number("coverage", coverage(in));
+    fprintf(opt.told, ",\"complete\":%s", truth(seek_is_complete(l)));
+    json_number("frontier", frontier(in));
+    json_time("frontier_time", 1, frontier_frame(in));
+    if (seek_is_complete(l))
+        json_number("end_threshold", seek_end_threshold(l));
     else
-        printf("null");
-    printf(",\"confirmations\":%" PRIu64 "}\n", seek_confirmation_count(l));
+        fputs(",\"end_threshold\":null", opt.told);
+    json_time("end_time", seek_is_complete(l), seek_end_threshold(l));
+    json_number("parts", seek_part_count(l));
+    json_number("held_bytes", held_bytes(in));
+    json_number("malformed", malformed_counted(in));
+    json_number("malformed_listed", seek_malformed_count(l));
+    json_number("hints", seek_hint_count(l));
+    json_number("hint_limit", seek_hint_limit(l));
+    json_number("hint_spacing", seek_spacing(l));
+    if (seek_has_fingerprint(l))
+        fprintf(opt.told, ",\"fingerprint\":\"%016" PRIx64 "\"", seek_fingerprint_value(l));
+    else
+        fputs(",\"fingerprint\":null", opt.told);
+    json_number("confirmations", seek_confirmation_count(l));
+    fputs("}\n", opt.told);
+}
+
+static void line(const char *what, const char *text) { say(2, 17, "%-14s %s", what, text); }
+
+static void show_area(const List *in)
+{
+    Text t = {0};
+    add(&t, "%s (slot %u), key %s to %s, %s, image of %s", area_word(in->area.slot), in->area.slot, grouped(in->area.key_start), grouped(in->area.key_end),
+        counted(in->area.channels, "channel", "channels"), counted(in->area.sectors, "sector", "sectors"));
+    line("area", kept_text(&t));
+    t = (Text){0};
+    add(&t, "sectors %s to %s (end excluded)", grouped(in->area.start), grouped(in->area.end));
+    line("range", kept_text(&t));
+    t = (Text){0};
+    add(&t, "version %u, %s bytes, a checkpoint every %s", version(in), grouped(in->length), counted(seek_interval(&in->list), "sector", "sectors"));
+    line("file", kept_text(&t));
+}
+
+static void show_checkpoints(const List *in)
+{
+    const seek_list *l = &in->list;
+    uint64_t c = coverage(in), malformed = malformed_counted(in);
+    Text t = {0};
+    add(&t, "%s of %s (%" PRIu64 ".%02" PRIu64 " %%), up to %s", grouped(seek_checkpoint_count(l)), grouped(in->boundaries), c / 100, c % 100,
+        clock_of(frontier_frame(in)));
+    if (seek_is_complete(l))
+        add(&t, ", the end of the %s area", area_word(in->area.slot));
+    else
+        add(&t, " (sector %s), not to the end of the %s area", grouped(frontier(in)), area_word(in->area.slot));
+    line("checkpoints", kept_text(&t));
+    t = (Text){0};
+    add(&t, "%s, %s bytes of at most %s", grouped(seek_part_count(l)), grouped(held_bytes(in)), grouped(seek_budget(l)));
+    line("held parts", kept_text(&t));
+    t = (Text){0};
+    add(&t, "%s", counted(malformed, "sector", "sectors"));
+    if (seek_malformed_count(l) < malformed)
+        add(&t, ", the first %s listed", grouped(seek_malformed_count(l)));
+    line("malformed", kept_text(&t));
 }
 
 static void show_text(const List *in)
 {
     const seek_list *l = &in->list;
-    uint64_t s = share(in);
-    printf("%s\n", in->name);
-    printf("  area           %s (slot %u), key %s to %s, %u channels, image of %s sectors\n", area_word(in->area.slot), in->area.slot,
-           grouped(in->area.key_start), grouped(in->area.key_end), in->area.channels, grouped(in->area.sectors));
-    printf("  range          sectors %s to %s (end excluded)\n", grouped(in->area.start), grouped(in->area.end));
-    printf("  file           version %u, %s bytes, a checkpoint every %s %s\n", version(in), grouped(in->length), grouped(seek_interval(l)),
-           plural(seek_interval(l), "sector", "sectors"));
-    printf("  checkpoints    %s of %s (%" PRIu64 ".%02" PRIu64 " %%), ", grouped(seek_checkpoint_count(l)), grouped(in->boundaries), s / 100, s % 100);
-    if (seek_is_complete(l))
-        printf("runs to the end of the disc\n");
-    else
-        printf("up to sector %s, not to the end of the disc\n", grouped(frontier(in)));
-    printf("  held parts     %s, %s bytes\n", grouped(seek_part_count(l)), grouped(held_bytes(in)));
-    printf("  malformed      %s %s", grouped(malformed_counted(in)), plural(malformed_counted(in), "sector", "sectors"));
-    if (seek_malformed_count(l) < malformed_counted(in))
-        printf(", the first %s listed", grouped(seek_malformed_count(l)));
-    printf("\n");
-    printf("  hints          %s of at most %s\n", grouped(seek_hint_count(l)), grouped(seek_hint_limit(l)));
+    Text t = {0};
+    say(0, 0, "%s", in->name);
+    show_area(in);
+    show_checkpoints(in);
+    add(&t, "%s of at most %s", grouped(seek_hint_count(l)), grouped(seek_hint_limit(l)));
+    line("hints", kept_text(&t));
+    t = (Text){0};
     if (seek_has_fingerprint(l))
-        printf("  fingerprint    %016" PRIx64 ", %s %s\n", seek_fingerprint_value(l), grouped(seek_confirmation_count(l)),
-               plural(seek_confirmation_count(l), "confirmation", "confirmations"));
+        add(&t, "%016" PRIx64 ", %s", seek_fingerprint_value(l), counted(seek_confirmation_count(l), "confirmation", "confirmations"));
     else
-        printf("  fingerprint    none\n");
+        add(&t, "none");
+    line("fingerprint", kept_text(&t));
 }
 
-/* A list that is loaded, with its bar. */
-static int show_list(const List *l, Bar *to)
+/* A list of a file: loaded with it, or of a refused disc file by itself. */
+static int show_list(const File *f, List *l)
 {
+    if (l->number) {
+        refused_list(l);
+        right_lists(f);
+        return REFUSED;
+    }
     if (opt.json)
         show_json(l);
     else
         show_text(l);
-    to->name = strdup(l->name);
-    if (!to->name)
-        return complain("not enough memory");
-    draw(l, to->bar);
     return DONE;
 }
 
-/* A list of a refused disc file, by itself. */
-static int show_alone(const File *f, List *l, Bar *to)
-{
-    int status = l->number ? REFUSED : load_list(l);
-    if (status == DONE)
-        return show_list(l, to);
-    if (l->number) {
-        refused_list(l);
-        right_lists(f);
-    }
-    return status;
-}
-
-static int show_lists(File *f, Bar *to)
+static int show_file(File *f)
 {
     int s, status = DONE;
+    if (f->unread)
+        return USAGE;
+    if (f->number && !(f->disc && f->at))
+        return refused_file(f);
     if (f->disc && !opt.json)
-        printf("%s: a disc file of %s, %s bytes\n", f->name, f->present[0] && f->present[1] ? "two lists" : "one list", grouped(f->length));
+        say(0, 2, "%s: a disc file of %s, %s bytes", shown(f->name), f->present[0] && f->present[1] ? "two lists" : "one list", grouped(f->bytes.length));
     for (s = 0; s < 2; s++)
         if (f->present[s]) {
-            int one = f->number ? show_alone(f, &f->list[s], &to[s]) : show_list(&f->list[s], &to[s]);
+            int one = show_list(f, &f->list[s]);
             status = one > status ? one : status;
         }
     return status;
 }
 
-/* One file; where it holds lists, their bars are drawn into to, by slot. */
-static int show_one(const char *name, Bar *to)
+/* ---- several files: a table, and bars under it */
+typedef struct {
+    const File *file;
+    const List *list;      /* NULL: the file is refused */
+} Row;
+
+/* The rows of all files: one for each list that is right, one for each file or list that is refused. */
+static int rows_of(File *f, int n, Row *rows)
 {
-    File f;
-    int status = open_file(&f, name);
-    if (status != DONE)
-        return status;
-    if (f.number && !(f.disc && f.at))
-        status = refused_file(&f);
+    int i, s, r = 0;
+    for (i = 0; i < n; i++) {
+        if (f[i].unread)
+            continue;
+        if (f[i].number && !(f[i].disc && f[i].at))
+            rows[r++] = (Row){&f[i], NULL};
+        else
+            for (s = 0; s < 2; s++)
+                if (f[i].present[s])
+                    rows[r++] = (Row){&f[i], &f[i].list[s]};
+    }
+    return r;
+}
+
+static const char *up_to(const List *l)
+{
+    Text t = {0};
+    add(&t, "%s%s", clock_of(frontier_frame(l)), seek_is_complete(&l->list) ? ", the end" : "");
+    return kept_text(&t);
+}
+
+static void table_row(const Row *r, int name)
+{
+    const File *f = r->file;
+    const List *l = r->list;
+    uint32_t number = l ? l->number : f->number;
+    const char *cells = fitted(shown(f->name), name);
+    fprintf(opt.told, "%s%*s  ", cells, name - columns(cells), "");
+    if (number)
+        fprintf(opt.told, "%-12s  %-14s  %6s  %6s  refused (%u)\n", l ? area_word(l->area.slot) : "", "", "", "", number);
     else
-        status = show_lists(&f, to);
-    close_file(&f);
+        fprintf(opt.told, "%-12s  %-14s  %6s  %6s  right\n", area_word(l->area.slot), up_to(l), grouped(seek_part_count(&l->list)),
+                grouped(seek_hint_count(&l->list)));
+}
+
+/* The widest of the rows' names, and at least so many columns. */
+static int widest(const Row *rows, int n, int least)
+{
+    int i;
+    for (i = 0; i < n; i++) {
+        int w = columns(shown(rows[i].file->name));
+        least = w > least ? w : least;
+    }
+    return least;
+}
+
+static void show_table(const Row *rows, int n)
+{
+    int i, name = widest(rows, n, 4), most = width() - 60;
+    if (name > most)
+        name = most > 12 ? most : 12;
+    fprintf(opt.told, "%-*s  %-12s  %-14s  %6s  %6s  verdict\n", name, "file", "area", "up to", "parts", "hints");
+    for (i = 0; i < n; i++)
+        table_row(&rows[i], name);
+}
+
+static void draw(const List *l, int bar)
+{
+    uint64_t width = l->area.end - l->area.start, read = (uint64_t)bar * (frontier(l) - l->area.start), i;
+    fputs("  [", opt.told);
+    for (i = 0; i < (uint64_t)bar; i++)
+        fputc(seek_is_complete(&l->list) || (i + 1) * width <= read ? '#' : i * width < read ? '-' : '.', opt.told);
+    fputs("]  ", opt.told);
+}
+
+static void show_bars(const Row *rows, int n)
+{
+    int i, drawn = 0, room = width() - 6, name = 0, bar;
+    for (i = 0; i < n; i++)
+        if (rows[i].list && !rows[i].list->number && columns(rows[i].list->name) > name)
+            name = columns(rows[i].list->name);
+    if (name > room - 24)
+        name = room - 24;
+    bar = room - name > 60 ? 60 : room - name;
+    for (i = 0; i < n; i++) {
+        const List *l = rows[i].list;
+        if (!l || l->number)
+            continue;
+        if (!drawn++)
+            fputs("\nWhat was read (#; - in part), from the area's start to its end:\n", opt.told);
+        draw(l, bar);
+        fprintf(opt.told, "%s\n", fitted(l->name, name));
+    }
+}
+
+/* Lists of refused disc files that are right by themselves are loaded too. */
+static int load_right(File *f)
+{
+    int s, status = DONE;
+    for (s = 0; s < 2 && status == DONE; s++)
+        if (f->disc && f->at && f->present[s] && !f->list[s].number)
+            status = load_list(&f->list[s]);
     return status;
 }
 
-static void show_bars(const Bar *bars, int n)
+static int show_files(File *f, int n, Row *rows)
 {
-    int i, drawn = 0;
-    for (i = 0; i < n; i++) {
-        if (!bars[i].name)
-            continue;
-        if (!drawn++)
-            printf("\nWhat was read (#; - in part), from the area's start to its end:\n");
-        printf("  [%s]   %s\n", bars[i].bar, bars[i].name);
+    int i, r = rows_of(f, n, rows), status = DONE, table = n > 1 && r > 0 && !opt.json;
+    if (table) {
+        show_table(rows, r);
+        show_bars(rows, r);
+        fputc('\n', opt.told);
     }
+    for (i = 0; i < n; i++) {
+        int one = show_file(&f[i]);
+        status = one > status ? one : status;
+    }
+    if (!table && !opt.json)
+        show_bars(rows, r);
+    return status;
 }
 
 int show(char **names, int n)
 {
-    Bar *bars = calloc((size_t)n * 2, sizeof *bars);
-    int i, status = DONE;
-    if (!bars)
-        return complain("not enough memory");
-    for (i = 0; i < n; i++) {
-        int one = show_one(names[i], &bars[2 * i]);
-        status = one > status ? one : status;
+    File *f = calloc((size_t)n, sizeof *f);
+    Row *rows = calloc((size_t)n * 2, sizeof *rows);
+    int i, status = f && rows ? DONE : complain("not enough memory");
+    for (i = 0; i < n && status == DONE; i++) {
+        (void)open_file(&f[i], names[i]);
+        if (!f[i].unread && f[i].number)
+            status = load_right(&f[i]);
     }
-    if (!opt.json)
-        show_bars(bars, 2 * n);
-    for (i = 0; i < 2 * n; i++)
-        free(bars[i].name);
-    free(bars);
+    if (status == DONE)
+        status = show_files(f, n, rows);
+    free(rows);
+    if (f)
+        close_files(f, n);
     return status;
 }

@@ -1,44 +1,67 @@
-/* Words, numbers and refusals. */
+/* Words and numbers: names that are safe to print, lines that fit, times, JSON. */
 #include "desk.h"
 
 #include <stdarg.h>
-#include <stdio.h>
+#include <stdlib.h>
+#include <string.h>
+#include <sys/ioctl.h>
+#include <unistd.h>
 
-/* One line on standard error; the status of wrong use. */
-int complain(const char *format, ...)
+/* ---- a text that grows */
+static void grow(Text *t, size_t more)
+{
+    if (t->length + more < t->room)
+        return;
+    t->room = (t->length + more) * 2 + 64;
+    t->at = realloc(t->at, t->room);
+    if (!t->at) {
+        fputs("seek: not enough memory\n", stderr);
+        exit(USAGE);
+    }
+}
+
+static void add_words(Text *t, const char *format, va_list words)
+{
+    va_list again;
+    int n;
+    va_copy(again, words);
+    n = vsnprintf(NULL, 0, format, again);
+    va_end(again);
+    grow(t, (size_t)n + 1);
+    vsnprintf(t->at + t->length, (size_t)n + 1, format, words);
+    t->length += (size_t)n;
+}
+
+void add(Text *t, const char *format, ...)
 {
     va_list words;
     va_start(words, format);
-    fputs("seek: ", stderr);
-    vfprintf(stderr, format, words);
-    fputc('\n', stderr);
+    add_words(t, format, words);
     va_end(words);
-    return USAGE;
 }
 
-/* A number with commas, in one of a few buffers. */
-const char *grouped(uint64_t v)
+const char *text_of(const Text *t) { return t->at ? t->at : ""; }
+
+void free_text(Text *t)
 {
-    static char text[8][32];
-    static unsigned turn;
-    char plain[32];
-    char *to = text[turn++ % 8];
-    int n = snprintf(plain, sizeof plain, "%" PRIu64, v), i, k = 0;
-    for (i = 0; i < n; i++) {
-        if (i && (n - i) % 3 == 0)
-            to[k++] = ',';
-        to[k++] = plain[i];
-    }
-    to[k] = 0;
-    return to;
+    free(t->at);
+    memset(t, 0, sizeof *t);
 }
 
-const char *plural(uint64_t n, const char *one, const char *many) { return n == 1 ? one : many; }
+/* A string in one of a few places, which are used again in turn. */
+const char *kept_text(Text *t)
+{
+    static char *places[32];
+    static unsigned turn;
+    char **place = &places[turn++ % 32];
+    free(*place);
+    *place = t->at;
+    if (!*place)
+        *place = calloc(1, 1);
+    return *place ? *place : "";
+}
 
-const char *area_word(int slot) { return slot ? "multichannel" : "two-channel"; }
-
-const char *truth(int v) { return v ? "true" : "false"; }
-
+/* ---- characters */
 /* The length of the UTF-8 character at s, 0 where there is none. */
 static int character(const unsigned char *s)
 {
@@ -51,98 +74,216 @@ static int character(const unsigned char *s)
     return n;
 }
 
+/* Characters that steer a terminal or turn the direction of a line: C0, DEL, C1, U+200E, U+200F, U+2028 to U+202E, U+2066 to U+2069. */
+static int steers(const unsigned char *s, int n)
+{
+    if (n == 1)
+        return s[0] < 32 || s[0] == 127;
+    if (n == 2)
+        return s[0] == 0xc2 && s[1] < 0xa0;
+    if (n != 3 || s[0] != 0xe2)
+        return 0;
+    return (s[1] == 0x80 && (s[2] == 0x8e || s[2] == 0x8f || (s[2] >= 0xa8 && s[2] <= 0xae))) || (s[1] == 0x81 && s[2] >= 0xa6 && s[2] <= 0xa9);
+}
+
+/* A name as it is printed: bytes that are no text, that steer a terminal, and backslashes are written \xNN and \\; a line is not broken at its spaces. */
+const char *shown(const char *name)
+{
+    const unsigned char *s = (const unsigned char *)name;
+    Text t = {0};
+    if (!strcmp(name, "-"))
+        return "standard input";
+    while (*s) {
+        int n = character(s), i;
+        if (!n || steers(s, n)) {
+            for (i = 0; i < (n ? n : 1); i++)
+                add(&t, "\\x%02x", s[i]);
+        } else if (*s == '\\')
+            add(&t, "\\\\");
+        else
+            add(&t, "%.*s", n, (const char *)s);
+        s += n ? n : 1;
+    }
+    return kept_text(&t);
+}
+
+/* ---- lines */
+/* How many columns a string takes: its characters. */
+int columns(const char *s)
+{
+    int n = 0;
+    for (; *s; s++)
+        n += ((unsigned char)*s & 0xc0) != 0x80;
+    return n;
+}
+
+/* The columns of a line: the terminal's, else 80. */
+int width(void)
+{
+    struct winsize w;
+    if (isatty(fileno(opt.told)) && ioctl(fileno(opt.told), TIOCGWINSZ, &w) == 0 && w.ws_col >= 40)
+        return w.ws_col;
+    return 80;
+}
+
+static void put_word(FILE *to, const char *word, size_t n)
+{
+    size_t i;
+    for (i = 0; i < n; i++)
+        fputc(word[i] == NO_BREAK ? ' ' : word[i], to);
+}
+
+/* A paragraph in lines that fit, where its words do: the first begins in a column, the others in another. */
+static void put_lines(FILE *to, const char *s, int first, int others)
+{
+    int column = first, begun = 0, most = to == stderr ? 80 : width();
+    fprintf(to, "%*s", first, "");
+    while (*s) {
+        size_t n = strcspn(s, " ");
+        char *word = strndup(s, n);
+        int w = word ? columns(word) : (int)n;
+        if (begun && column + 1 + w > most) {
+            fprintf(to, "\n%*s", others, "");
+            column = others;
+        } else if (begun) {
+            fputc(' ', to);
+            column++;
+        }
+        put_word(to, s, n);
+        column += w;
+        begun = 1;
+        free(word);
+        s += n;
+        s += *s == ' ';
+    }
+    fputc('\n', to);
+}
+
+void say(int first, int others, const char *format, ...)
+{
+    Text t = {0};
+    va_list words;
+    va_start(words, format);
+    add_words(&t, format, words);
+    va_end(words);
+    put_lines(opt.told, text_of(&t), first, others);
+    free_text(&t);
+}
+
+/* Standard error; the status of wrong use. */
+int complain(const char *format, ...)
+{
+    Text t = {0};
+    va_list words;
+    va_start(words, format);
+    add(&t, "seek: ");
+    add_words(&t, format, words);
+    va_end(words);
+    fflush(opt.told);
+    put_lines(stderr, text_of(&t), 0, 2);
+    free_text(&t);
+    return USAGE;
+}
+
+/* A name in so many columns: where it is longer, its end. */
+const char *fitted(const char *name, int most)
+{
+    const char *s = name;
+    Text t = {0};
+    int w = columns(name);
+    if (w > most) {
+        for (w -= most - 2; w > 0; w--)
+            for (s++; ((unsigned char)*s & 0xc0) == 0x80;)
+                s++;
+        add(&t, "..");
+    }
+    for (; *s; s++)
+        add(&t, "%c", *s == NO_BREAK ? ' ' : *s);
+    return kept_text(&t);
+}
+
+/* ---- numbers */
+/* A number with commas. */
+const char *grouped(uint64_t v)
+{
+    char plain[32];
+    Text t = {0};
+    int n = snprintf(plain, sizeof plain, "%" PRIu64, v), i;
+    for (i = 0; i < n; i++)
+        add(&t, "%s%c", i && (n - i) % 3 == 0 ? "," : "", plain[i]);
+    return kept_text(&t);
+}
+
+/* A frame number as minutes:seconds. */
+const char *clock_of(uint64_t frames)
+{
+    Text t = {0};
+    add(&t, "%02" PRIu64 ":%02" PRIu64, frames / 4500, frames / 75 % 60);
+    return kept_text(&t);
+}
+
+const char *plural(uint64_t n, const char *one, const char *many) { return n == 1 ? one : many; }
+
+/* "3 hints" */
+const char *counted(uint64_t n, const char *one, const char *many)
+{
+    Text t = {0};
+    add(&t, "%s %s", grouped(n), plural(n, one, many));
+    return kept_text(&t);
+}
+
+const char *area_word(int slot) { return slot ? "multichannel" : "two-channel"; }
+
+/* A number of at most 11 digits; -1 where there is none. */
+int digits(const char **s, uint64_t *v)
+{
+    *v = 0;
+    if (**s < '0' || **s > '9')
+        return -1;
+    for (; **s >= '0' && **s <= '9'; (*s)++) {
+        *v = *v * 10 + (uint64_t)(**s - '0');
+        if (*v > UINT64_C(99999999999))
+            return -1;
+    }
+    return 0;
+}
+
+/* ---- JSON */
+const char *truth(int v) { return v ? "true" : "false"; }
+
 /* A byte of a name that is no UTF-8 becomes \udc80 to \udcff, as Python writes such names. */
 void json_text(const char *text)
 {
     const unsigned char *s = (const unsigned char *)text;
-    putchar('"');
+    fputc('"', opt.told);
     while (*s) {
         int n = character(s);
         if (!n)
-            printf("\\udc%02x", *s);
+            fprintf(opt.told, "\\udc%02x", *s);
         else if (*s == '"' || *s == '\\')
-            printf("\\%c", *s);
-        else if (*s < 32)
-            printf("\\u%04x", *s);
+            fprintf(opt.told, "\\%c", *s);
+        else if (steers(s, n))
+            fprintf(opt.told, "\\u%04x", n == 1 ? *s : n == 2 ? (s[0] & 31u) << 6 | (s[1] & 63u) : (s[0] & 15u) << 12 | (s[1] & 63u) << 6 | (s[2] & 63u));
         else
-            fwrite(s, 1, (size_t)n, stdout);
+            fwrite(s, 1, (size_t)n, opt.told);
         s += n ? n : 1;
     }
-    putchar('"');
+    fputc('"', opt.told);
 }
 
-/* What to do about a refused file. */
-const char *advice(uint32_t number)
+void json_name(const char *key, const char *text)
 {
-    if (opt.ranged && number >= SEEK_FILE_COUNTS && number <= SEEK_FILE_CONFIRMATIONS)
-        return "See that --range gives the sectors of this disc; else keep the file, and have the disc read again.";
-    switch (number) {
-    case SEEK_AREA: return "Give the right sectors with --range.";
-    case SEEK_FILE_SHORT:
-    case SEEK_FILE_SUM:
-    case SEEK_FILE_LEFT_OVER: return "Ask the school to send it again. If it comes the same, have the disc read again; the player makes a new list.";
-    case SEEK_FILE_MAGIC: return "Ask the school for the list file; this is something else, or only a piece of it.";
-    case SEEK_FILE_VERSION: return "A newer player wrote it. Keep it, and use a newer version of this program.";
-    case SEEK_FILE_AREA: return "It belongs to another disc or to the other area of this disc. Keep it there.";
-    case SEEK_MERGE_AREA: return "They belong to different areas or discs, or were recorded with different intervals. Keep both.";
-    case SEEK_MERGE_IDS: return "They were made from different discs or pressings. Keep both, each with its disc.";
-    case SEEK_MERGE_CHECKPOINTS: return "One of them is false for this disc. Keep both, and have the disc read again.";
-    case SEEK_ROOM: return "There is not enough memory for this list.";
-    case SEEK_DISC: return "It begins neither as a list file nor as a right disc file. Ask the school whether it is the right file; if so, to send it again.";
-    default: return "Keep the file, and have the disc read again; the player makes a new list.";
-    }
+    fprintf(opt.told, "\"%s\":", key);
+    json_text(text);
 }
 
-static void refused_json(const char *file, int slot, uint32_t number)
-{
-    printf("{\"file\":");
-    json_text(file);
-    if (slot >= 0)
-        printf(",\"slot\":%d", slot);
-    printf(",\"refused\":%u,\"meaning\":", number);
-    json_text(seek_text(number));
-    printf("}\n");
-}
+void json_number(const char *key, uint64_t v) { fprintf(opt.told, ",\"%s\":%" PRIu64, key, v); }
 
-static void refused_text(const char *name, uint32_t number, const char *what_to_do)
+/* A time, where it is known. */
+void json_time(const char *key, int known, uint64_t frames)
 {
-    printf("%s\n  refused (%u): %s.\n  %s\n", name, number, seek_text(number), what_to_do);
-}
-
-int refused(const char *name, uint32_t number)
-{
-    if (opt.json)
-        refused_json(name, -1, number);
+    if (known)
+        fprintf(opt.told, ",\"%s\":\"%s\"", key, clock_of(frames));
     else
-        refused_text(name, number, advice(number));
-    return REFUSED;
-}
-
-int refused_list(const List *l)
-{
-    if (opt.json)
-        refused_json(l->file, l->in_disc ? l->area.slot : -1, l->number);
-    else if (l->in_disc && l->number == SEEK_FILE_AREA && !opt.area)
-        refused_text(l->name, l->number, "The contents table names it under the wrong area. Ask the school for the list file itself, or have the disc read again.");
-    else
-        refused_text(l->name, l->number, advice(l->number));
-    return REFUSED;
-}
-
-/* A disc file is taken whole or not at all: where one of its lists is right by itself, how to take it out. */
-void right_lists(const File *f)
-{
-    int s;
-    for (s = 0; s < 2 && !opt.json; s++)
-        if (f->disc && f->present[s] && !f->list[s].number)
-            printf("  The %s list in it is right: seek unpack --slot %d takes it out.\n", area_word(s), s);
-}
-
-int refused_file(const File *f)
-{
-    if (!f->at)
-        return refused(f->name, f->number);
-    refused_list(f->at);
-    right_lists(f);
-    return REFUSED;
+        fprintf(opt.told, ",\"%s\":null", key);
 }
