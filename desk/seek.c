@@ -16,11 +16,9 @@ static const char help[] =
     "\n"
     "  seek show FILE..          what each file holds\n"
     "  seek check FILE..         is each file right?\n"
-    "  seek compare A B          may B be deleted if A is kept, and the other way\n"
-    "                            round?\n"
-    "  seek compare A B C..      beginning with the list that reaches furthest: which\n"
-    "                            files bring something, and which may be deleted?\n"
-    "  seek merge -o OUT A B..   merges the lists in order and writes a new file\n"
+    "  seek compare A B..        which files may be deleted, which are to be kept?\n"
+    "  seek merge -o OUT A B..   merges lists and writes a new file; says what was\n"
+    "                            not taken, and which files may then be deleted\n"
     "  seek pack -o DISC A [B]   puts a list file, or those of a disc's two areas,\n"
     "                            into a new disc file\n"
     "  seek unpack DISC          writes each list of a disc file as a list file: of\n"
@@ -43,6 +41,7 @@ static const char help[] =
     "  --json              one JSON object a line, for machines (docs/DESK.md)\n"
     "  -o OUT              the file that merge and pack write, - for standard output;\n"
     "                      for unpack what its files' names begin with\n"
+    "  --partial           merge writes a file also where not all was taken\n"
     "  -f                  an existing file may be replaced, but never one that is\n"
     "                      read\n"
     "  --                  all words after it are names, also those that begin with -\n"
@@ -50,9 +49,9 @@ static const char help[] =
     "  --version           the program's version\n"
     "\n"
     "Status\n"
-    "  0   done; for compare: B may be deleted, or with more than two files every\n"
-    "      file but those first named\n"
-    "  1   a file was refused, or compare says keep\n"
+    "  0   done; for compare: B may be deleted, or with more than two files all but\n"
+    "      one of each disc and area\n"
+    "  1   a file was refused, compare says keep, or merge did not take all\n"
     "  2   wrong use, or a file cannot be read or written\n";
 
 static const struct {
@@ -112,6 +111,8 @@ static int option(int argc, char **argv, int *i)
         opt.json = 1;
     else if (!strcmp(w, "-f"))
         opt.force = 1;
+    else if (!strcmp(w, "--partial"))
+        opt.partial = 1;
     else if (is(w, "-o"))
         opt.out = v = value(argc, argv, i, "-o");
     else if (is(w, "--area"))
@@ -158,7 +159,9 @@ static int command(char **words, int n)
     if (!commands[c].writes && (opt.out || opt.force))
         return complain("-o and -f are for the commands that write a file");
     if (commands[c].run == compare && opt.slot >= 0)
-        return complain("--slot is not for compare: a disc file is kept or deleted whole");
+        return complain("--slot is not for %s: a disc file is kept or deleted whole", words[0]);
+    if (commands[c].run != merge && opt.partial)
+        return complain("--partial is for merge");
     if (n - 1 < commands[c].least || n - 1 > commands[c].most || (commands[c].writes == 2 && !opt.out))
         return complain("%s needs %s; seek --help tells more", words[0], commands[c].needs);
     status = opt.area ? want_area() : DONE;

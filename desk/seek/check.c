@@ -16,7 +16,7 @@ static void right_text(const File *f)
             seek_is_complete(&l->list) ? ", the end" : "");
 }
 
-static const char *why(const File *f)
+static const char *reason(const File *f)
 {
     static const char *lengths[] = {NULL, "the file was cut", "a newline lies behind it", "something lies behind it"};
     if (f->bytes.foreign)
@@ -24,7 +24,7 @@ static const char *why(const File *f)
     return f->length ? lengths[f->length] : f->number == SEEK_DISC ? "its contents table breaks the rules" : seek_text(f->number);
 }
 
-static void refused_line(const File *f) { say(0, 2, "%s: refused (%u): %s", f->at ? f->at->name : shown(f->name), f->number, why(f)); }
+static void refused_line(const File *f) { say(0, 2, "%s: refused (%u): %s", f->at ? f->at->name : shown(f->name), f->number, reason(f)); }
 
 static void check_json(const File *f)
 {

@@ -1,5 +1,6 @@
 /* What the files of the desk's program share. Each answers for itself: text.c words and lines, refuse.c refusals, read.c bytes read, file.c files and their
- * lists, hold.c what a list holds, write.c files written; show.c, check.c, compare.c, discs.c, merge.c, pack.c and plan.c the commands. */
+ * lists, hold.c what a list holds, lack.c what it holds beside another, sort.c many lists sorted, words.c the sentences on them, write.c files written; show.c,
+ * check.c, compare.c, merge.c, pack.c and plan.c the commands. */
 #ifndef DESK_H
 #define DESK_H
 
@@ -25,6 +26,7 @@ typedef struct {
     const char *out, *area;   /* -o, --area */
     int known[2];             /* by slot: the areas of the file that --area names */
     seek_area wanted[2];
+    int partial;              /* --partial */
     FILE *told;               /* where answers go: standard output, or with -o - standard error */
 } Options;
 extern Options opt;
@@ -125,16 +127,62 @@ int refused_list(const List *l);
 int refused_file(const File *f);
 void right_lists(const File *f);
 
-/* ---- what a list brings */
+/* ---- what a list holds beside another, by the call lacks */
 typedef struct {
-    seek_brings named;
-    uint64_t checkpoints, parts, bytes, hints, confirmations, to;
-} Brought;
+    uint32_t number;       /* the refusal, 0 for none */
+    int covered;           /* the own list holds all that the other holds */
+    seek_lacking more;     /* what the other holds and the own list does not */
+} Beside;
 
-int nothing(const Brought *b);
-uint32_t bring(List *own, const List *other, Brought *b);
-void tell(const Brought *b);
-void brought_json(const char *kept, const char *other, int slot, uint32_t number, const Brought *b);
+Beside ask_beside(const List *own, const List *other);
+uint64_t all_of(const seek_lacking *l);
+void holds(Text *t, const List *other, const seek_lacking *l, uint64_t end);
+void room(Text *t, const List *own, const List *other);
+void beside_json(const seek_lacking *l);
+
+/* ---- the lists of any number of files, sorted. Groups, sets and sections are named by their first member. */
+typedef struct {
+    const List *list;
+    int file;
+    int group;             /* lists of one area and interval */
+    int set;               /* lists of a group that can be merged with each other, and with the same others */
+    int best;              /* no other holds more, or the same with more room */
+    int keeper;            /* a kept list that holds all that this one holds; -1 for none */
+    int nearest;           /* the list beside which it is told what this one holds; -1 for none */
+} Item;
+
+typedef struct {
+    int section;           /* files whose lists share groups */
+    int lists;             /* how many of its lists are sorted: 0 where it is refused */
+    int kept;
+} Sorted;
+
+typedef struct {
+    int files, n;          /* how many files and lists */
+    Sorted *sorted;        /* for each file */
+    Item *items;
+    Beside *pairs;         /* for each own list, each other one of its group */
+} Drawer;
+
+int open_drawer(File *f, char **names, int n);
+int sort_files(Drawer *d, File *f, int n);
+void free_drawer(Drawer *d);
+const Beside *beside(const Drawer *d, int own, int other);
+int covers(const Drawer *d, int own, int other);
+int same(const Drawer *d, int a, int b);
+int roomier(const List *a, const List *b);
+uint64_t end_frame(const Drawer *d, int i);
+void up_to(Text *t, const Drawer *d, int i);
+void why(Text *t, const Drawer *d, int i, const char *subject);
+int verdict(Text *t, const Drawer *d, const File *f, int file, int line);
+void area_title(Text *t, const Drawer *d, int i);
+int differ_at(const List *a, const List *b);
+void apart(Text *t, const List *a, const List *b, uint32_t number);
+int lists_of(const Drawer *d, int group);
+int files_of(const Drawer *d, int section);
+int is_group(const Drawer *d, int i, int section, int slot);
+void summary(Text *t, const Drawer *d);
+void each_apart(const Drawer *d, int group, void (*line)(const char *text));
 
 /* ---- files written */
 typedef struct {
@@ -154,8 +202,6 @@ void written(const char *out, const List *l, int with_slot);
 int show(char **names, int n);
 int check(char **names, int n);
 int compare(char **names, int n);
-int further(const List *a, const List *b);
-int compare_discs(File *f, int n);
 int merge(char **names, int n);
 int pack(char **names, int n);
 int unpack(char **names, int n);

@@ -51,7 +51,7 @@ static void plan_text(const List *l, const char *word, uint32_t frame, uint64_t 
     Text t = {0};
     add(&t, "%s (%02u:%02u:%02u): sector %s", word, frame / 4500, frame / 75 % 60, frame % 75, grouped(lsn));
     if (j->where == SEEK_AT_START)
-        add(&t, ", the area's start");
+        add(&t, " (%s), the area's start", clock_of(0));
     else if (j->where == SEEK_AT_END)
         add(&t, " (%s), the area's end: the frame lies at or past the end of the %s area", clock_of(j->threshold), area_word(l->area.slot));
     else

@@ -6,14 +6,8 @@
 /* ---- one list */
 static unsigned version(const List *l) { return l->bytes[8]; }
 
-static void show_json(const List *in)
+static void area_json(const List *in)
 {
-    const seek_list *l = &in->list;
-    fputc('{', opt.told);
-    json_name("file", in->file);
-    if (in->in_disc)
-        fputs(",\"disc\":true", opt.told);
-    fputs(",\"refused\":0,\"verdict\":\"right\"", opt.told);
     json_number("slot", in->area.slot);
     json_number("key_start", in->area.key_start);
     json_number("key_end", in->area.key_end);
@@ -21,10 +15,11 @@ static void show_json(const List *in)
     json_number("image_sectors", in->area.sectors);
     json_number("start", in->area.start);
     json_number("end", in->area.end);
-    json_number("version", version(in));
-    json_number("length", in->length);
-    json_number("interval", seek_interval(l));
-    json_number("budget", seek_budget(l));
+}
+
+static void reading_json(const List *in)
+{
+    const seek_list *l = &in->list;
     json_number("checkpoints", seek_checkpoint_count(l));
     json_number("boundaries", in->boundaries);
     json_number("coverage", coverage(in));
@@ -36,6 +31,20 @@ static void show_json(const List *in)
     else
         fputs(",\"end_threshold\":null", opt.told);
     json_time("end_time", seek_is_complete(l), seek_end_threshold(l));
+}
+
+static void show_json(const List *in)
+{
+    const seek_list *l = &in->list;
+    fputc('{', opt.told);
+    json_name("file", in->file);
+    fprintf(opt.told, "%s,\"refused\":0,\"verdict\":\"right\"", in->in_disc ? ",\"disc\":true" : "");
+    area_json(in);
+    json_number("version", version(in));
+    json_number("length", in->length);
+    json_number("interval", seek_interval(l));
+    json_number("budget", seek_budget(l));
+    reading_json(in);
     json_number("parts", seek_part_count(l));
     json_number("held_bytes", held_bytes(in));
     json_number("malformed", malformed_counted(in));
@@ -61,6 +70,8 @@ static void show_area(const List *in)
     line("area", kept_text(&t));
     t = (Text){0};
     add(&t, "sectors %s to %s (end excluded)", grouped(in->area.start), grouped(in->area.end));
+    if (seek_is_complete(&in->list))
+        add(&t, ", %s long", clock_of(seek_end_threshold(&in->list)));
     line("range", kept_text(&t));
     t = (Text){0};
     add(&t, "version %u, %s bytes, a checkpoint every %s", version(in), grouped(in->length), counted(seek_interval(&in->list), "sector", "sectors"));
@@ -141,17 +152,15 @@ static int show_file(File *f)
 /* ---- several files: a table, and bars under it */
 typedef struct {
     const File *file;
-    const List *list;      /* NULL: the file is refused */
+    const List *list;      /* NULL: the file is refused, or could not be read */
 } Row;
 
-/* The rows of all files: one for each list that is right, one for each file or list that is refused. */
+/* The rows of all files: one for each list, one for each file that is refused or could not be read. */
 static int rows_of(File *f, int n, Row *rows)
 {
     int i, s, r = 0;
     for (i = 0; i < n; i++) {
-        if (f[i].unread)
-            continue;
-        if (f[i].number && !(f[i].disc && f[i].at))
+        if (f[i].unread || (f[i].number && !(f[i].disc && f[i].at)))
             rows[r++] = (Row){&f[i], NULL};
         else
             for (s = 0; s < 2; s++)
@@ -161,25 +170,56 @@ static int rows_of(File *f, int n, Row *rows)
     return r;
 }
 
-static const char *up_to(const List *l)
+/* The frame at the end of a list's area, where one of the lists shown is complete and can be merged with it; 0 where none is. */
+static uint64_t end_known(const Row *rows, int n, const List *l)
 {
+    int i;
+    for (i = 0; i < n; i++) {
+        const List *k = rows[i].list;
+        if (k && !k->number && seek_is_complete(&k->list) && !ask_beside(k, l).number)
+            return seek_end_threshold(&k->list);
+    }
+    return 0;
+}
+
+/* "04:33 of 09:05", "09:05, the end", or "04:33" */
+static const char *reach(const Row *rows, int n, const List *l)
+{
+    uint64_t end = end_known(rows, n, l);
     Text t = {0};
-    add(&t, "%s%s", clock_of(frontier_frame(l)), seek_is_complete(&l->list) ? ", the end" : "");
+    add(&t, "%s", clock_of(frontier_frame(l)));
+    if (seek_is_complete(&l->list))
+        add(&t, ", the end");
+    else if (end)
+        add(&t, " of %s", clock_of(end));
     return kept_text(&t);
 }
 
-static void table_row(const Row *r, int name)
+/* On a narrow terminal the columns of area, parts and hints are left out. */
+static int is_narrow(void) { return width() < 74; }
+
+static void table_line(const char *area, const char *reached, const char *parts, const char *hints)
 {
-    const File *f = r->file;
-    const List *l = r->list;
-    uint32_t number = l ? l->number : f->number;
-    const char *cells = fitted(shown(f->name), name);
-    fprintf(opt.told, "%s%*s  ", cells, name - columns(cells), "");
-    if (number)
-        fprintf(opt.told, "%-12s  %-14s  %6s  %6s  refused (%u)\n", l ? area_word(l->area.slot) : "", "", "", "", number);
+    if (is_narrow())
+        fprintf(opt.told, "%-14s  ", reached);
     else
-        fprintf(opt.told, "%-12s  %-14s  %6s  %6s  right\n", area_word(l->area.slot), up_to(l), grouped(seek_part_count(&l->list)),
-                grouped(seek_hint_count(&l->list)));
+        fprintf(opt.told, "%-12s  %-14s  %6s  %6s  ", area, reached, parts, hints);
+}
+
+static void table_row(const Row *rows, int n, int i, int name)
+{
+    const File *f = rows[i].file;
+    const List *l = rows[i].list;
+    uint32_t number = l ? l->number : f->number;
+    const char *cell = fitted(shown(f->name), name);
+    fprintf(opt.told, "%s%*s  ", cell, name - columns(cell), "");
+    if (f->unread || number) {
+        table_line(l ? area_word(l->area.slot) : "", "", "", "");
+        fprintf(opt.told, f->unread ? "not readable\n" : "refused (%u)\n", number);
+    } else {
+        table_line(area_word(l->area.slot), reach(rows, n, l), grouped(seek_part_count(&l->list)), grouped(seek_hint_count(&l->list)));
+        fputs("right\n", opt.told);
+    }
 }
 
 /* The widest of the rows' names, and at least so many columns. */
@@ -195,12 +235,14 @@ static int widest(const Row *rows, int n, int least)
 
 static void show_table(const Row *rows, int n)
 {
-    int i, name = widest(rows, n, 4), most = width() - 60;
+    int i, name = widest(rows, n, 4), most = width() - (is_narrow() ? 30 : 60);
     if (name > most)
         name = most > 12 ? most : 12;
-    fprintf(opt.told, "%-*s  %-12s  %-14s  %6s  %6s  verdict\n", name, "file", "area", "up to", "parts", "hints");
+    fprintf(opt.told, "%-*s  ", name, "file");
+    table_line("area", "up to", "parts", "hints");
+    fputs("verdict\n", opt.told);
     for (i = 0; i < n; i++)
-        table_row(&rows[i], name);
+        table_row(rows, n, i, name);
 }
 
 static void draw(const List *l, int bar)
@@ -225,8 +267,10 @@ static void show_bars(const Row *rows, int n)
         const List *l = rows[i].list;
         if (!l || l->number)
             continue;
-        if (!drawn++)
-            fputs("\nWhat was read (#; - in part), from the area's start to its end:\n", opt.told);
+        if (!drawn++) {
+            fputc('\n', opt.told);
+            say(0, 0, "What was read (#; - in part), from the area's start to its end:");
+        }
         draw(l, bar);
         fprintf(opt.told, "%s\n", fitted(l->name, name));
     }

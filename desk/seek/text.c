@@ -100,6 +100,8 @@ const char *shown(const char *name)
                 add(&t, "\\x%02x", s[i]);
         } else if (*s == '\\')
             add(&t, "\\\\");
+        else if (*s == ' ')
+            add(&t, "%c", NO_BREAK);
         else
             add(&t, "%.*s", n, (const char *)s);
         s += n ? n : 1;

@@ -115,7 +115,7 @@ typedef struct {
     int placed;
 } Move;
 
-static char *beside(const char *out)
+static char *name_beside(const char *out)
 {
     size_t l = strlen(out) + 8;
     char *name = malloc(l);
@@ -129,7 +129,7 @@ static int make_beside(Move *m, int place)
 {
     int fd;
     hold_signals();
-    m->temporary = beside(m->out);
+    m->temporary = name_beside(m->out);
     fd = m->temporary ? mkstemp(m->temporary) : -1;
     if (fd >= 0)
         note(place, m->temporary);
@@ -162,7 +162,7 @@ static int write_beside(Move *m, const Output *o, int place)
 static void keep_old(Move *m)
 {
     int fd;
-    m->old = beside(m->out);
+    m->old = name_beside(m->out);
     fd = m->old ? mkstemp(m->old) : -1;
     if (fd >= 0) {
         close(fd);
