@@ -17,6 +17,7 @@ static const char help[] =
     "  seek show FILE..          what each file holds\n"
     "  seek check FILE..         is each file right?\n"
     "  seek compare A B..        which files may be deleted, which are to be kept?\n"
+    "  seek report -o PAGE A..   the same as an HTML page, with bars over time\n"
     "  seek merge -o OUT A B..   merges lists and writes a new file; says what was\n"
     "                            not taken, and which files may then be deleted\n"
     "  seek pack -o DISC A [B]   puts a list file, or those of a disc's two areas,\n"
@@ -64,6 +65,7 @@ static const struct {
     {"show", show, 1, INT_MAX, 0, "a file"},
     {"check", check, 1, INT_MAX, 0, "a file"},
     {"compare", compare, 2, INT_MAX, 0, "two files or more"},
+    {"report", report, 1, INT_MAX, 2, "-o PAGE and a file"},
     {"merge", merge, 2, INT_MAX, 2, "-o OUT and two files or more"},
     {"pack", pack, 1, 2, 2, "-o DISC and one list file or two"},
     {"unpack", unpack, 1, 1, 1, "one disc file"},
@@ -158,7 +160,7 @@ static int command(char **words, int n)
         return complain("%s: no such command; seek --help tells them", shown(words[0]));
     if (!commands[c].writes && (opt.out || opt.force))
         return complain("-o and -f are for the commands that write a file");
-    if (commands[c].run == compare && opt.slot >= 0)
+    if ((commands[c].run == compare || commands[c].run == report) && opt.slot >= 0)
         return complain("--slot is not for %s: a disc file is kept or deleted whole", words[0]);
     if (commands[c].run != merge && opt.partial)
         return complain("--partial is for merge");

@@ -1,6 +1,6 @@
 /* What the files of the desk's program share. Each answers for itself: text.c words and lines, refuse.c refusals, read.c bytes read, file.c files and their
  * lists, hold.c what a list holds, lack.c what it holds beside another, sort.c many lists sorted, words.c the sentences on them, write.c files written; show.c,
- * check.c, compare.c, merge.c, pack.c and plan.c the commands. */
+ * check.c, compare.c, merge.c, report.c, pack.c and plan.c the commands. */
 #ifndef DESK_H
 #define DESK_H
 
@@ -203,6 +203,7 @@ int show(char **names, int n);
 int check(char **names, int n);
 int compare(char **names, int n);
 int merge(char **names, int n);
+int report(char **names, int n);
 int pack(char **names, int n);
 int unpack(char **names, int n);
 int plan(char **words, int n);
