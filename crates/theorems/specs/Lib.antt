@@ -1,6 +1,10 @@
 pub mod Adds
+pub mod BlockRun
 pub mod Closure
+pub mod Demand1
+pub mod Demand1InC
 pub mod Demand3
+pub mod Demand3InBlocks
 pub mod Demand3InTables
 pub mod DiscFile
 pub mod DiscInTables
@@ -14,6 +18,7 @@ pub mod PartRule
 pub mod Player
 pub mod Questions
 pub mod RoundTrip
+pub mod RoundTripInBlocks
 pub mod RoundTripInTables
 pub mod TableRun
 pub mod Terms
