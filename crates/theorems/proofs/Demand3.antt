@@ -8,7 +8,7 @@ use Prim.Native.Nat.{ℕ, _+_, _≤_}
 use native.Mathlib.Omega.{arith}
 use lib.Dec.{eqb, leb}
 use lib.ListN.{length}
-use borrow.Author.Tests.{eqb-true}
+use borrow.Author.Tests.{eqb-true, ne-eqb}
 use Rattle.rules.specs.Tests.{orElse, agree, after, ask, firstNo}
 use Rattle.rules.specs.Values.{Index, Lengths, boundaries, complete, count, stated}
 use Rattle.rules.specs.Questions.{question3, four}
@@ -18,10 +18,13 @@ use Rattle.rules.specs.Load.{limited, load}
 use Rattle.rules.specs.Run.{Reading, Cut, Place, Call, mergeCall, saveCall, loadCall, Saved, State, begin, answered, mergeInto, mergeRefusal, justSaved, loadInto, step, run, Furthest}
 use Rattle.laws.proofs.Limit.{limited-load}
 use Rattle.laws.proofs.hint_lists.Closure.{unmarked-stated}
-use Rattle.theorems.specs.Terms.{SameRead, AllCut, afterCalls}
-use Rattle.theorems.specs.Demand3.{Outcome, Demand3, PartsAgree, NoneRefused}
+use Rattle.theorems.specs.Terms.{SameRead, AllCut, afterCalls, storedIn}
+use Rattle.theorems.specs.Demand3.{Outcome, Outcomes, MergedParts, LoadLeaves, JustLeaves, PartsLeft, PartsByRule, PartsAgree, NoneRefused, Demand3}
 use Rattle.rules.proofs.Tests.{test, all→, →all, agree-none, asked}
+use Rattle.rules.proofs.Same.{eqb-self}
+use Rattle.theorems.proofs.Jump.{jump-not-back}
 use Rattle.theorems.proofs.ScanLaws.{one, level, merged-level}
+use Rattle.theorems.proofs.Useful.{merge-takes}
 use Rattle.laws.proofs.hint_lists.Closure.{merged-stated}
 use Rattle.theorems.proofs.CutLaws.{same-level, merged-three, limited-three, cut-scan, cut-counts, cut-read, cut-merged, cut-limited, not-refused}
 
@@ -129,7 +132,7 @@ module _ (R : Reading) (p : ℕ → Place) (cut : AllCut R p) where
   step-good (saveCall i out) s g = record { places = g .places; just = just-good i out s }
   step-good (loadCall limit) s g = load-good limit s (s .just) g (g .just)
 
-  run-good : (cs : List Call) (s : State) → Good s → Good (run (R .area) cs s)
+  pub run-good : (cs : List Call) (s : State) → Good s → Good (run (R .area) cs s)
   unfolding run
   run-good [] s g = g
   run-good (c ∷ cs) s g = run-good cs (step (R .area) c s) (step-good c s g)
@@ -202,6 +205,34 @@ module _ (R : Reading) (p : ℕ → Place) (cut : AllCut R p) where
           room = i .room;
           joins = λ j. not-refused R (q .room) (afterCalls R p cs .now j .room) (q .list) (afterCalls R p cs .now j .list) (i .fromR) (after-run j .fromR);
         }
+
+  -- ---- the held parts, call by call
+  merged-parts : (own other : Place) → mergeRefusal own other ≡ 0 → MergedParts (own .list .scan) (other .list .scan) (merged (own .list) (other .list) .scan)
+  merged-parts own other e =
+      let t = merge-takes (own .room) (other .room) (own .list) (other .list) (merged (own .list) (other .list)) (unfold merge after in rw e refl) in
+      record { taken = t .parts; kept = λ f. ap storedIn (t .same f) }
+
+  load-left : (limit : ℕ) (s : State) (o : Option Saved) → Good s → JustOk (s .now) o → JustLeaves limit s (loadInto (R .area) limit s o) o
+  unfolding JustLeaves loadInto limited
+  load-left limit s none g j = λ k. refl
+  load-left limit s (some b) g j =
+      let e = loaded limit (s .now (b .place)) (g .places (b .place) .fromR) (j .1) in
+      record {
+        loaded = rw (eqb-self (b .place), j .0, e) (record { frames = refl; parts = refl });
+        others = λ k t. rw t refl;
+      }
+
+  pub parts-left : (c : Call) (s : State) → Good s → PartsLeft s c (step (R .area) c s)
+  unfolding PartsLeft step merge after answered
+  parts-left (mergeCall i j) s g =
+      let own = s .now i in let other = s .now j in
+      record {
+        accepted = λ e. rw (eqb-self i, e) (merged-parts own other e);
+        refused = λ n. rw (eqb-self i, ne-eqb (mergeRefusal own other) 0 n) refl;
+        others = λ k t. rw t refl;
+      }
+  parts-left (saveCall i out) s g = λ k. refl
+  parts-left (loadCall limit) s g = load-left limit s (s .just) g (g .just)
 
   -- ---- tables stay long enough, and no id or fingerprint comes from nowhere
   -- o is unknown, or what one of the first lists has
@@ -278,11 +309,18 @@ module _ (R : Reading) (p : ℕ → Place) (cut : AllCut R p) where
         (from-agree printOf (stated (x .fingerprint)) (stated (y .fingerprint)) (λ w v. all→ _ (q w v) .1 .0) (r i .print) (r j .print), tt),
       ))
 
-pub demand3 : Demand3
-demand3 R p cut cs i = outcome R p cut cs i
+pub outcomes : Outcomes
+outcomes R p cut cs i = outcome R p cut cs i
 
 pub parts-agree : PartsAgree
-parts-agree R p q c d cs ds i j a b la lb e = demand3 R p c cs i .cut .parts a la ∙ ap (R .part) e ∙ sym (demand3 R q d ds j .cut .parts b lb)
+parts-agree R p q c d cs ds i j a b la lb e = outcomes R p c cs i .cut .parts a la ∙ ap (R .part) e ∙ sym (outcomes R q d ds j .cut .parts b lb)
 
 pub none-refused : NoneRefused
 none-refused R p cut t q cs i j = none-refused-of R p cut t q cs i j
+
+pub parts-by-rule : PartsByRule
+parts-by-rule R p cut cs c = parts-left R p cut c (afterCalls R p cs) (run-good R p cut cs _ (start-good R p cut))
+
+pub demand3 : Demand3
+demand3 =
+    record { outcomes = outcomes; partsByRule = parts-by-rule; partsAgree = parts-agree; noneRefused = none-refused; jump = jump-not-back }

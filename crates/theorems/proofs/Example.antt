@@ -4,7 +4,7 @@ use mathlib.Core.Bool.{true, cond}
 use mathlib.Core.Logic.{inl, inr}
 use mathlib.Core.List.{List, [], _∷_, _++_}
 use mathlib.Core.Option.{Option, none, some}
-use Prim.Native.Nat.{ℕ, zero, suc, _/_}
+use Prim.Native.Nat.{ℕ, zero, suc, _/_, _≤_}
 use native.Mathlib.Omega.{arith}
 use lib.Dec.{eqb}
 use lib.IntN.{pos, negsuc}
@@ -35,8 +35,8 @@ use Rattle.laws.proofs.Readers.{each-bytes}
 use Rattle.index.specs.Index.{Tables, tables, roomOf, numbersFrom, tablesFrom, storeOf}
 use Rattle.index.proofs.Standing.{stands, kinds-from, within, room-from}
 use Rattle.theorems.specs.Terms.{AllCut, afterCalls}
-use Rattle.theorems.specs.TableRun.{TablePlace, TableCall, isAccepted, merging, placeIn, AllCutIn, afterTableCalls}
-use Rattle.theorems.specs.Demand3InTables.{HoldsPart, LentIn}
+use Rattle.theorems.specs.TableRun.{TablePlace, TableCall, isAccepted, merging, placeIn, LentIn, AllCutIn, afterTableCalls}
+use Rattle.theorems.specs.Demand3InTables.{HoldsPart}
 use Rattle.theorems.proofs.Demand3.{none-refused}
 use Rattle.theorems.proofs.TableRun.{cut-savable}
 use Rattle.theorems.proofs.Demand3InTables.{none-refused-in-tables}
@@ -187,22 +187,6 @@ table-place i =
     let r : roomOf (tablesFrom x zeros) ≡ places i .room = room-from x zeros b ∙ room-zeros i in
     λ k. record { list = stands x zeros (savable i) k; room = r k }
 
-pub all-cut-in : AllCutIn reading tablePlaces
-all-cut-in i =
-    record {
-      cut = subst (λ (q : Place). Cut reading (q .list)) (sym (table-place i)) (all-cut i);
-      kinds = kinds-from (places i .list) zeros (savable i);
-    }
-
--- no merge among them is ever refused
-pub merges-in-tables : (calls : List TableCall) (i j : ℕ)
-    → isAccepted (merging (afterTableCalls reading tablePlaces calls .now i) (afterTableCalls reading tablePlaces calls .now j) .answer) ≡ true
-merges-in-tables =
-    none-refused-in-tables reading tablePlaces all-cut-in
-    (λ i. subst (λ (q : Place). question3 (q .room) (q .list) ≡ true) (sym (table-place i)) (rooms i))
-    (λ i j. subst (λ (q : Place). question42 (q .list) (placeIn (tablePlaces j) .list) ≡ true) (sym (table-place i))
-    (subst (λ (q : Place). question42 (places i .list) (q .list) ≡ true) (sym (table-place j)) (ids i j)))
-
 -- they are numbers of their types, and bytes
 bytes-zeros : (n : ℕ) → Bytes (replicate n 0)
 bytes-zeros zero i = omega arith
@@ -263,12 +247,29 @@ lent i =
     lent-zeros (places i .list) (sized→ (places i .list) (all-cut i .fits))
     (test (eqb i 0) (λ e. rw e short-bytes) (λ e. rw e whole-bytes)) 72 24 5 72 16384 540672 32784
 
+pub all-cut-in : AllCutIn reading tablePlaces
+all-cut-in i =
+    record {
+      lent = lent i;
+      cut = λ s. subst (λ (q : Place). Cut reading (q .list)) (sym (table-place i)) (all-cut i);
+      kinds = kinds-from (places i .list) zeros (savable i);
+    }
+
+-- no merge among them is ever refused
+pub merges-in-tables : (calls : List TableCall) (i j : ℕ)
+    → isAccepted (merging (afterTableCalls reading tablePlaces calls .now i) (afterTableCalls reading tablePlaces calls .now j) .answer) ≡ true
+merges-in-tables =
+    none-refused-in-tables reading tablePlaces all-cut-in
+    (λ i. subst (λ (q : Place). question3 (q .room) (q .list) ≡ true) (sym (table-place i)) (rooms i))
+    (λ i j. subst (λ (q : Place). question42 (q .list) (placeIn (tablePlaces j) .list) ≡ true) (sym (table-place i))
+    (subst (λ (q : Place). question42 (places i .list) (q .list) ≡ true) (sym (table-place j)) (ids i j)))
+
 -- place 1 holds a part for checkpoint 1
 pub holds-part : HoldsPart (tablePlaces 1) 1 (record { kind = Dst; number = 7; remaining = pos 5; offset = 0; len = 3 })
 unfolding assemblyOf used
 holds-part =
     record {
-      three = subst (λ (q : Place). question3 (q .room) (q .list) ≡ true) (sym (table-place 1)) (rooms 1);
+      inside = subst (λ (q : Place). 3 ≤ q .room .store) (sym (table-place 1)) (omega arith);
       part =
           subst (λ (q : Place). assemblyOf (q .list .scan .frames) (q .list .scan .parts) 1 ≡ Stored (record { kind = Dst; number = 7; remaining = pos 5; offset = 0; len = 3 }))
           (sym (table-place 1)) refl;

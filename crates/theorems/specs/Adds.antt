@@ -19,7 +19,7 @@ use Rattle.hint.specs.Calls.{hintIn}
 use Rattle.adds.specs.declared.Brings.{Brings}
 use Rattle.adds.specs.Brings.{brings, addsIn}
 use Rattle.merge.specs.Merge.{mergeIn}
-use Rattle.theorems.specs.Demand3InTables.{LentIn}
+use Rattle.theorems.specs.TableRun.{LentIn}
 
 -- is nothing named but, at most, the image id?
 unfoldable pub noneButImage : Brings → Bool

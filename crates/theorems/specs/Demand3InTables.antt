@@ -1,8 +1,9 @@
 -- Demand 3 about the tables that players hold, as merge, to_bytes, from_bytes and plan leave and answer them.
-use Prim.Native.Nat.{ℕ, _≤_}
+use Prim.Native.Nat.{ℕ, _+_, _≤_}
 use mathlib.Core.Path.{_≡_}
 use mathlib.Core.Bool.{true}
 use mathlib.Core.List.{List}
+use lib.ListN.{length}
 use Rattle.rules.specs.declared.AreaIndex.{AreaIndex}
 use Rattle.rules.specs.declared.Assembly.the-variants.{Stored}
 use Rattle.rules.specs.declared.HeldPart.{HeldPart}
@@ -17,21 +18,26 @@ use Rattle.rules.specs.Run.{Reading}
 use Rattle.index.specs.declared.Made.the-variants as made
 use Rattle.index.specs.Index.{Tables, out}
 use Rattle.plan.specs.Calls.{planIn}
-use Rattle.index.specs.Lent.{Typed, TableBytes}
 use Rattle.merge.specs.Merge.{mergeIn}
-use Rattle.theorems.specs.Demand3.{Outcome}
-use Rattle.theorems.specs.TableRun.{TablePlace, TableCall, AllCutIn, afterTableCalls, placeIn, stateIn, merging, isAccepted}
+use Rattle.theorems.specs.Demand3.{Outcome, PartsLeft}
+use Rattle.theorems.specs.TableRun.{TablePlace, TableCall, tableStep, LentIn, AllCutIn, afterTableCalls, placeIn, callOf, stateIn, merging, isAccepted}
 
--- demand 3: every place, after any calls, read through indexIn
-abbrev pub Demand3InTables : Type 0
-Demand3InTables =
+-- every place, after any calls, read through indexIn
+abbrev pub OutcomesInTables : Type 0
+OutcomesInTables =
     (R : Reading) (p : ℕ → TablePlace) → AllCutIn R p → (calls : List TableCall) (i : ℕ)
     → Outcome R (λ k. placeIn (p k)) (stateIn (afterTableCalls R p calls)) i
 
 -- ---- held parts
--- a place, in tables that are long enough, holds the part h for checkpoint number j
+-- those that merge, the part rule and loading leave, after any calls, whichever call comes next
+abbrev pub PartsByRuleInTables : Type 0
+PartsByRuleInTables =
+    (R : Reading) (p : ℕ → TablePlace) → AllCutIn R p → (calls : List TableCall) (c : TableCall)
+    → PartsLeft (stateIn (afterTableCalls R p calls)) (callOf c) (stateIn (tableStep (R .area) c (afterTableCalls R p calls)))
+
+-- a place, in whose store its bytes lie, holds the part h for checkpoint number j
 pub record HoldsPart (p : TablePlace) (j : ℕ) (h : HeldPart) : Type 0 where
-  pub three : question3 (placeIn p .room) (placeIn p .list) ≡ true
+  pub inside : h .offset + h .len ≤ length (p .tables .store)
   pub part : assemblyOf (placeIn p .list .scan .frames) (placeIn p .list .scan .parts) j ≡ Stored h
 
 -- its bytes, as the second call returns them
@@ -74,11 +80,7 @@ NoneRefusedInTables =
     → ((i j : ℕ) → question42 (placeIn (p i) .list) (placeIn (p j) .list) ≡ true) → (calls : List TableCall) (i j : ℕ)
     → isAccepted (merging (afterTableCalls R p calls .now i) (afterTableCalls R p calls .now j) .answer) ≡ true
 
--- ---- any two lists, in any tables: numbers of their types, and bytes
-pub record LentIn (x : AreaIndex) (t : Tables) : Type 0 where
-  pub typed : Typed x
-  pub bytes : TableBytes t
-
+-- ---- any two lists, in any tables
 -- plan accepts before and after, and the jump's start does not move backwards
 pub record NotBack (x : AreaIndex) (t : Tables) (z : AreaIndex) (t' : Tables) (f : ℕ) : Type 0 where
   pub before : Plan
@@ -92,3 +94,14 @@ abbrev pub JumpNotBackInTables : Type 0
 JumpNotBackInTables =
     (x : AreaIndex) (t : Tables) (y : AreaIndex) (u : Tables) (z : AreaIndex) (t' : Tables) (f : ℕ) → LentIn x t → LentIn y u
     → mergeIn x t y u ≡ out (made.Index z) t' → NotBack x t z t' f
+
+-- ---- demand 3
+pub record Demand3InTables : Type 0 where
+  pub outcomes : OutcomesInTables
+  pub partsByRule : PartsByRuleInTables
+  pub partsAgree : PartsAgreeInTables
+  -- the parts that plan answers are held ones
+  pub planned : PlansHeldPart
+  pub accepted : MergeAcceptedInTables
+  pub noneRefused : NoneRefusedInTables
+  pub jump : JumpNotBackInTables

@@ -7,10 +7,12 @@ use mathlib.Core.Option.{Option, none, some}
 use lib.ListN.{length, take}
 use Rattle.rules.specs.declared.Area.{Area}
 use Rattle.rules.specs.declared.AreaIndex.{AreaIndex}
+use Rattle.rules.specs.Sizes.{sized}
 use Rattle.rules.specs.Run.{Reading, Cut, Place, Call, mergeCall, saveCall, loadCall, Saved, State, begin, run, replace}
 use Rattle.index.specs.declared.Made.{Made}
 use Rattle.index.specs.declared.Made.the-variants as made
 use Rattle.index.specs.Index.{Tables, roomOf, indexIn, kindsIn, Out}
+use Rattle.index.specs.Lent.{Typed, TableBytes}
 use Rattle.save.specs.declared.Saved as declared
 use Rattle.save.specs.declared.Saved.the-variants as answer
 use Rattle.save.specs.Save.{SaveOut, saveIn}
@@ -101,9 +103,15 @@ abbrev pub stateIn : TableState → State
 stateIn s = record { now = λ k. placeIn (s .now k); went = s .went; just = s .just }
 
 -- ---- from lists cut from one reading
--- at first each place holds, in its tables, a list cut from the reading R; its parts have kinds, as 4 asks of tables
+-- numbers of their types, and bytes
+pub record LentIn (x : AreaIndex) (t : Tables) : Type 0 where
+  pub typed : Typed x
+  pub bytes : TableBytes t
+
+-- at first each place holds, in its tables, a list cut from the reading R: that its numbers fit their types, the lent types say; its parts have kinds, as 4 asks of tables
 pub record CutIn (R : Reading) (p : TablePlace) : Type 0 where
-  pub cut : Cut R (indexIn (p .numbers) (p .tables))
+  pub lent : LentIn (p .numbers) (p .tables)
+  pub cut : sized (indexIn (p .numbers) (p .tables)) ≡ true → Cut R (indexIn (p .numbers) (p .tables))
   pub kinds : kindsIn (p .numbers) (p .tables) ≡ true
 
 abbrev pub AllCutIn : Reading → (ℕ → TablePlace) → Type 0
