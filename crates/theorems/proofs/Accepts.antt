@@ -20,6 +20,8 @@ use Rattle.rules.specs.Plan.{plan}
 use Rattle.rules.proofs.Tests.{both, or-left, or-right, Asked, asks, →after, →asked, →bind, numberOf-accepted}
 use Rattle.theorems.specs.Terms.{Valid, ValidRecorder, ValidHintRecorder}
 use Rattle.theorems.specs.Useful.{RefusesNothing}
+use Rattle.adds.specs.Brings.{brings}
+use Rattle.theorems.proofs.disc.Accepts.{disc-save-accepts, disc-load-accepts}
 
 -- 1 to 4 are answered yes, then qs
 pub index-asked : (l : Lengths) (x : Index) (qs : List Ask) → Valid l x → Asked qs → Asked (four l x qs)
@@ -32,7 +34,7 @@ hint-recorder-asked : (n : ℕ) (r : HintRecorder) → ValidHintRecorder n r →
 hint-recorder-asked n r v = (le-leb _ n (v .three), (le-leb _ _ (v .four), tt))
 
 pub refuses-nothing : RefusesNothing
-unfolding new bindFingerprint recorder recordAt finish absorb hintRecorder see flush takeList addHints keepConfirmation hint plan save load merge mergeNumber
+unfolding new bindFingerprint recorder recordAt finish absorb hintRecorder see flush takeList addHints keepConfirmation hint plan save load merge mergeNumber brings
 refuses-nothing =
     record {
       made = λ l a k budget spacing most q1 q2 q3. let x = emptyIndex a k budget spacing most in →asked (ask (question1 x) 1 ∷ ask (question2 x) 2 ∷ ask (question3 l x) 3 ∷ []) (q1, (q2, (q3, tt))) refl;
@@ -78,4 +80,8 @@ refuses-nothing =
       loads = λ l a b limit x q e q3. →asked (ask (areaOk a) 1 ∷ []) (q, tt) (→bind _ e (→asked (ask (question3 l (limited limit x)) 3 ∷ []) (q3, tt) refl));
       merges = λ l m own other v w q41 q42 q43.
           →after (asks _ (both (v .one) (w .one), (both (v .two) (w .two), (both (v .three) (w .three), (both (v .four) (w .four), (q41, (q42, (q43, tt)))))))) refl;
+      adds = λ l m own other v w q41 q42 q43.
+          →after (asks _ (both (v .one) (w .one), (both (v .two) (w .two), (both (v .three) (w .three), (both (v .four) (w .four), (q41, (q42, (q43, tt)))))))) refl;
+      savesDisc = disc-save-accepts;
+      loadsDisc = disc-load-accepts;
     }

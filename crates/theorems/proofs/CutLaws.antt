@@ -143,7 +143,7 @@ module _ (limit : ℕ) (x : Index) where
   unfolding question4 limited
   limited-four e = →all _ (limit-closed limit (x .scan) (scan-of x e), (hinting.limit-ok (x .scan .area) (x .fingerprint) limit (x .hinting) (holds-of x e), tt))
 
-  limited-fits : sized x ≡ true → sized (limited limit x) ≡ true
+  pub limited-fits : sized x ≡ true → sized (limited limit x) ≡ true
   unfolding sized limited
   limited-fits e =
       let h = all→ _ e in

@@ -1,27 +1,31 @@
 -- Change request 14 about the calls over lent tables: saving, then loading what was written, and the other way round.
 use mathlib.Core.Path.{_≡_}
 use mathlib.Core.Bool.{true}
-use mathlib.Core.List.{List}
-use Prim.Native.Nat.{ℕ, _≤_}
+use mathlib.Core.List.{List, [], _∷_}
+use mathlib.Core.Option.{none, some}
+use Prim.Native.Nat.{ℕ, _+_, _≤_}
 use lib.ListN.{length, take}
 use Rattle.field.specs.Records.{Bytes}
 use Rattle.rules.specs.declared.Area.{Area}
 use Rattle.rules.specs.declared.AreaIndex.{AreaIndex}
-use Rattle.rules.specs.Values.{Index}
+use Rattle.rules.specs.Tests.{Accepted}
+use Rattle.rules.specs.Values.{Index, max32}
 use Rattle.rules.specs.Questions.{question3}
-use Rattle.rules.specs.File.{over}
-use Rattle.rules_disc.specs.Disc.{slotArea}
+use Rattle.rules.specs.File.{over, saved}
+use Rattle.rules.specs.Load.{load}
+use Rattle.rules_disc.specs.Disc.{slotArea, contentsOk, discBytes}
 use Rattle.index.specs.Index.{Tables, roomOf, indexIn}
 use Rattle.index.specs.Lent.{Typed, TableBytes}
 use Rattle.save.specs.declared.Saved.the-variants.{Length}
 use Rattle.save.specs.Save.{made}
 use Rattle.laws.specs.Statements.{stripped}
-use Rattle.theorems.specs.Terms.{Ample}
+use Rattle.theorems.specs.Terms.{ValidIn, Ample}
 use Rattle.disc_load.specs.declared.Listed.the-variants as listed
 use Rattle.disc_load.specs.declared.Loaded.the-variants as loaded
 use Rattle.disc_load.specs.Calls.{DiscOut, discOut, loadDiscIn}
 use Rattle.disc_save.specs.Calls.{saveOneIn, saveBothIn}
-use Rattle.theorems.specs.DiscFile.{WholeDisc}
+use Rattle.theorems.specs.TableRun.{LentIn}
+use Rattle.theorems.specs.DiscFile.{bodyIn, WholeDisc}
 
 -- a load answered the numbers of two lists, and the tables of slots 0 and 1 then hold them
 pub record HoldsBoth (o : DiscOut) (x y : Index) : Type 0 where
@@ -71,3 +75,31 @@ pub record LoadedDiscSavesIn : Type 0 where
   pub second : (a0 a1 : Area) (b : List ℕ) (limit : ℕ) (t u : Tables) (y : AreaIndex) (t' u' : Tables) (old : List ℕ) → Bytes b → WholeDisc a0 a1 b limit
       → loadDiscIn a0 a1 b limit t u ≡ discOut (loaded.Lists listed.Absent (listed.Index y)) t' u' → length b ≤ length old
       → saveOneIn y u' old ≡ made (Length (length b)) (over b old)
+
+-- ---- a disc file of two lists is their saved content's
+pub record OneDiscFileIn : Type 0 where
+  -- lists that pass 1 to 4 in their tables are answered alike, number and bytes, and the output then holds the same
+  pub same : (x y x' y' : AreaIndex) (t u t' u' : Tables) (old : List ℕ) → ValidIn x t → ValidIn y u → ValidIn x' t' → ValidIn y' u' → LentIn x t → LentIn y u → LentIn x' t' → LentIn y' u'
+      → saved (indexIn x t) ≡ saved (indexIn x' t') → saved (indexIn y u) ≡ saved (indexIn y' u') → saveBothIn x t y u old ≡ saveBothIn x' t' y' u' old
+  -- whichever is given first
+  pub swapped : (x y : AreaIndex) (t u : Tables) (old : List ℕ) → saveBothIn x t y u old ≡ saveBothIn y u x t old
+
+-- ---- saving and loading accept
+-- lists that pass 1 to 4 in their tables, of different slots, whose entries fit four bytes, are saved into every output that is long enough, whichever is given first
+pub record DiscSaveAcceptsIn : Type 0 where
+  pub both : (x y : AreaIndex) (t u : Tables) (old : List ℕ) → ValidIn x t → ValidIn y u → x .area .key .slot ≡ 0 → y .area .key .slot ≡ 1
+      → let i = indexIn x t in let j = indexIn y u in let b = discBytes (i ∷ j ∷ []) in
+      28 + length (saved i) ≤ max32 → length (saved j) ≤ max32 → 28 + length (saved i) + length (saved j) ≤ length old
+      → (saveBothIn x t y u old ≡ made (Length (length b)) (over b old)) × (saveBothIn y u x t old ≡ made (Length (length b)) (over b old))
+  pub one : (x : AreaIndex) (t : Tables) (old : List ℕ) → ValidIn x t → let i = indexIn x t in let b = discBytes (i ∷ []) in
+      length (saved i) ≤ max32 → 16 + length (saved i) ≤ length old → saveOneIn x t old ≡ made (Length (length b)) (over b old)
+
+-- a disc file whose table is right and whose bodies load is loaded, all lists
+pub record DiscLoadAcceptsIn : Type 0 where
+  pub both : (a0 a1 : Area) (b : List ℕ) (limit : ℕ) (t u : Tables) (c d : List ℕ) (x y : Index) → Bytes b → slotArea 0 a0 ≡ true → slotArea 1 a1 ≡ true → contentsOk b ≡ true
+      → bodyIn b 0 ≡ some c → load (roomOf t) a0 c limit ≡ Accepted x → bodyIn b 1 ≡ some d → load (roomOf u) a1 d limit ≡ Accepted y
+      → HoldsBoth (loadDiscIn a0 a1 b limit t u) x y
+  pub first : (a0 a1 : Area) (b : List ℕ) (limit : ℕ) (t u : Tables) (c : List ℕ) (x : Index) → Bytes b → slotArea 0 a0 ≡ true → slotArea 1 a1 ≡ true → contentsOk b ≡ true
+      → bodyIn b 0 ≡ some c → load (roomOf t) a0 c limit ≡ Accepted x → bodyIn b 1 ≡ none → HoldsFirst (loadDiscIn a0 a1 b limit t u) x u
+  pub second : (a0 a1 : Area) (b : List ℕ) (limit : ℕ) (t u : Tables) (d : List ℕ) (y : Index) → Bytes b → slotArea 0 a0 ≡ true → slotArea 1 a1 ≡ true → contentsOk b ≡ true
+      → bodyIn b 0 ≡ none → bodyIn b 1 ≡ some d → load (roomOf u) a1 d limit ≡ Accepted y → HoldsSecond (loadDiscIn a0 a1 b limit t u) t y

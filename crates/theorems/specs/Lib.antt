@@ -7,6 +7,7 @@ pub mod Demand3
 pub mod Demand3InBlocks
 pub mod Demand3InTables
 pub mod DiscFile
+pub mod DiscInC
 pub mod DiscInTables
 pub mod DiscPlayer
 pub mod Hints

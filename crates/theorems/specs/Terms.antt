@@ -4,10 +4,12 @@ use mathlib.Core.Path.{_≡_}
 use mathlib.Core.Bool.{true}
 use mathlib.Core.List.{List}
 use lib.ListN.{length, getD}
+use Rattle.rules.specs.declared.AreaIndex.{AreaIndex}
 use Rattle.rules.specs.Values.{Scan, Index, Recorder, HintRecorder, Lengths, maxList, noHeld}
 use Rattle.rules.specs.Questions.{question1, question2, question3, question4, recorderQuestion1, recorderQuestion2, recorderQuestion3, recorderQuestion4}
 use Rattle.rules.specs.PartRule.{Stored}
 use Rattle.rules.specs.Run.{Reading, Content, contentOf, Cut, Place, Call, State, begin, run}
+use Rattle.index.specs.Index.{Tables, roomOf, indexIn, kindsIn}
 
 -- ---- "each call on an index or recorder": 1 to 4
 -- an index passes questions 1 to 4, in tables of the lengths l
@@ -16,6 +18,11 @@ pub record Valid (l : Lengths) (x : Index) : Type 0 where
   pub two : question2 x ≡ true
   pub three : question3 l x ≡ true
   pub four : question4 x ≡ true
+
+-- an index in its tables does, its parts' kinds among them
+pub record ValidIn (x : AreaIndex) (t : Tables) : Type 0 where
+  pub valid : Valid (roomOf t) (indexIn x t)
+  pub kinds : kindsIn x t ≡ true
 
 -- a recorder does
 pub record ValidRecorder (l : Lengths) (r : Recorder) : Type 0 where

@@ -26,6 +26,8 @@ use Rattle.rules.specs.Load.{fromBytes, limited, load}
 use Rattle.rules.specs.Plan.{planned, plan}
 use Rattle.rules.specs.Sizes.{sized}
 use Rattle.theorems.specs.Terms.{Valid, ValidRecorder, ValidHintRecorder, storedIn, SameRead}
+use Rattle.adds.specs.Brings.{bringsOf, brings}
+use Rattle.theorems.specs.DiscFile.{DiscSaveAccepts, DiscLoadAccepts}
 use Rattle.theorems.specs.PartRule.{Admits}
 
 -- ---- refuses every call
@@ -70,6 +72,12 @@ pub record RefusesNothing : Type 0 where
   pub merges :
       (l m : Lengths) (own other : Index) → Valid l own → Valid m other → question41 own other ≡ true → question42 own other ≡ true → question43 own other ≡ true
       → merge l own m other ≡ Accepted (merged own other)
+  pub adds :
+      (l m : Lengths) (own other : Index) → Valid l own → Valid m other → question41 own other ≡ true → question42 own other ≡ true → question43 own other ≡ true
+      → brings l own m other ≡ Accepted (bringsOf own (merged own other))
+  -- change request 14
+  pub savesDisc : DiscSaveAccepts
+  pub loadsDisc : DiscLoadAccepts
 
 -- ---- loads each file as an empty list
 -- what was saved loads, under any limit, as a list that has read the same

@@ -43,21 +43,21 @@ kinds-passed false r f e = let z : _≡_ {A = ℕ} 0 1 = cc in let y : ⊥ = ome
 
 -- what an accepted load leaves
 module _ (a0 a1 : Area) (b : List ℕ) (limit : ℕ) (t u : Tables) where
-  holds-both : (x y : Index) → Savable x → Savable y → loadDisc (roomOf t) (roomOf u) a0 a1 b limit ≡ Accepted (disc (some x) (some y))
+  pub holds-both : (x y : Index) → Savable x → Savable y → loadDisc (roomOf t) (roomOf u) a0 a1 b limit ≡ Accepted (disc (some x) (some y))
       → HoldsBoth (loadDiscIn a0 a1 b limit t u) x y
   unfolding loadDiscIn discOutOf listedFrom tablesWith
   holds-both x y v w e =
       rw e (record { first = numbersFrom x; second = numbersFrom y; answer = refl; list0 = stands x t v; list1 = stands y u w })
 
-  holds-first : (x : Index) → Savable x → loadDisc (roomOf t) (roomOf u) a0 a1 b limit ≡ Accepted (disc (some x) none) → HoldsFirst (loadDiscIn a0 a1 b limit t u) x u
+  pub holds-first : (x : Index) → Savable x → loadDisc (roomOf t) (roomOf u) a0 a1 b limit ≡ Accepted (disc (some x) none) → HoldsFirst (loadDiscIn a0 a1 b limit t u) x u
   unfolding loadDiscIn discOutOf listedFrom tablesWith
   holds-first x v e = rw e (record { first = numbersFrom x; answer = refl; list0 = stands x t v; slot1 = refl })
 
-  holds-second : (y : Index) → Savable y → loadDisc (roomOf t) (roomOf u) a0 a1 b limit ≡ Accepted (disc none (some y)) → HoldsSecond (loadDiscIn a0 a1 b limit t u) t y
+  pub holds-second : (y : Index) → Savable y → loadDisc (roomOf t) (roomOf u) a0 a1 b limit ≡ Accepted (disc none (some y)) → HoldsSecond (loadDiscIn a0 a1 b limit t u) t y
   unfolding loadDiscIn discOutOf listedFrom tablesWith
   holds-second y w e = rw e (record { second = numbersFrom y; answer = refl; slot0 = refl; list1 = stands y u w })
 
-swap-in : (x y : AreaIndex) (t u : Tables) (old : List ℕ) → saveBothIn x t y u old ≡ saveBothIn y u x t old
+pub swap-in : (x y : AreaIndex) (t u : Tables) (old : List ℕ) → saveBothIn x t y u old ≡ saveBothIn y u x t old
 unfolding saveBothIn
 swap-in x y t u old =
     rw (and-comm (kindsIn x t) (kindsIn y u), one-disc-file .swapped (roomOf t) (roomOf u) (indexIn x t) (indexIn y u) (length old))
