@@ -210,7 +210,7 @@ module _ (R : Reading) (p : ℕ → Place) (cut : AllCut R p) where
   merged-parts : (own other : Place) → mergeRefusal own other ≡ 0 → MergedParts (own .list .scan) (other .list .scan) (merged (own .list) (other .list) .scan)
   merged-parts own other e =
       let t = merge-takes (own .room) (other .room) (own .list) (other .list) (merged (own .list) (other .list)) (unfold merge after in rw e refl) in
-      record { taken = t .parts; kept = λ f. ap storedIn (t .same f) }
+      record { taken = t .scan .parts; kept = λ f. ap storedIn (t .scan .same f) }
 
   load-left : (limit : ℕ) (s : State) (o : Option Saved) → Good s → JustOk (s .now) o → JustLeaves limit s (loadInto (R .area) limit s o) o
   unfolding JustLeaves loadInto limited

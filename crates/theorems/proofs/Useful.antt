@@ -4,37 +4,43 @@ use mathlib.Core.Bool.{Bool, true, false}
 use mathlib.Core.Logic.{⊎-elim}
 use mathlib.Core.List.{List, [], _∷_, _++_}
 use mathlib.Core.Option.{Option, none, some}
-use Prim.Native.Nat.{ℕ, zero, suc, _-_, _<_, _≤_}
+use Prim.Native.Nat.{ℕ, zero, suc, _+_, _-_, _<_, _≤_}
 use native.Mathlib.Nat.{eq-or-lt-of-le, zero-add}
 use native.Mathlib.Omega.{arith}
-use lib.Dec.{leb}
-use lib.ListN.{length, getD, drop, length-append, length-drop}
-use borrow.Author.Tests.{eqb-true, leb-true, leb-false, le-leb, lt-ltb}
+use lib.Dec.{leb, ltb}
+use lib.ListN.{length, getD, take, drop, length-append, length-drop}
+use borrow.Author.Tests.{eqb-true, leb-true, leb-false, le-leb, lt-ltb, ltb-true}
 use Rattle.rules.specs.declared.Checkpoint.{Checkpoint}
 use Rattle.rules.specs.declared.EndState.{EndState}
 use Rattle.rules.specs.declared.Hint.{Hint}
-use Rattle.rules.specs.declared.Plan.the-variants.{Start, End}
-use Rattle.rules.specs.Tests.{isSome, orElse, ask, firstNo}
-use Rattle.rules.specs.Values.{Scan, Index, Recorder, Lengths, noHint, checkpointAt, boundaries, count, complete, isChecked}
+use Rattle.rules.specs.declared.Fingerprint.{Fingerprint}
+use Rattle.rules.specs.declared.Fingerprint.the-variants.{Unknown, Checked}
+use Rattle.rules.specs.declared.Fingerprint.the-variants as fingerprint
+use Rattle.rules.specs.declared.Plan.{Plan}
+use Rattle.rules.specs.declared.Plan.the-variants.{End}
+use Rattle.rules.specs.Tests.{isSome, orElse, ask, firstNo, Accepted}
+use Rattle.rules.specs.Values.{Scan, Index, Recorder, Lengths, maxMalformed, noHint, checkpointAt, boundaries, frontier, count, complete, stated, isChecked}
 use Rattle.rules.specs.Questions.{four}
-use Rattle.rules.specs.Record.{question9, question10, joined, takenMalformed, isStopped, absorbNumber, absorb}
+use Rattle.rules.specs.Record.{question9, question10, below, joined, takenMalformed, absorbedIndex, isStopped, absorbNumber, absorb}
 use Rattle.rules.specs.Hints.{near, largestOf, hintPlace, hintedAt, hint}
-use Rattle.rules.specs.Merge.{further, mergedStored, mergedScan, merged, mergeNumber, merge}
+use Rattle.rules.specs.Merge.{further, mergedStored, mergedScan, heldFrom, mergedFingerprint, merged, mergeNumber, merge}
 use Rattle.rules.specs.File.{saved, save}
 use Rattle.rules.specs.Load.{limited}
 use Rattle.rules.specs.Plan.{lastNotAbove, planFrom, planOr, planned, plan}
-use Rattle.rules.proofs.Tests.{test, never, all→, or-right, asked, accepted→}
+use Rattle.rules.proofs.Tests.{choose, test, never, all→, or-right, asked, accepted→}
 use Rattle.rules.proofs.Same.{sameArea-eq}
 use Rattle.laws.proofs.scans.Parts.{HeldIs}
 use Rattle.laws.proofs.scans.Scans.{ScanIs, scan-of, scan→, recorder→}
 use Rattle.laws.proofs.scans.Merge.{appended}
 use Rattle.laws.proofs.scans.Absorb.{absorb-asked, unstopped}
 use Rattle.laws.proofs.hint_lists.Calls.{taken}
+use Rattle.laws.proofs.hint_lists.Closure.{unmarked-stated, merged-stated}
 use Rattle.laws.proofs.Limit.{limited-load}
 use Rattle.laws.proofs.Length.{savedLength-is}
 use Rattle.theorems.specs.Terms.{storedIn}
 use Rattle.theorems.specs.PartRule.{Admits}
-use Rattle.theorems.specs.Useful.{LoadKeeps, MergeOf, MergeTakes, AbsorbOf, AbsorbTakes, SaveTells, PlanLooks, HintLooks}
+use Rattle.theorems.specs.Useful.{LoadKeeps, MergeOf, MergedOf, MergeTakes, AbsorbOf, AbsorbTakes, SaveTells, Looked, PlanLooks, HintLooks}
+use Rattle.theorems.proofs.Accepts.{refuses-nothing}
 use Rattle.theorems.proofs.ScanLaws.{counts}
 use Rattle.theorems.proofs.CutLaws.{limited-three}
 use Rattle.theorems.proofs.PartRule.{admits}
@@ -46,7 +52,19 @@ pub load-keeps : LoadKeeps
 load-keeps l x v z limit = (
   limited limit x,
   limited-load l limit x (record { one = v .one; two = v .two; four = v .four; sizes = z }) (limited-three limit x l (v .three)),
-  unfold limited in record { checkpoints = refl; ending = refl; malformed = refl },
+  unfold limited in
+      record {
+        read = record { checkpoints = refl; ending = refl; malformed = refl };
+        area = refl;
+        interval = refl;
+        budget = refl;
+        parts = record { frames = refl; parts = refl };
+        spacing = refl;
+        most = refl;
+        hints = refl;
+        confirmed = refl;
+        fingerprint = unmarked-stated (x .fingerprint);
+      },
 )
 
 -- ---- save
@@ -88,38 +106,87 @@ module _ (own other : Scan) (j : Joinable own other) where
         same = λ f. rw f refl;
       }
 
+-- the mark is the own one's
+mark-stays : (f g : Fingerprint) → isChecked (mergedFingerprint f g) ≡ isChecked f
+unfolding mergedFingerprint heldFrom stated isChecked
+mark-stays Unknown Unknown = refl
+mark-stays Unknown (fingerprint.Held v) = refl
+mark-stays Unknown (Checked v) = refl
+mark-stays (fingerprint.Held v) g = refl
+mark-stays (Checked v) g = refl
+
 pub merge-takes : MergeTakes
 unfolding merge merged
 merge-takes l m own other y e =
     let t = accepted→ (mergeNumber l own m other) (merged own other) y e in
-    subst (λ (z : Index). MergeOf (own .scan) (other .scan) (z .scan)) (t .1) (merge-of (own .scan) (other .scan) (joinable l m own other (taken l m own other (t .0))))
+    subst (λ (z : Index). MergedOf own other z) (t .1)
+    (record {
+      scan = merge-of (own .scan) (other .scan) (joinable l m own other (taken l m own other (t .0)));
+      image = refl;
+      fingerprint = merged-stated (own .fingerprint) (other .fingerprint);
+      checked = mark-stays (own .fingerprint) (other .fingerprint);
+      hints = refl;
+      confirmed = refl;
+    })
 
 -- ---- plan
-last-found : (t : ℕ) (cs : List Checkpoint) (n : ℕ) → checkpointAt cs 0 .threshold ≤ t → isSome (lastNotAbove t cs (suc n)) ≡ true
-unfolding lastNotAbove isSome
-last-found t cs zero h = rw (le-leb (checkpointAt cs 0 .threshold) t h) refl
-last-found t cs (suc n) h = test (leb (checkpointAt cs (suc n) .threshold) t) (λ e. rw e refl) (λ e. rw e (last-found t cs n h))
+module _ (t : ℕ) (cs : List Checkpoint) where
+  abbrev Above : ℕ → ℕ → Type 0
+  Above i n = (k : ℕ) → i ≤ k → k < n → t < checkpointAt cs k .threshold
 
--- a plan that is Start has no checkpoint to go by
-plan-start : (t : ℕ) (x : Scan) (e : Option EndState) (o : Option ℕ) → planOr t e (planFrom x o) ≡ Start → isSome o ≡ false
-unfolding planOr planFrom isSome
-plan-start t x e none h = refl
-plan-start t x none (some j) h = let z : _≡_ {A = ℕ} 0 1 = cc in let f : ⊥ = omega arith in absurd f
-plan-start t x (some e) (some j) h =
-    test (leb (e .threshold) t) (λ w. let h' : End e ≡ Start = rw w at h in let z : _≡_ {A = ℕ} 0 1 = cc in let f : ⊥ = omega arith in absurd f)
-    (λ w. let h' : planFrom x (some j) ≡ Start = rw w at h in let z : _≡_ {A = ℕ} 0 1 = cc in let f : ⊥ = omega arith in absurd f)
+  -- one more that is above
+  above-more : (i n : ℕ) → leb (checkpointAt cs n .threshold) t ≡ false → Above i n → Above i (suc n)
+  above-more i n h f k a b =
+      ⊎-elim (λ (q : k ≡ n). rw q (leb-false (checkpointAt cs n .threshold) t h)) (λ (q : k < n). f k a q) (eq-or-lt-of-le (let l : k ≤ n = omega arith in l))
+
+  none-above : (n : ℕ) → lastNotAbove t cs n ≡ none → Above 0 n
+  unfolding lastNotAbove
+  none-above zero e = λ k a b. let z : ⊥ = omega arith in absurd z
+  none-above (suc n) e =
+      test (leb (checkpointAt cs n .threshold) t)
+      (λ h. let q : some n ≡ none = rw h at e in let z : _≡_ {A = ℕ} 0 1 = cc in let f : ⊥ = omega arith in absurd f)
+      (λ h. above-more 0 n h (none-above n (rw h at e)))
+
+  record Found (n j : ℕ) : Type 0 where
+    inside : j < n
+    notAbove : checkpointAt cs j .threshold ≤ t
+    last : Above (j + 1) n
+
+  last-found : (n j : ℕ) → lastNotAbove t cs n ≡ some j → Found n j
+  unfolding lastNotAbove
+  last-found zero j e = let z : _≡_ {A = ℕ} 0 1 = cc in let f : ⊥ = omega arith in absurd f
+  last-found (suc n) j e =
+      test (leb (checkpointAt cs n .threshold) t)
+      (λ h. let q : some n ≡ some j = rw h at e in let i : n ≡ j = cc in
+      subst (λ (m : ℕ). Found (suc n) m) i
+      (record { inside = omega arith; notAbove = leb-true (checkpointAt cs n .threshold) t h; last = λ k a b. let z : ⊥ = omega arith in absurd z }))
+      (λ h.
+      let r = last-found n j (rw h at e) in
+      record { inside = omega (arith, r .inside); notAbove = r .notAbove; last = above-more (j + 1) n h (r .last) })
+
+module _ (t : ℕ) (x : Scan) where
+  -- without the end state
+  looked-from : (o : Option ℕ) → lastNotAbove t (x .checkpoints) (length (x .checkpoints)) ≡ o → Looked x t (planFrom x o)
+  unfolding planFrom Looked
+  looked-from none e = none-above t (x .checkpoints) (length (x .checkpoints)) e
+  looked-from (some j) e =
+      let f = last-found t (x .checkpoints) (length (x .checkpoints)) j e in
+      record { inside = f .inside; lsn = refl; checkpoint = refl; notAbove = f .notAbove; last = f .last }
+
+  looked-or : (e : Option EndState) → x .ending ≡ e → (p : Plan) → Looked x t p → Looked x t (planOr t e p)
+  unfolding planOr Looked
+  looked-or none q p h = h
+  looked-or (some s) q p h = choose (Looked x t) (leb (s .threshold) t) (End s) p (λ b. (q, leb-true (s .threshold) t b)) (λ b. h)
 
 pub plan-looks : PlanLooks
-unfolding plan planned
-plan-looks l x t e w =
-    let p = accepted→ (firstNo (four l x [])) (planned (x .scan) t) Start e .1 in
-    let cs = x .scan .checkpoints in
-    let n = plan-start t (x .scan) (x .scan .ending) (lastNotAbove t cs (length cs)) p in
-    test (leb (checkpointAt cs 0 .threshold) t)
-    (λ f.
-    let m : suc (length cs - 1) ≡ length cs = omega arith in
-    never (rw m at (last-found t cs (length cs - 1) (leb-true (checkpointAt cs 0 .threshold) t f))) n)
-    (λ f. leb-false (checkpointAt cs 0 .threshold) t f)
+unfolding plan planned planOr
+plan-looks =
+    record {
+      answers = λ l x t p e.
+          subst (Looked (x .scan) t) (accepted→ (firstNo (four l x [])) (planned (x .scan) t) p e .1)
+          (looked-or t (x .scan) (x .scan .ending) refl _ (looked-from t (x .scan) (lastNotAbove t (x .scan .checkpoints) (length (x .scan .checkpoints))) refl));
+      ends = λ l x t e v q h. refuses-nothing .plans l x t v ∙ ap (λ (p : Plan). Accepted p) (rw (q, le-leb (e .threshold) t h) refl);
+    }
 
 -- ---- hint
 pub largest-found : (p : ℕ → Bool) (hs : List Hint) (n i : ℕ) → i < n → p i ≡ true → isSome (largestOf p hs n) ≡ true
@@ -179,9 +246,31 @@ absorb-of x r ms j =
           (admits (y .area) (y .interval) (y .budget) (r .budget) 0 (r .first) (y .checkpoints) (r .checkpoints) (r .frames) (r .parts) (storedIn y) (j .own .stretch .held) (j .theirs) (omega arith));
     }
 
+-- the malformed list of the joined scan
+module _ (x : Index) (r : Recorder) (image : Option ℕ) (ms : List ℕ) where
+  abbrev after' : Index
+  after' = absorbedIndex x r image ms
+
+  moved-list : frontier (x .scan) < frontier (after' .scan) → after' .scan .malformed ≡ take maxMalformed (below (frontier (after' .scan)) ms)
+  moved-list h = rw (lt-ltb (frontier (x .scan)) (frontier (joined (x .scan) r [])) h)
+
+  held-list : frontier (after' .scan) ≤ frontier (x .scan) → after' .scan .malformed ≡ x .scan .malformed
+  held-list h =
+      test (ltb (frontier (x .scan)) (frontier (joined (x .scan) r [])))
+      (λ e. let f : ⊥ = omega (arith, ltb-true (frontier (x .scan)) (frontier (joined (x .scan) r [])) e, h) in absurd f)
+      (λ e. rw e refl)
+
 pub absorb-takes : AbsorbTakes
 unfolding absorb
 absorb-takes l x m r image ms e s =
     let n = absorbNumber l x m r image ms in
     let z : n ≡ 0 = sym (number-by l x m r image ms n) ∙ e in
-    rw (z, s) (absorb-of x r (takenMalformed (x .scan) r ms) (absorb-joins l x m r image ms z s))
+    rw (z, s)
+    (record {
+      scan = absorb-of x r (takenMalformed (x .scan) r ms) (absorb-joins l x m r image ms z s);
+      malformed = moved-list x r image ms;
+      held = held-list x r image ms;
+      image = refl;
+      hinting = refl;
+      fingerprint = refl;
+    })

@@ -1,6 +1,7 @@
 pub mod Adds
 pub mod BlockRun
 pub mod Closure
+pub mod ClosureInTables
 pub mod Demand1
 pub mod Demand1InC
 pub mod Demand3
@@ -24,3 +25,4 @@ pub mod RoundTripInTables
 pub mod TableRun
 pub mod Terms
 pub mod Useful
+pub mod UsefulInTables

@@ -1,25 +1,27 @@
 -- Document 01, "Programs that do nothing useful": what shuts out each.
-use Prim.Native.Nat.{ℕ, _-_, _<_, _≤_}
+use Prim.Native.Nat.{ℕ, _+_, _-_, _/_, min, _<_, _≤_}
 use mathlib.Core.Path.{_≡_}
 use mathlib.Core.Bool.{true, false}
 use mathlib.Core.List.{List, _++_}
 use mathlib.Core.Option.{Option, none, some}
 use lib.Dec.{eqb}
-use lib.ListN.{length, getD, drop}
+use lib.ListN.{length, getD, take, drop}
 use Rattle.rules.specs.declared.Area.{Area}
 use Rattle.rules.specs.declared.Confirmation.{Confirmation}
 use Rattle.rules.specs.declared.EndState.{EndState}
 use Rattle.rules.specs.declared.Hint.{Hint}
 use Rattle.rules.specs.declared.Mode.the-variants.{Finished}
-use Rattle.rules.specs.declared.Plan.the-variants.{Start}
+use Rattle.rules.specs.declared.Plan.{Plan}
+use Rattle.rules.specs.declared.Plan.the-variants.{Start, At, End}
+use Rattle.rules.specs.declared.Resume.{Resume}
 use Rattle.rules.specs.FirstRecord.{firstRecord}
 use Rattle.rules.specs.Tests.{orElse, agree, Accepted, numberOf}
-use Rattle.rules.specs.Values.{Scan, Index, Recorder, HintRecorder, Lengths, noHint, checkpointAt, boundaries, count, complete, lastCheckpoint, stated}
+use Rattle.rules.specs.Values.{Scan, Index, Recorder, HintRecorder, Lengths, maxMalformed, noHint, checkpointAt, boundaries, lsnOf, frontier, count, complete, lastCheckpoint, stated, isChecked}
 use Rattle.rules.specs.Sections.{endOk}
 use Rattle.rules.specs.Questions.{areaOk, question1, question2, question3, endOf}
 use Rattle.rules.specs.Create.{emptyIndex, new, bound, bindFingerprint, emptyRecorder, recorder, emptyHintRecorder, hintRecorder}
-use Rattle.rules.specs.Record.{Assembling, isRunning, nextNumber, question5, question6, question7, recorded, recordAt, withMode, finish, question8, question9, question10, question11, question12, absorbedIndex, emptied, isStopped, absorb}
-use Rattle.rules.specs.Hints.{seenRecord, see, flush, takeList, question13, withHints, withHinting, addHints, question14, keepConfirmation, near, hint}
+use Rattle.rules.specs.Record.{Assembling, isRunning, nextNumber, question5, question6, question7, recorded, recordAt, withMode, finish, question8, question9, question10, question11, question12, absorbedIndex, below, emptied, isStopped, absorb}
+use Rattle.rules.specs.Hints.{thin, lastOnes, joinedHints, keepAll, seenRecord, see, flush, takeList, question13, withHints, withHinting, addHints, question14, keepConfirmation, near, hint}
 use Rattle.rules.specs.Merge.{question41, question42, question43, further, merged, merge}
 use Rattle.rules.specs.File.{savedLength, saved, save}
 use Rattle.rules.specs.Load.{fromBytes, limited, load}
@@ -28,6 +30,7 @@ use Rattle.rules.specs.Sizes.{sized}
 use Rattle.theorems.specs.Terms.{Valid, ValidRecorder, ValidHintRecorder, storedIn, SameRead}
 use Rattle.adds.specs.Brings.{bringsOf, brings}
 use Rattle.theorems.specs.DiscFile.{DiscSaveAccepts, DiscLoadAccepts}
+use Rattle.theorems.specs.Demand3.{LoadedParts}
 use Rattle.theorems.specs.PartRule.{Admits}
 
 -- ---- refuses every call
@@ -80,11 +83,24 @@ pub record RefusesNothing : Type 0 where
   pub loadsDisc : DiscLoadAccepts
 
 -- ---- loads each file as an empty list
--- what was saved loads, under any limit, as a list that has read the same
+-- what the list y that the file of x loads as holds under a limit
+pub record LoadOf (limit : ℕ) (x y : Index) : Type 0 where
+  pub read : SameRead (y .scan) (x .scan)
+  pub area : y .scan .area ≡ x .scan .area
+  pub interval : y .scan .interval ≡ x .scan .interval
+  -- the budget, and the parts that fit it
+  pub budget : y .scan .budget ≡ min (x .scan .budget) limit
+  pub parts : LoadedParts limit (x .scan) (y .scan)
+  -- M, as many of the hints, and the last confirmations
+  pub spacing : y .hinting .spacing ≡ x .hinting .spacing
+  pub most : y .hinting .most ≡ min (x .hinting .most) (limit / 8)
+  pub hints : y .hinting .hints ≡ thin (y .hinting .most) (x .hinting .hints)
+  pub confirmed : y .hinting .confirmed ≡ lastOnes (min (y .hinting .most) (limit / 16)) (x .hinting .confirmed)
+  pub fingerprint : stated (y .fingerprint) ≡ stated (x .fingerprint)
+
 abbrev pub LoadKeeps : Type 0
 LoadKeeps =
-    (l : Lengths) (x : Index) → Valid l x → sized x ≡ true → (limit : ℕ)
-    → (y : Index) × (load l (x .scan .area) (saved x) limit ≡ Accepted y) × SameRead (y .scan) (x .scan)
+    (l : Lengths) (x : Index) → Valid l x → sized x ≡ true → (limit : ℕ) → (y : Index) × (load l (x .scan .area) (saved x) limit ≡ Accepted y) × LoadOf limit x y
 
 -- ---- merge hands back the first list untouched
 -- what the own scan is afterwards, y
@@ -98,8 +114,20 @@ pub record MergeOf (own other y : Scan) : Type 0 where
   -- any other list: nothing changes
   pub same : further own other ≡ false → y ≡ own
 
+-- and the whole list
+pub record MergedOf (own other y : Index) : Type 0 where
+  pub scan : MergeOf (own .scan) (other .scan) (y .scan)
+  -- image id and fingerprint where none is held; the mark stays
+  pub image : y .image ≡ orElse (own .image) (other .image)
+  pub fingerprint : stated (y .fingerprint) ≡ orElse (stated (own .fingerprint)) (stated (other .fingerprint))
+  pub checked : isChecked (y .fingerprint) ≡ isChecked (own .fingerprint)
+  -- the other's hints and confirmations come to the own ones by the rules of add_hints and keep_confirmation
+  pub hints : y .hinting .hints ≡ joinedHints (own .scan .area) (own .hinting .most) (own .hinting .hints) (other .hinting .hints)
+  pub confirmed :
+      y .hinting .confirmed ≡ keepAll (isChecked (own .fingerprint)) (own .hinting .most) (own .hinting .confirmed) (other .hinting .confirmed)
+
 abbrev pub MergeTakes : Type 0
-MergeTakes = (l m : Lengths) (own other y : Index) → merge l own m other ≡ Accepted y → MergeOf (own .scan) (other .scan) (y .scan)
+MergeTakes = (l m : Lengths) (own other y : Index) → merge l own m other ≡ Accepted y → MergedOf own other y
 
 -- ---- absorbs one recorder, then only empties the others
 -- what the scan x is after absorbing r, y
@@ -112,10 +140,20 @@ pub record AbsorbOf (x : Scan) (r : Recorder) (y : Scan) : Type 0 where
   -- of its parts those that the part rule admits
   pub parts : Admits (x .budget) (r .frames) (count x) (r .parts) (storedIn x) (storedIn y)
 
+-- and the whole list, y, where id is the image id and ms are the malformed LSNs of the reading
+pub record AbsorbedOf (x : Index) (r : Recorder) (id : Option ℕ) (ms : List ℕ) (y : Index) : Type 0 where
+  pub scan : AbsorbOf (x .scan) r (y .scan)
+  -- where the frontier moves, the malformed LSNs below it, at most 4,096; else those held
+  pub malformed : frontier (x .scan) < frontier (y .scan) → y .scan .malformed ≡ take maxMalformed (below (frontier (y .scan)) ms)
+  pub held : frontier (y .scan) ≤ frontier (x .scan) → y .scan .malformed ≡ x .scan .malformed
+  pub image : y .image ≡ orElse (x .image) id
+  pub hinting : y .hinting ≡ x .hinting
+  pub fingerprint : y .fingerprint ≡ x .fingerprint
+
 abbrev pub AbsorbTakes : Type 0
 AbsorbTakes =
     (l : Lengths) (x : Index) (m : Lengths) (r : Recorder) (image : Option ℕ) (ms : List ℕ) → absorb l x m r image ms .number ≡ 0 → isStopped (r .mode) ≡ false
-    → AbsorbOf (x .scan) r (absorb l x m r image ms .index .scan)
+    → AbsorbedOf x r image ms (absorb l x m r image ms .index)
 
 -- ---- save tells an invented length
 -- what is saved has the length that is told, 88 bytes at least
@@ -123,10 +161,28 @@ abbrev pub SaveTells : Type 0
 SaveTells = (l : Lengths) (x : Index) (out : ℕ) (b : List ℕ) → save l x out ≡ Accepted b → (length b ≡ savedLength x) × (88 ≤ savedLength x)
 
 -- ---- plan says Start, hint none, without looking
--- where plan says Start, the frame lies before the first checkpoint's threshold, or there is none
-abbrev pub PlanLooks : Type 0
-PlanLooks =
-    (l : Lengths) (x : Index) (t : ℕ) → plan l x t ≡ Accepted Start → 0 < count (x .scan) → t < checkpointAt (x .scan .checkpoints) 0 .threshold
+-- the frame t lies before every checkpoint's threshold from number n on
+abbrev pub BeforeAll : Scan → ℕ → ℕ → Type 0
+BeforeAll x t n = (j : ℕ) → n ≤ j → j < count x → t < checkpointAt (x .checkpoints) j .threshold
+
+-- r is the last checkpoint whose threshold is not above the frame
+pub record LastNotAbove (x : Scan) (t : ℕ) (r : Resume) : Type 0 where
+  pub inside : r .number < count x
+  pub lsn : r .lsn ≡ lsnOf (x .area) (x .interval) (r .number)
+  pub checkpoint : r .checkpoint ≡ checkpointAt (x .checkpoints) (r .number)
+  pub notAbove : checkpointAt (x .checkpoints) (r .number) .threshold ≤ t
+  pub last : BeforeAll x t (r .number + 1)
+
+-- what an answer of plan says of the list x and the frame t
+unfoldable pub Looked : Scan → ℕ → Plan → Type 0
+Looked x t Start = BeforeAll x t 0
+Looked x t (At r) = LastNotAbove x t r
+Looked x t (End e) = (x .ending ≡ some e) × (e .threshold ≤ t)
+
+pub record PlanLooks : Type 0 where
+  pub answers : (l : Lengths) (x : Index) (t : ℕ) (p : Plan) → plan l x t ≡ Accepted p → Looked (x .scan) t p
+  -- at or past the end of a complete list it says so
+  pub ends : (l : Lengths) (x : Index) (t : ℕ) (e : EndState) → Valid l x → x .scan .ending ≡ some e → e .threshold ≤ t → plan l x t ≡ Accepted (End e)
 
 -- where hint says none, no hint is near
 abbrev pub HintLooks : Type 0

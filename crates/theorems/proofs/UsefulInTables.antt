@@ -1,0 +1,119 @@
+-- What shuts out programs that do nothing useful, about tables: the statements of specs/UsefulInTables.antt. Assumes nothing.
+use mathlib.Core.Path.{_≡_, refl, sym, ap, subst, _∙_}
+use mathlib.Core.Bool.{true, _&&_}
+use mathlib.Core.List.{List}
+use mathlib.Core.Option.{none}
+use Prim.Native.Nat.{ℕ, _<_}
+use native.Mathlib.Omega.{arith}
+use lib.ListN.{length}
+use Rattle.field.proofs.Records.{records-length}
+use Rattle.rules.specs.Tests.{Answer, Refused, Accepted}
+use Rattle.rules.specs.Values.{Index}
+use Rattle.rules.specs.Plan.{plan, planned}
+use Rattle.rules.specs.Create.{bindFingerprint, recorder, hintRecorder}
+use Rattle.rules.specs.Hints.{addHints, hint}
+use Rattle.rules.specs.Merge.{merge}
+use Rattle.rules.specs.File.{decodeHint, saved, save, over}
+use Rattle.rules.proofs.Tests.{accepted→}
+use Rattle.laws.proofs.Facts.{sized→}
+use Rattle.laws.proofs.Length.{savedLength-is}
+use Rattle.laws.proofs.Question4.{saved-bytes}
+use Rattle.index.specs.Index.{roomOf, indexIn, kindsIn, kinded, numbersFrom, outOf}
+use Rattle.index.specs.Calls.{numbersOf, boundIn}
+use Rattle.index.proofs.Lent.{sized-in}
+use Rattle.index.proofs.Standing.{stands}
+use Rattle.plan.specs.Calls.{planIn}
+use Rattle.recorder.specs.Recorder.{recorderOf, startedIn}
+use Rattle.hint_recorder.specs.Recorder.{hintRecorderIn}
+use Rattle.add_hints.specs.JoinedMerged.{hintsOf}
+use Rattle.add_hints.specs.Added.{addHintsIn}
+use Rattle.adds.specs.Brings.{brings}
+use Rattle.hint.specs.Calls.{hintIn}
+use Rattle.save.specs.declared.Saved.the-variants as told
+use Rattle.save.specs.Save.{SaveOut, saveOut, saveIn, made}
+use Rattle.theorems.specs.TableRun.{isAccepted}
+use Rattle.theorems.specs.Useful.{LoadOf, MergedOf}
+use Rattle.theorems.specs.UsefulInTables.{RefusesNothingIn, LoadKeepsIn, MergeTakesIn, SaveOf, SaveTellsIn, PlanLooksIn, HintLooksIn}
+use Rattle.theorems.proofs.Accepts.{refuses-nothing}
+use Rattle.theorems.proofs.MergeInTables.{kinded→, merge-left}
+use Rattle.theorems.proofs.TableRun.{kinds-pass}
+use Rattle.theorems.proofs.Useful.{load-keeps, merge-takes, plan-looks, hint-looks}
+use Rattle.theorems.proofs.disc.AcceptsInTables.{load-savable}
+
+pub refuses-nothing-in : RefusesNothingIn
+unfolding boundIn numbersOf startedIn recorderOf hintRecorderIn addHintsIn hintIn planIn saveIn saveOut outOf isAccepted
+refuses-nothing-in =
+    record {
+      fingerprints = λ x t v w q.
+          rw (kinds-pass (kindsIn x t) (bindFingerprint (roomOf t) (indexIn x t) v) (w .kinds), refuses-nothing .fingerprints (roomOf t) (indexIn x t) v (w .valid) q) refl;
+      recorders = λ x t from v.
+          rw (kinds-pass (kindsIn x t) (recorder (roomOf t) (indexIn x t) from) (v .kinds), refuses-nothing .recorders (roomOf t) (indexIn x t) from (v .valid)) refl;
+      hintRecorders = λ x t v.
+          rw (kinds-pass (kindsIn x t) (hintRecorder (roomOf t) (indexIn x t)) (v .kinds), refuses-nothing .hintRecorders (roomOf t) (indexIn x t) (v .valid)) refl;
+      addsHints = λ x t list v q.
+          rw (kinds-pass (kindsIn x t) (addHints (roomOf t) (indexIn x t) (hintsOf list)) (v .kinds), refuses-nothing .addsHints (roomOf t) (indexIn x t) (hintsOf list) (v .valid) q) refl;
+      hints = λ x t first end playtime v q.
+          rw (kinds-pass (kindsIn x t) (hint (roomOf t) (indexIn x t) first end playtime) (v .kinds)) (refuses-nothing .hints (roomOf t) (indexIn x t) first end playtime (v .valid) q);
+      plans = λ x t f v. (planned (indexIn x t .scan) f, kinds-pass (kindsIn x t) _ (v .kinds) ∙ refuses-nothing .plans (roomOf t) (indexIn x t) f (v .valid));
+      saves = λ x t old v l.
+          rw (kinds-pass (kindsIn x t) (save (roomOf t) (indexIn x t) (length old)) (v .kinds), refuses-nothing .saves (roomOf t) (indexIn x t) (length old) (v .valid) l) refl;
+      merges = λ x t y u v w a b c.
+          let k : (kindsIn x t && kindsIn y u) ≡ true = rw (v .kinds, w .kinds) refl in
+          rw (
+            kinds-pass (kindsIn x t && kindsIn y u) (merge (roomOf t) (indexIn x t) (roomOf u) (indexIn y u)) k,
+            refuses-nothing .merges (roomOf t) (roomOf u) (indexIn x t) (indexIn y u) (v .valid) (w .valid) a b c,
+          ) refl;
+      adds = λ x t y u v w a b c.
+          let k : (kindsIn x t && kindsIn y u) ≡ true = rw (v .kinds, w .kinds) refl in
+          kinds-pass (kindsIn x t && kindsIn y u) (brings (roomOf t) (indexIn x t) (roomOf u) (indexIn y u)) k
+          ∙ refuses-nothing .adds (roomOf t) (roomOf u) (indexIn x t) (indexIn y u) (v .valid) (w .valid) a b c;
+      loads = λ a b limit t x q e r. rw (refuses-nothing .loads (roomOf t) a b limit x q e r) refl;
+    }
+
+-- ---- load
+pub load-keeps-in : LoadKeepsIn
+unfolding outOf
+load-keeps-in x t a v limit t' q =
+    let i = indexIn x t in
+    let s = sized-in x t (a .typed) (a .bytes) in
+    let k = load-keeps (roomOf t') i (record { one = v .valid .one; two = v .valid .two; three = q; four = v .valid .four }) s limit in
+    let w = load-savable (roomOf t') (x .area) (saved i) limit (k .0) (saved-bytes i (sized→ i s)) (k .1) in
+    rw (k .1) (record { numbers = numbersFrom (k .0); answer = refl; list = subst (λ (z : Index). LoadOf limit i z) (sym (stands (k .0) t' w)) (k .2) })
+
+-- ---- merge
+pub merge-takes-in : MergeTakesIn
+merge-takes-in x t y u z t' a b e =
+    let l = merge-left x t y u z t' a b e in
+    subst (λ (w : Index). MergedOf (indexIn x t) (indexIn y u) w) (sym (l .stands)) (merge-takes (roomOf t) (roomOf u) (indexIn x t) (indexIn y u) (l .list) (l .accepted))
+
+-- ---- save
+pub save-tells-in : SaveTellsIn
+unfolding saveIn saveOut save
+save-tells-in x t old n new e = told-of (kinded (kindsIn x t) (save (roomOf t) (indexIn x t) (length old))) refl e
+  where
+    told-of : (r : Answer (List ℕ)) → kinded (kindsIn x t) (save (roomOf t) (indexIn x t) (length old)) ≡ r → saveOut r old ≡ made (told.Length n) new → SaveOf (indexIn x t) old n new
+    told-of (Refused m) q h = let a = ap (λ (o : SaveOut). o .answer) h in let z : _≡_ {A = ℕ} 0 1 = cc in let f : ⊥ = omega arith in absurd f
+    told-of (Accepted b) q h =
+        let a : told.Length (length b) ≡ told.Length n = ap (λ (o : SaveOut). o .answer) h in
+        let l : length b ≡ n = cc in
+        let k = kinded→ (kindsIn x t) (save (roomOf t) (indexIn x t) (length old)) b q in
+        let f : saved (indexIn x t) ≡ b = accepted→ _ (saved (indexIn x t)) b (k .1) .1 in
+        let d = savedLength-is (indexIn x t) in
+        let w : length (saved (indexIn x t)) ≡ n = ap length f ∙ l in
+        record {
+          number = omega (arith, w, d .0);
+          least = omega (arith, w, d .0, d .1);
+          whole = w;
+          bytes = sym (ap (λ (o : SaveOut). o .out) h) ∙ ap (λ (c : List ℕ). over c old) (sym f);
+        }
+
+-- ---- plan, hint
+pub plan-looks-in : PlanLooksIn
+unfolding planIn
+plan-looks-in x t f p e = plan-looks .answers (roomOf t) (indexIn x t) f p (kinded→ (kindsIn x t) (plan (roomOf t) (indexIn x t) f) p e .1)
+
+pub hint-looks-in : HintLooksIn
+unfolding hintIn
+hint-looks-in x t first end playtime i e l =
+    let n : i < length (indexIn x t .hinting .hints) = rw (records-length 8 decodeHint (x .hints) (t .hints)) l in
+    hint-looks (roomOf t) (indexIn x t) first end playtime i (kinded→ (kindsIn x t) (hint (roomOf t) (indexIn x t) first end playtime) none e .1) n
