@@ -10,7 +10,7 @@ use lib.ListN.{length}
 use Rattle.field.proofs.Records.{records-length}
 use Rattle.rules.specs.declared.Area.{Area}
 use Rattle.rules.specs.declared.AreaIndex.{AreaIndex}
-use Rattle.rules.specs.Tests.{all, isSome, ask, firstNo}
+use Rattle.rules.specs.Tests.{all, isSome, ask, firstNo, after}
 use Rattle.rules.specs.Values.{boundaries, stated, frontierOf, counted, used}
 use Rattle.rules.specs.Sections.{countsOk, hintsOk, confirmationsOk, checkpointsOk, framesOk, partsOk, endingOk, malformedOk}
 use Rattle.rules.specs.Questions.{areaOk, numbersOk, scanRoom, hintingRoom, question1, question2, question3, question4, heldOk, scanOk, hintingOk}
@@ -19,7 +19,8 @@ use Rattle.laws.proofs.scans.Parts.{frames-used}
 use Rattle.laws.proofs.Facts.{scanOk→}
 use Rattle.tables.specs.Tables.{decodeHeader, headersIn, framesIn, hintsIn, confirmationsIn}
 use Rattle.tables.proofs.Frames.{frames-length}
-use Rattle.index.specs.Index.{Tables, tables, roomOf, indexIn, kindsOk, kindsIn, kindedNumber, refusal, three, roomIn, frontierIn}
+use Rattle.index.specs.Index.{Tables, tables, roomOf, indexIn, kindsOk, kindsIn, kindedNumber, refusal, three, roomIn, frontierIn, frontierAnswer}
+use Rattle.index.specs.declared.FrontierLsn.the-variants as front
 use Rattle.sections.specs.Numbers.{endIn}
 use Rattle.index.specs.Needs.{Roomy, Long, Passes, heldQuestion4, scanSpace, sectionsIn, scanIn, hintingIn, sectionsOk, hintCounts}
 use Rattle.index.specs.Room.{hintRoom}
@@ -295,10 +296,11 @@ passes-store {x} {t} p =
 
 -- ---- the frontier
 module _ (x : AreaIndex) {a : Bool} (p : a ≡ areaOk (x .area)) where
-  pub front-no : not a ≡ true → 0 ≡ frontierIn x
-  unfolding frontierIn
-  front-no n = sym (rw (← p, not-true a n))
+  pub front-no : not a ≡ true → frontierAnswer (front.Refused 1) ≡ frontierIn x
+  unfolding frontierAnswer frontierIn firstNo after
+  front-no n = let q : areaOk (x .area) ≡ false = sym p ∙ not-true a n in rw q
 
-  pub front-yes : {r : ℕ} → not a ≡ false → r ≡ frontierOf (x .area) (x .interval) (x .checkpoints) (endIn (x .ending)) → r ≡ frontierIn x
-  unfolding frontierIn
-  front-yes n e = e ∙ sym (rw (← p, not-false a n))
+  pub front-yes : {r : ℕ} → not a ≡ false → r ≡ frontierOf (x .area) (x .interval) (x .checkpoints) (endIn (x .ending))
+      → frontierAnswer (front.Lsn r) ≡ frontierIn x
+  unfolding frontierAnswer frontierIn firstNo after
+  front-yes n e = let q : areaOk (x .area) ≡ true = sym p ∙ not-false a n in rw (q, e)

@@ -7,10 +7,12 @@ use lib.Dec.{leb, ltb}
 use lib.ListN.{length, drop, replicate}
 use Rattle.field.specs.Records.{bytesOf}
 use Rattle.rules.specs.declared.AreaIndex.{AreaIndex}
-use Rattle.rules.specs.Tests.{Answer, Refused, Accepted, numberOf, ask, firstNo}
+use Rattle.rules.specs.Tests.{Answer, Refused, Accepted, after, numberOf, ask, firstNo}
 use Rattle.rules.specs.Values.{Frame, Index, frontierOf}
 use Rattle.rules.specs.Questions.{areaOk, question1, question2, question3, four}
 use Rattle.rules.specs.File.{encodeCheckpoint, encodeFrameHeader, encodeHeld, encodeLsn, encodeHint, encodeConfirmation, over}
+use Rattle.index.specs.declared.FrontierLsn.{FrontierLsn}
+use Rattle.index.specs.declared.FrontierLsn.the-variants as front
 use Rattle.index.specs.declared.Made.{Made}
 use Rattle.index.specs.declared.Made.the-variants as made
 unfoldable pub use Rattle.sections.specs.Numbers.{endIn, idIn, endFrom, idFrom}
@@ -117,6 +119,11 @@ outOf put t (Refused n) = out (made.Refused n) t
 outOf put t (Accepted x) = out (made.Index (numbersFrom x)) (put x)
 
 -- ---- readers
--- the frontier, 0 where the area fails 1
-unfoldable pub frontierIn : AreaIndex → ℕ
-frontierIn x = cond (areaOk (x .area)) (frontierOf (x .area) (x .interval) (x .checkpoints) (endIn (x .ending))) 0
+-- the frontier; 1
+unfoldable pub frontierIn : AreaIndex → Answer ℕ
+frontierIn x =
+    after (firstNo (ask (areaOk (x .area)) 1 ∷ [])) (Accepted (frontierOf (x .area) (x .interval) (x .checkpoints) (endIn (x .ending))))
+
+unfoldable pub frontierAnswer : FrontierLsn → Answer ℕ
+frontierAnswer (front.Refused n) = Refused n
+frontierAnswer (front.Lsn n) = Accepted n

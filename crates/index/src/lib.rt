@@ -29,7 +29,7 @@ ghost use Prim.Native.Nat.{ℕ};
 ghost use Rattle.rules.specs.Tests.{isSome};
 ghost use Rattle.rules.specs.Values.{stated, isChecked};
 ghost use Rattle.rules.specs.Questions.{areaOk};
-ghost use Rattle.index.specs.Index.{tables, roomIn, three, refusal, frontierIn};
+ghost use Rattle.index.specs.Index.{tables, roomIn, three, refusal, frontierIn, frontierAnswer};
 ghost use Rattle.sections.specs.Numbers.{endIn};
 ghost use Rattle.index.specs.Room.{hintRoom};
 ghost use Rattle.index.specs.Needs.{Long, Roomy, heldQuestion4, scanSpace, sectionsIn, scanIn, hintingIn, hintCounts};
@@ -306,15 +306,21 @@ pub fn refuses(
 }
 
 // ---- readers
-pub fn frontier(x: AreaIndex) -> u64
-    ensures { λ r. ⌜ r ≡ frontierIn x ⌝ }
+// A list's frontier, or the number 1.
+pub enum FrontierLsn {
+    Refused(u32),
+    Lsn(u64),
+}
+
+pub fn frontier(x: AreaIndex) -> FrontierLsn
+    ensures { λ r. ⌜ frontierAnswer r ≡ frontierIn x ⌝ }
 {
     let area = x.area;
     let ending = x.ending;
     if !question1(area) {
-        return 0;
+        return FrontierLsn::Refused(1);
     }
-    frontier_of(area, x.interval, x.checkpoints, ending)
+    FrontierLsn::Lsn(frontier_of(area, x.interval, x.checkpoints, ending))
 }
 
 pub fn is_complete(x: AreaIndex) -> bool

@@ -2,3 +2,4 @@ pub mod Rising
 pub mod Held
 pub mod Steps
 pub mod Part
+pub mod Lies

@@ -1,7 +1,10 @@
 -- The bytes of the part that a plan names.
 use mathlib.Core.Path.{_≡_}
-use Prim.Native.Nat.{ℕ, _<_}
-use lib.ListN.{getD}
+use mathlib.Core.Bool.{Bool}
+use mathlib.Core.List.{List}
+use Prim.Native.Nat.{ℕ, _+_, _<_}
+use lib.Dec.{leb}
+use lib.ListN.{length, getD}
 use Rattle.rules.specs.declared.AreaIndex.{AreaIndex}
 use Rattle.rules.specs.declared.Assembly.the-variants.{Stored}
 use Rattle.rules.specs.declared.Held.{Held}
@@ -13,6 +16,10 @@ use Rattle.rules.specs.Values.{noHeld, partBytes}
 use Rattle.rules.specs.Plan.{bytesAt}
 use Rattle.index.specs.Index.{Tables, indexIn}
 use Rattle.plan.specs.Calls.{planIn}
+
+-- do len bytes from offset on lie in a store?
+unfoldable pub liesIn : List ℕ → ℕ → ℕ → Bool
+liesIn store offset len = leb (offset + len) (length store)
 
 -- part number i of an index in its tables
 abbrev pub partAt : AreaIndex → Tables → ℕ → Held

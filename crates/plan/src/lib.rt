@@ -20,10 +20,11 @@ ghost use mathlib.Core.Path.{_≡_};
 ghost use mathlib.Core.List.{List};
 ghost use Prim.Native.Nat.{ℕ, _*_, _≤_};
 ghost use lib.ListN.{length};
-ghost use Rattle.rules.specs.Plan.{offsetOf, assemblyOf};
+ghost use Rattle.rules.specs.Plan.{offsetOf, assemblyOf, bytesAt};
 ghost use Rattle.tables.specs.Tables.{framesIn, partsIn};
 ghost use Rattle.index.specs.Index.{tables};
 ghost use Rattle.plan.specs.Calls.{plannedOf, planIn};
+ghost use Rattle.plan.specs.Part.{liesIn};
 ghost use Rattle.plan.specs.Needs.{Ready, storedOf, resumeIn, withinOf, planOf};
 
 // Where the bytes of frame number g begin in the store.
@@ -149,4 +150,32 @@ pub fn plan(
         return Planned::Refused(number);
     }
     Planned::Plan(plan_in(x, first, checkpoints, frames, parts))
+}
+
+// ---- the second call
+// Do the bytes of a part lie in the store?
+pub fn part_lies(store: &[u8], offset: u64, len: u32) -> bool
+    ensures { λ r. ⌜ r ≡ liesIn (now (store .entry)) offset len ⌝ }
+{
+    let n = len as u64;
+    let all = store.len() as u64;
+    if all < n {
+        return false;
+    }
+    if all - n < offset {
+        return false;
+    }
+    true
+}
+
+// The bytes of a part of the store; none where it does not lie in the store, which part_lies tells.
+pub fn part_bytes(store: &[u8], offset: u64, len: u32) -> &[u8]
+    ensures { λ r. ⌜ now r ≡ bytesAt (now (store .entry)) offset len ⌝ }
+{
+    if !part_lies(store, offset, len) {
+        return &store[0..0];
+    }
+    let a = offset as usize;
+    let e = a + len as usize;
+    &store[a..e]
 }

@@ -1,10 +1,10 @@
-// Of plan: how many checkpoints are not above a frame and whether there is none, whether the end state counts, and the bytes of a held part.
+// Of plan: how many checkpoints are not above a frame and whether there is none, whether the end state counts.
 use tables::read_checkpoint;
 ghost use mathlib.Core.Path.{_≡_};
 ghost use Prim.Native.Nat.{_*_, _≤_};
 ghost use lib.Dec.{eqb, leb};
 ghost use lib.ListN.{length};
-ghost use Rattle.rules.specs.Plan.{lastNotAbove, bytesAt};
+ghost use Rattle.rules.specs.Plan.{lastNotAbove};
 ghost use Rattle.tables.specs.Tables.{checkpointsIn};
 ghost use Rattle.plan.specs.Search.{lastIn, Rising};
 
@@ -39,21 +39,4 @@ pub fn at_end(threshold: u32, first: u32) -> bool
     ensures { λ r. ⌜ r ≡ leb threshold first ⌝ }
 {
     threshold <= first
-}
-
-// The bytes of a part of the store; none where it does not lie in the store.
-pub fn part_bytes(store: &[u8], offset: u64, len: u32) -> &[u8]
-    ensures { λ r. ⌜ now r ≡ bytesAt (now (store .entry)) offset len ⌝ }
-{
-    let n = len as u64;
-    let all = store.len() as u64;
-    if all < n {
-        return &store[0..0];
-    }
-    if all - n < offset {
-        return &store[0..0];
-    }
-    let a = offset as usize;
-    let e = a + n as usize;
-    &store[a..e]
 }
