@@ -1,7 +1,7 @@
 -- Answers of recorders, hint recorders, hint and keep_confirmation as a number and blocks of 24 words.
 use Prim.Native.Nat.{ℕ}
 use lib.IntN.{ℤ}
-use lib.Dec.{eqb}
+use lib.Dec.{eqb, leb}
 use mathlib.Core.Bool.{cond}
 use mathlib.Core.List.{List, [], _∷_}
 use mathlib.Core.Option.{Option, none, some}
@@ -14,6 +14,7 @@ use Rattle.rules.specs.declared.UnderAssembly.the-variants as frame
 use Rattle.rules.specs.File.{bit, over}
 use Rattle.rules.specs.Hints.{Hinted}
 use Rattle.rules.specs.Tests.{Answer, Refused, Accepted}
+use Rattle.rules.specs.Values.{lim}
 use Rattle.absorb.specs.declared.Absorbed.{Absorbed}
 use Rattle.blocks.specs.Head.{blockOf, indexWords, recorderWords, hintRecorderWords}
 use Rattle.hint_recorder.specs.declared.Created.{Created}
@@ -29,15 +30,19 @@ use Rattle.recorder.specs.declared.Recorded.the-variants as recorded
 use Rattle.player.specs.Block.{oneWord}
 
 -- ---- a frame under assembly
--- 0 Dst, anything else Dsd
+-- 0 Dst, anything else Dsd; numberFrom says what becomes of a kind that is neither
 unfoldable pub kindFrom : ℕ → FrameKind
 kindFrom kind = cond (eqb kind 0) Dst Dsd
+
+-- a frame whose kind is neither 0 nor 1 gets the number LIM, which 7 refuses
+unfoldable pub numberFrom : ℕ → ℕ → ℕ
+numberFrom kind number = cond (leb kind 1) number lim
 
 -- a mark of 0 is no frame, anything else one
 unfoldable pub frameFrom : ℕ → ℕ → ℕ → ℕ → ℤ → UnderAssembly
 frameFrom mark start number kind remaining =
     cond (eqb mark 0) frame.Nothing
-    (frame.Frame (record { start = start; number = number; kind = kindFrom kind; remaining = remaining }))
+    (frame.Frame (record { start = start; number = numberFrom kind number; kind = kindFrom kind; remaining = remaining }))
 
 -- ---- answers
 unfoldable pub recordedOf : Recorded → Answer Recorder

@@ -16,6 +16,7 @@ use rules::Assembling;
 use rules::FrameKind;
 use rules::Hinted;
 use rules::ImageId;
+use rules::MAX_NEXT_ACCEPTABLE;
 use rules::UnderAssembly;
 ghost use mathlib.Core.Path.{_≡_};
 ghost use Prim.Native.Nat.{_≤_};
@@ -24,10 +25,10 @@ ghost use Rattle.blocks.specs.From.{imageFrom};
 ghost use Rattle.blocks.specs.Head.{recorderWords, hintRecorderWords};
 ghost use Rattle.hint.specs.Calls.{hintedOf, answerOf};
 ghost use Rattle.player.specs.Block.{called, into};
-ghost use Rattle.player_record.specs.Block.{kindFrom, frameFrom, recordedOf, seenOf, createdOf, createdWords, hintWords, foundWords, calledBoth, takenInto, keptInto, absorbedInto};
+ghost use Rattle.player_record.specs.Block.{kindFrom, numberFrom, frameFrom, recordedOf, seenOf, createdOf, createdWords, hintWords, foundWords, calledBoth, takenInto, keptInto, absorbedInto};
 
 // ---- a frame under assembly
-// 0 Dst, anything else Dsd.
+// 0 Dst, anything else Dsd; number_from asks whether it is one of the two.
 fn kind_from(kind: u8) -> FrameKind
     ensures { λ r. ⌜ r ≡ kindFrom kind ⌝ }
 {
@@ -35,6 +36,16 @@ fn kind_from(kind: u8) -> FrameKind
         return FrameKind::Dst;
     }
     FrameKind::Dsd
+}
+
+// A frame whose kind is neither 0 nor 1 gets the number LIM, which 7 refuses.
+fn number_from(kind: u8, number: u32) -> u32
+    ensures { λ r. ⌜ r ≡ numberFrom kind number ⌝ }
+{
+    if kind <= 1 {
+        return number;
+    }
+    MAX_NEXT_ACCEPTABLE
 }
 
 // A mark of 0 is no frame, anything else one.
@@ -46,7 +57,7 @@ pub fn frame_from(mark: u8, start: u64, number: u32, kind: u8, remaining: i32) -
     }
     UnderAssembly::Frame(Assembling {
         start,
-        number,
+        number: number_from(kind, number),
         kind: kind_from(kind),
         remaining,
     })

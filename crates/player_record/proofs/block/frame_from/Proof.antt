@@ -15,7 +15,8 @@ unfolding frameFrom
 returns-2 c =
     let test : tie.Else1 = search in
     let start : tie.Start = search in
-    simp (ne-eqb _ 0 (test .if1 .left), c .kind-from .ensures, toZ-ofZ w32 (start .args .remaining) (search needs))
+    let number : tie.After-number-from = search in
+    simp (ne-eqb _ 0 (test .if1 .left), number .number-from .ensures, c .kind-from .ensures, toZ-ofZ w32 (start .args .remaining) (search needs))
 
 pub frame-from-spec : {M : Type 1} → statement M
-frame-from-spec = tie.close (tie.spec returns (λ c κs. search needs) returns-2)
+frame-from-spec = tie.close (tie.spec returns (λ c κs. search needs) (λ c κs. search needs) returns-2)
