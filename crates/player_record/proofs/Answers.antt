@@ -12,12 +12,14 @@ use Rattle.index.specs.Index.{Tables}
 use Rattle.recorder.specs.declared.Recorded.{Recorded}
 use Rattle.recorder.specs.Recorder.{RecorderTables, startedIn, finishedIn}
 use Rattle.recorder.specs.Record.{recorderOut, recordIn}
+use Rattle.recorder.specs.declared.boundary.Boundary.{Boundary}
+use Rattle.recorder.specs.Boundary.{dueAt, checkpointAt}
 use Rattle.absorb.specs.declared.Absorbed.{Absorbed}
 use Rattle.absorb.specs.Absorb.{out, absorbIn}
-use Rattle.player_record.specs.Block.{calledBoth, absorbedInto}
-use Rattle.player.specs.Block.{called, headIndex, headRecorder}
+use Rattle.player_record.specs.Block.{calledBoth, absorbedInto, boundaryOf, boundaryWords}
+use Rattle.player.specs.Block.{called, into, headIndex, headRecorder}
 use Rattle.player.proofs.block.Blocks.{long-enough}
-use Rattle.player_record.specs.Calls.{calledFour, recordedInto, recorderCall, recordCall, finishCall, calledAbsorbed, absorbCall}
+use Rattle.player_record.specs.Calls.{calledFour, recordedInto, recorderCall, recordCall, finishCall, dueCall, boundaryCall, calledAbsorbed, absorbCall}
 
 module _ (b b' : List ℕ) (n : ℕ) (l : 192 ≤ length b) (q : Recorded) (p : called n b' ≡ recordedInto b q) where
   pub recorder-done : (h : List ℕ) → 192 ≤ length h → (x : AreaIndex) (t : Tables) (from : ℕ) → q ≡ startedIn x t from → x ≡ headIndex h
@@ -34,6 +36,16 @@ module _ (b b' : List ℕ) (n : ℕ) (l : 192 ≤ length b) (q : Recorded) (p : 
       → calledFour n b' t' ≡ recordCall b lsn threshold malformed g bytes sector t
   unfolding recordCall
   record-done r t t' lsn threshold malformed f g bytes sector e z w = long-enough b _ _ l (rw (← z, ← w, ← e, p))
+
+-- ---- boundaries
+module _ (b a a' : List ℕ) (n : ℕ) (g : 192 ≤ length b) (l : 192 ≤ length a) (q : Boundary) (p : called n a' ≡ into boundaryWords a (boundaryOf q)) where
+  pub due-done : (r : Recorder) → q ≡ dueAt r → r ≡ headRecorder b → called n a' ≡ dueCall b a
+  unfolding dueCall
+  due-done r e z = long-enough b _ _ g (long-enough a _ _ l (rw (e, z) at p))
+
+  pub boundary-done : (x : AreaIndex) (j : ℕ) → q ≡ checkpointAt x j → x ≡ headIndex b → called n a' ≡ boundaryCall b j a
+  unfolding boundaryCall
+  boundary-done x j e z = long-enough b _ _ g (long-enough a _ _ l (rw (e, z) at p))
 
 -- ---- a list and a recorder
 module _ (h h' b b' : List ℕ) (n : ℕ) (g : 192 ≤ length h) (l : 192 ≤ length b) (x : AreaIndex) (r : Recorder) (t : Tables) (u : RecorderTables) where

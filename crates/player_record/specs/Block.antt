@@ -27,7 +27,9 @@ use Rattle.confirmations.specs.declared.Kept.{Kept}
 use Rattle.confirmations.specs.declared.Kept.the-variants as kept
 use Rattle.recorder.specs.declared.Recorded.{Recorded}
 use Rattle.recorder.specs.declared.Recorded.the-variants as recorded
-use Rattle.player.specs.Block.{oneWord}
+use Rattle.recorder.specs.declared.boundary.Boundary.{Boundary}
+use Rattle.recorder.specs.declared.boundary.Boundary.the-variants as boundary
+use Rattle.player.specs.Block.{oneWord, two}
 
 -- ---- a frame under assembly
 -- 0 Dst, anything else Dsd; numberFrom says what becomes of a kind that is neither
@@ -58,6 +60,11 @@ createdOf (created.Refused n) = Refused n
 createdOf created.Nothing = Accepted none
 createdOf (created.Recorder r) = Accepted (some r)
 
+unfoldable pub boundaryOf : Boundary → Answer (Option ℕ)
+boundaryOf (boundary.Refused n) = Refused n
+boundaryOf boundary.Nothing = Accepted none
+boundaryOf (boundary.Lsn l) = Accepted (some l)
+
 -- ---- words
 -- where there is no hint recorder, the words are 0: its spacing, the first word, is not
 unfoldable pub createdWords : Option HintRecorder → List ℕ
@@ -74,6 +81,14 @@ foundWords h =
 unfoldable pub hintWords : Option Hinted → List ℕ
 hintWords none = oneWord 0
 hintWords (some h) = foundWords h
+
+-- 1 and the LSN; where there is no such boundary, the words are 0
+abbrev pub lsnWords : ℕ → List ℕ
+lsnWords l = two 1 l
+
+unfoldable pub boundaryWords : Option ℕ → List ℕ
+boundaryWords none = oneWord 0
+boundaryWords (some l) = lsnWords l
 
 -- ---- two blocks
 pub record CalledBoth : Type 0 where

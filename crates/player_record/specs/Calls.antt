@@ -9,9 +9,10 @@ use Rattle.index.specs.Index.{Tables}
 use Rattle.recorder.specs.declared.Recorded.{Recorded}
 use Rattle.recorder.specs.Recorder.{RecorderTables, startedIn, finishedIn}
 use Rattle.recorder.specs.Record.{RecorderOut, recordIn}
+use Rattle.recorder.specs.Boundary.{dueAt, checkpointAt}
 use Rattle.absorb.specs.Absorb.{absorbIn}
 use Rattle.player.specs.Block.{Called, called, into, inBlock, headIndex, headRecorder}
-use Rattle.player_record.specs.Block.{CalledBoth, calledBoth, recordedOf, absorbedInto}
+use Rattle.player_record.specs.Block.{CalledBoth, calledBoth, recordedOf, absorbedInto, boundaryOf, boundaryWords}
 
 abbrev pub endState : ℕ → ℕ → EndState
 endState threshold malformed = record { threshold = threshold; malformed = malformed }
@@ -44,6 +45,18 @@ recordCall block lsn threshold malformed f bytes sector t =
 unfoldable pub finishCall : List ℕ → EndState → RecorderTables → Called
 finishCall block e t = inBlock block (called 3 block) (recordedInto block (finishedIn (headRecorder block) t e))
 
+-- ---- boundaries; the block is the answer's
+-- the due LSN of a recorder
+unfoldable pub dueCall : List ℕ → List ℕ → Called
+dueCall block answer =
+    inBlock block (called 3 answer) (inBlock answer (called 3 answer) (into boundaryWords answer (boundaryOf (dueAt (headRecorder block)))))
+
+-- the LSN of a list's checkpoint by its number
+unfoldable pub boundaryCall : List ℕ → ℕ → List ℕ → Called
+boundaryCall head j answer =
+    inBlock head (called 3 answer) (inBlock answer (called 3 answer) (into boundaryWords answer (boundaryOf (checkpointAt (headIndex head) j))))
+
+-- ---- absorb
 -- the head, the recorder's block, and the list's tables; the recorder's are only read
 pub record CalledAbsorbed : Type 0 where
   pub call : CalledBoth

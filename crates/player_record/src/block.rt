@@ -12,6 +12,7 @@ use hint_recorder::Taken;
 use player::block::bit_word;
 use player::block::one_word;
 use recorder::Recorded;
+use recorder::boundary::Boundary;
 use rules::Assembling;
 use rules::FrameKind;
 use rules::Hinted;
@@ -25,7 +26,7 @@ ghost use Rattle.blocks.specs.From.{imageFrom};
 ghost use Rattle.blocks.specs.Head.{recorderWords, hintRecorderWords};
 ghost use Rattle.hint.specs.Calls.{hintedOf, answerOf};
 ghost use Rattle.player.specs.Block.{called, into};
-ghost use Rattle.player_record.specs.Block.{kindFrom, numberFrom, frameFrom, recordedOf, seenOf, createdOf, createdWords, hintWords, foundWords, calledBoth, takenInto, keptInto, absorbedInto};
+ghost use Rattle.player_record.specs.Block.{kindFrom, numberFrom, frameFrom, recordedOf, seenOf, createdOf, createdWords, hintWords, foundWords, calledBoth, takenInto, keptInto, absorbedInto, boundaryOf, lsnWords, boundaryWords};
 
 // ---- a frame under assembly
 // 0 Dst, anything else Dsd; number_from asks whether it is one of the two.
@@ -224,4 +225,54 @@ pub fn put_absorbed(head: &mut [u8], block: &mut [u8], absorbed: Absorbed) -> u3
         return 8;
     }
     number
+}
+
+// 1 and the LSN.
+fn lsn_words(lsn: u64) -> [u64; 24]
+    ensures { λ r. ⌜ r ≡ lsnWords lsn ⌝ }
+{
+    [
+        1,
+        lsn,
+        0,
+        0,
+        0,
+        0,
+        0,
+        0,
+        0,
+        0,
+        0,
+        0,
+        0,
+        0,
+        0,
+        0,
+        0,
+        0,
+        0,
+        0,
+        0,
+        0,
+        0,
+        0,
+    ]
+}
+
+// Where there is no such boundary, the words are 0.
+pub fn put_boundary(answer: &mut [u8], boundary: Boundary) -> u32
+    requires { ⌜ 192 ≤ length (now answer) ⌝ }
+    ensures { λ r. ⌜ called r (now (answer .exit)) ≡ into boundaryWords (now (answer .entry)) (boundaryOf boundary) ⌝ }
+{
+    match boundary {
+        Boundary::Refused(n) => n,
+        Boundary::Nothing => {
+            write_words(answer, one_word(0));
+            0
+        }
+        Boundary::Lsn(lsn) => {
+            write_words(answer, lsn_words(lsn));
+            0
+        }
+    }
 }

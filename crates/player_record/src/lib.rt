@@ -5,6 +5,7 @@ pub mod hint_calls;
 use crate::block::frame_from;
 use crate::block::image_given;
 use crate::block::put_absorbed;
+use crate::block::put_boundary;
 use crate::block::put_recorded;
 use blocks::HEAD_BYTES;
 use player::block::index_in;
@@ -16,7 +17,7 @@ ghost use Rattle.index.specs.Index.{tables};
 ghost use Rattle.recorder.specs.Recorder.{recorderTables};
 ghost use Rattle.player.specs.Block.{called};
 ghost use Rattle.player_record.specs.Block.{frameFrom};
-ghost use Rattle.player_record.specs.Calls.{calledFour, endState, recorderCall, recordCall, finishCall, calledAbsorbed, absorbCall};
+ghost use Rattle.player_record.specs.Calls.{calledFour, endState, recorderCall, recordCall, finishCall, dueCall, boundaryCall, calledAbsorbed, absorbCall};
 
 // The recorder of a list, from an LSN on, into its block.
 #[no_mangle]
@@ -120,6 +121,46 @@ pub extern "C" fn seek_raw_finish(
     };
     let made = recorder::finish(r, e, checkpoints, frames, store, parts);
     put_recorded(block, made)
+}
+
+// The due LSN of a recorder, from its block alone.
+#[no_mangle]
+pub extern "C" fn seek_raw_due(block: &[u8], answer: &mut [u8]) -> u32
+    ensures { λ r. ⌜ called r (now (answer .exit)) ≡ dueCall (now (block .entry)) (now (answer .entry)) ⌝ }
+{
+    if block.len() < HEAD_BYTES {
+        return 3;
+    }
+    if answer.len() < HEAD_BYTES {
+        return 3;
+    }
+    let r = recorder_in(block);
+    let due = recorder::boundary::due_lsn(r);
+    put_boundary(answer, due)
+}
+
+// The LSN of a list's checkpoint by its number, from its head alone.
+#[no_mangle]
+pub extern "C" fn seek_raw_boundary(head: &[u8], number: u32, answer: &mut [u8]) -> u32
+    ensures { λ r. ⌜ called r (now (answer .exit)) ≡ boundaryCall (now (head .entry)) number (now (answer .entry)) ⌝ }
+{
+    if head.len() < HEAD_BYTES {
+        return 3;
+    }
+    if answer.len() < HEAD_BYTES {
+        return 3;
+    }
+    let x = index_in(head);
+    let lsn = recorder::boundary::checkpoint_lsn(x, number);
+    put_boundary(answer, lsn)
+}
+
+// The version of the library, as SEEK_VERSION in include/seek.h.
+#[no_mangle]
+pub extern "C" fn seek_raw_version() -> u32
+    ensures { λ r. ⌜ r ≡ 10100 ⌝ }
+{
+    10100
 }
 
 // Absorbs a recorder's stretch; mark and image are the image id of the reading, given its malformed LSNs, 4 bytes each. 8 stops the recorder.

@@ -1,5 +1,6 @@
 // A recorder: its numbers by value, and its lists in four lent tables. Questions 1 to 4, the recorder of an index, record and finish.
 mod asked;
+pub mod boundary;
 mod modes;
 pub mod record;
 

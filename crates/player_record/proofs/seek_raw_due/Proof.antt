@@ -1,0 +1,37 @@
+use Rattle.player_record.specs.Calls.{dueCall}
+use Rattle.player.proofs.block.Blocks.{too-short, long-enough}
+use Rattle.player_record.proofs.Answers.{due-done}
+use borrow.Author.Needs.{needs}
+use Rattle.player_record.proofs.seek_raw_due.Statement.{statement}
+use Rattle.player_record.proofs.seek_raw_due.Tie as tie
+
+returns : tie.Need-returns
+unfolding dueCall
+returns c = too-short _ _ _ (c .if1 .taken)
+
+returns-2 : tie.Need-returns-2
+unfolding dueCall
+returns-2 c =
+    let test : tie.Else1 = search in
+    long-enough _ _ _ (test .if1 .left) (too-short _ _ _ (c .if2 .taken))
+
+returns-3 : tie.Need-returns-3
+returns-3 c =
+    let put : tie.After-put-boundary = search in
+    let call : tie.After-due-lsn = search in
+    let own : tie.After-recorder-in = search in
+    let test2 : tie.Else2 = search in
+    let test : tie.Else1 = search in
+    due-done _ _ _ _ (test .if1 .left) (test2 .if2 .left) _ (put .put-boundary .ensures) _ (call .due-lsn .ensures) (own .recorder-in .ensures)
+
+pub seek-raw-due-spec : {M : Type 1} → statement M
+seek-raw-due-spec =
+    tie.close
+    (tie.spec
+    returns
+    returns-2
+    (λ c κs. search needs)
+    (λ c κs. search needs)
+    (λ c κs. search needs)
+    (λ c. search needs)
+    returns-3)
