@@ -12,11 +12,11 @@ int main(int argc, char **argv)
     seek_area area;
     seek_table_sizes sizes;
     seek_list list;
-    uint32_t no = n < sizeof file ? seek_file_area(file, n, &area) : (uint32_t)SEEK_ROOM; /* the area that the file says it is of */
+    uint32_t no = n < sizeof file ? seek_file_area(file, n, &area) : (uint32_t)SEEK_NO_ROOM; /* the area that the file says it is of */
     if (no == 0)
-        no = seek_file_sizes(&area, file, n, UINT64_MAX, &sizes);                         /* how much memory its list takes */
+        no = seek_file_sizes(&area, file, n, UINT64_MAX, &sizes);                            /* how much memory its list takes */
     if (no == 0)
-        no = seek_carve(&list, &sizes, memory, sizeof memory) ? seek_load(&list, &area, file, n, UINT64_MAX) : (uint32_t)SEEK_ROOM;
+        no = seek_carve(&list, &sizes, memory, sizeof memory) ? seek_load(&list, &area, file, n, UINT64_MAX) : (uint32_t)SEEK_NO_ROOM;
     if (no == 0)
         printf("%llu checkpoints\n", (unsigned long long)seek_checkpoint_count(&list));
     else

@@ -4,13 +4,43 @@
  * loaded. Every call answers for all bytes, numbers and tables: a result, or a refusal number that says why. A refusal changes no block and no
  * table, but for seek_absorb's 8, which stops the recorder.
  *
+ * Questions are asked in a fixed order, and the first "no" is the answer (docs/REFUSALS.md). Before every other question stands the length of each block:
+ * one of fewer than 192 bytes is refused with 3. The functions that take lists lend whole blocks, so it concerns callers of the seek_raw_ functions.
+ *
  * What a caller owes, for every call:
  *   - a buffer's pointer is valid for its whole length, and the whole length is initialised, output buffers too;
  *   - a buffer that is written overlaps no other buffer of the call; NULL only with length 0; at most 2^63 - 1 bytes;
  *   - no other thread writes a buffer during the call.
- * The caller owns every buffer. The library allocates nothing, keeps nothing and has no global state: threads may work on different lists.
+ * The caller owns every buffer. The library allocates nothing, keeps nothing and has no global state: threads may work on different lists. seek_file.h
+ * has helpers that read files and allocate.
  *
- * C99, usable from C++. Link with libseek.a. docs/PLAYER.md has a first program.
+ * Words:
+ *   sector, LSN       a sector of the disc image, 2,048 bytes, and its number
+ *   frame             1/75 of a second of sound; frame numbers count from the start of the area, below 1,166,881
+ *   area              slot 0, two-channel, or slot 1, multichannel: a range of sectors with the key that the disc's table of contents gives
+ *   interval          the sectors from one checkpoint to the next, 1 to 65,536. Usual: 64
+ *   checkpoint        number j lies at sector start + j * interval and has four numbers: threshold, back, malformed and digest
+ *   threshold         the first frame that a reader who comes to this sector from the area's start has not yet been given: one more than the last
+ *                     whole frame behind it. A jump to a frame starts at the last checkpoint whose threshold is not above it
+ *   back              the sectors from the one in which the frame under assembly starts up to the checkpoint; 0 where no frame is under assembly. A
+ *                     jump without a held part reads from the checkpoint's sector minus back on
+ *   malformed         how many malformed sectors lie before the checkpoint. A list keeps the numbers of the first 4,096
+ *   digest            the sum (64-bit FNV-1a) of the checkpoint's sector
+ *   held part         the bytes of the frame under assembly up to a checkpoint, kept where back exceeds 32, so that a jump need not read so far back
+ *   remaining         for a held part of a DST frame the sectors that are still to come, as the player's assembler counts them. The library keeps any
+ *                     32-bit number and gives it back
+ *   budget            the most bytes of held parts that a list keeps, at most 4,294,967,295. Usual: 1,048,576
+ *   end state         threshold and malformed count at the end of the area; a list that has it is complete
+ *   frontier          how far a list reaches: the area's end where it is complete, else its last checkpoint's sector, else the area's start
+ *   hint              a sector and the number of the first frame that starts in it, for jumps past the frontier
+ *   spacing           the frames between two hints that are recorded. Usual: 8; 0 records none
+ *   hint limit        the most hints, and confirmations, that a list keeps (M in docs/), at most 65,536. Usual: 2,048; 0 keeps none
+ *   confirmation      a hint's sector that a player has checked: its threshold and digest
+ *   fingerprint       64 bits by which a player tells discs apart, such as the sum of the disc's table of contents. Saved with the list
+ *   image id          64 bits by which a player tells the images of this session apart, such as a counter. Not saved
+ *   playtime          the frames of the whole area, as the disc's table of contents gives them
+ *
+ * C99, usable from C++. Link with libseek.a or libseek.so. docs/PLAYER.md has a first program.
  */
 #ifndef SEEK_H
 #define SEEK_H
@@ -20,119 +50,187 @@
 
 #ifdef __cplusplus
 extern "C" {
+#define SEEK_CAST_(type, value) static_cast<type>(value)
+#else
+#define SEEK_CAST_(type, value) ((type)(value))
 #endif
+#if defined(__cplusplus) && __cplusplus >= 201103L
+#define SEEK_NULL_ nullptr
+#else
+#define SEEK_NULL_ NULL
+#endif
+
+/* ---- version
+ * 10,000 times the first number of the header's version, plus 100 times the second, plus the third. seek_version tells the library's own.
+ */
+#define SEEK_VERSION 10100
+#define SEEK_VERSION_TEXT "1.1.0"
 
 /* ---- blocks
  * The numbers of a list, a recorder or a hint recorder, and the answers of some calls, lie in blocks of 192 bytes: 24 words of eight bytes,
- * lowest byte first. The library writes them; a caller reads them by the functions below. A block that is shorter is refused with 3.
+ * lowest byte first. The library writes them; a caller reads them by the functions below.
  */
 #define SEEK_BLOCK 192
 
-static inline uint64_t seek_word(const uint8_t *block, unsigned i)
+/* The number in so many bytes, at most 8, lowest byte first: every number of a block, a table or a file lies so. */
+static inline uint64_t seek_bytes(const uint8_t *bytes, unsigned width)
 {
-    const uint8_t *b = block + 8 * i;
     uint64_t v = 0;
     unsigned k;
-    for (k = 8; k-- > 0;)
-        v = v << 8 | b[k];
+    for (k = width; k-- > 0;)
+        v = v << 8 | bytes[k];
     return v;
 }
 
-/* ---- refusal numbers */
+static inline uint64_t seek_word(const uint8_t *block, unsigned i) { return seek_bytes(block + 8 * i, 8); }
+
+/* ---- refusal numbers
+ * They are called SEEK_NO_.., for SEEK_SET, SEEK_CUR, SEEK_END and the like belong to <stdio.h>. The names without NO_ of version 1.0 are there where
+ * SEEK_OLD_NAMES is defined; version 1.2 drops them.
+ */
 enum {
     SEEK_OK = 0,
-    SEEK_AREA = 1,                /* the area's slot or range */
-    SEEK_NUMBERS = 2,             /* interval or budget */
-    SEEK_ROOM = 3,                /* a table or block is too short */
-    SEEK_CONTENT = 4,             /* the tables do not hold a list */
-    SEEK_RECORD_DUE = 5,          /* not the due sector, or nothing to finish */
-    SEEK_RECORD_FALLS = 6,        /* threshold or malformed count falls or is too large */
-    SEEK_RECORD_FRAME = 7,        /* the frame under assembly */
-    SEEK_ABSORB_IMAGE = 8,        /* another image: the recorder is stopped */
-    SEEK_ABSORB_AREA = 9,
-    SEEK_ABSORB_JOINS = 10,
-    SEEK_ABSORB_AGREES = 11,
-    SEEK_ABSORB_RESULT = 12,
-    SEEK_HINTS = 13,
-    SEEK_CONFIRMATION = 14,
-    SEEK_FINGERPRINT = 15,
-    SEEK_HINT_RANGE = 16,
-    SEEK_FILE_SHORT = 20,
-    SEEK_FILE_MAGIC = 21,
-    SEEK_FILE_SUM = 22,
-    SEEK_FILE_VERSION = 23,
-    SEEK_FILE_SLOT = 24,
-    SEEK_FILE_FLAGS = 25,
-    SEEK_FILE_AREA = 26,
-    SEEK_FILE_INTERVAL = 27,
-    SEEK_FILE_RESERVED = 28,
-    SEEK_FILE_BUDGET = 29,
-    SEEK_FILE_COUNTS = 30,
-    SEEK_FILE_CHECKPOINTS = 31,
-    SEEK_FILE_FRAMES = 32,
-    SEEK_FILE_KIND = 33,
-    SEEK_FILE_END = 34,
-    SEEK_FILE_MALFORMED = 35,
-    SEEK_FILE_HINTS = 36,
-    SEEK_FILE_CONFIRMATIONS = 37,
-    SEEK_FILE_LEFT_OVER = 38,
-    SEEK_OUTPUT = 40,
-    SEEK_MERGE_AREA = 41,
-    SEEK_MERGE_IDS = 42,
-    SEEK_MERGE_CHECKPOINTS = 43,
-    SEEK_FOLD = 49,               /* the bits that a sum is folded to */
-    SEEK_DISC = 54
+    SEEK_NO_AREA = 1,                /* the area's slot or range */
+    SEEK_NO_NUMBERS = 2,             /* interval or budget */
+    SEEK_NO_ROOM = 3,                /* a table or block is too short */
+    SEEK_NO_CONTENT = 4,             /* the tables do not hold a list */
+    SEEK_NO_RECORD_DUE = 5,          /* not the due sector, or nothing to finish */
+    SEEK_NO_RECORD_FALLS = 6,        /* threshold or malformed count falls or is too large */
+    SEEK_NO_RECORD_FRAME = 7,        /* the frame under assembly: its start, number or kind */
+    SEEK_NO_ABSORB_IMAGE = 8,        /* another image: the recorder is stopped */
+    SEEK_NO_ABSORB_AREA = 9,
+    SEEK_NO_ABSORB_JOINS = 10,
+    SEEK_NO_ABSORB_AGREES = 11,
+    SEEK_NO_ABSORB_RESULT = 12,
+    SEEK_NO_HINTS = 13,
+    SEEK_NO_CONFIRMATION = 14,
+    SEEK_NO_FINGERPRINT = 15,
+    SEEK_NO_HINT_RANGE = 16,
+    SEEK_NO_FILE_SHORT = 20,
+    SEEK_NO_FILE_MAGIC = 21,
+    SEEK_NO_FILE_SUM = 22,
+    SEEK_NO_FILE_VERSION = 23,
+    SEEK_NO_FILE_SLOT = 24,
+    SEEK_NO_FILE_FLAGS = 25,
+    SEEK_NO_FILE_AREA = 26,
+    SEEK_NO_FILE_INTERVAL = 27,
+    SEEK_NO_FILE_RESERVED = 28,
+    SEEK_NO_FILE_BUDGET = 29,
+    SEEK_NO_FILE_COUNTS = 30,
+    SEEK_NO_FILE_CHECKPOINTS = 31,
+    SEEK_NO_FILE_FRAMES = 32,
+    SEEK_NO_FILE_KIND = 33,
+    SEEK_NO_FILE_END = 34,
+    SEEK_NO_FILE_MALFORMED = 35,
+    SEEK_NO_FILE_HINTS = 36,
+    SEEK_NO_FILE_CONFIRMATIONS = 37,
+    SEEK_NO_FILE_LEFT_OVER = 38,
+    SEEK_NO_OUTPUT = 40,
+    SEEK_NO_MERGE_AREA = 41,
+    SEEK_NO_MERGE_IDS = 42,
+    SEEK_NO_MERGE_CHECKPOINTS = 43,
+    SEEK_NO_FOLD = 49,               /* the bits that a sum is folded to */
+    SEEK_NO_DISC = 54
 };
+
+#ifdef SEEK_OLD_NAMES
+#define SEEK_AREA SEEK_NO_AREA
+#define SEEK_NUMBERS SEEK_NO_NUMBERS
+#define SEEK_ROOM SEEK_NO_ROOM
+#define SEEK_CONTENT SEEK_NO_CONTENT
+#define SEEK_RECORD_DUE SEEK_NO_RECORD_DUE
+#define SEEK_RECORD_FALLS SEEK_NO_RECORD_FALLS
+#define SEEK_RECORD_FRAME SEEK_NO_RECORD_FRAME
+#define SEEK_ABSORB_IMAGE SEEK_NO_ABSORB_IMAGE
+#define SEEK_ABSORB_AREA SEEK_NO_ABSORB_AREA
+#define SEEK_ABSORB_JOINS SEEK_NO_ABSORB_JOINS
+#define SEEK_ABSORB_AGREES SEEK_NO_ABSORB_AGREES
+#define SEEK_ABSORB_RESULT SEEK_NO_ABSORB_RESULT
+#define SEEK_HINTS SEEK_NO_HINTS
+#define SEEK_CONFIRMATION SEEK_NO_CONFIRMATION
+#define SEEK_FINGERPRINT SEEK_NO_FINGERPRINT
+#define SEEK_HINT_RANGE SEEK_NO_HINT_RANGE
+#define SEEK_FILE_SHORT SEEK_NO_FILE_SHORT
+#define SEEK_FILE_MAGIC SEEK_NO_FILE_MAGIC
+#define SEEK_FILE_SUM SEEK_NO_FILE_SUM
+#define SEEK_FILE_VERSION SEEK_NO_FILE_VERSION
+#define SEEK_FILE_SLOT SEEK_NO_FILE_SLOT
+#define SEEK_FILE_FLAGS SEEK_NO_FILE_FLAGS
+#define SEEK_FILE_AREA SEEK_NO_FILE_AREA
+#define SEEK_FILE_INTERVAL SEEK_NO_FILE_INTERVAL
+#define SEEK_FILE_RESERVED SEEK_NO_FILE_RESERVED
+#define SEEK_FILE_BUDGET SEEK_NO_FILE_BUDGET
+#define SEEK_FILE_COUNTS SEEK_NO_FILE_COUNTS
+#define SEEK_FILE_CHECKPOINTS SEEK_NO_FILE_CHECKPOINTS
+#define SEEK_FILE_FRAMES SEEK_NO_FILE_FRAMES
+#define SEEK_FILE_KIND SEEK_NO_FILE_KIND
+#define SEEK_FILE_END SEEK_NO_FILE_END
+#define SEEK_FILE_MALFORMED SEEK_NO_FILE_MALFORMED
+#define SEEK_FILE_HINTS SEEK_NO_FILE_HINTS
+#define SEEK_FILE_CONFIRMATIONS SEEK_NO_FILE_CONFIRMATIONS
+#define SEEK_FILE_LEFT_OVER SEEK_NO_FILE_LEFT_OVER
+#define SEEK_OUTPUT SEEK_NO_OUTPUT
+#define SEEK_MERGE_AREA SEEK_NO_MERGE_AREA
+#define SEEK_MERGE_IDS SEEK_NO_MERGE_IDS
+#define SEEK_MERGE_CHECKPOINTS SEEK_NO_MERGE_CHECKPOINTS
+#define SEEK_DISC SEEK_NO_DISC
+#endif
 
 /* A text for each number. */
 static inline const char *seek_text(uint32_t number)
 {
     switch (number) {
     case SEEK_OK: return "accepted";
-    case SEEK_AREA: return "the area's slot is not 0 or 1, or its range is not one of sectors below 2^32";
-    case SEEK_NUMBERS: return "the interval is not 1 to 65,536, or the budget is above 4,294,967,295";
-    case SEEK_ROOM: return "a table or a block is too short";
-    case SEEK_CONTENT: return "the tables do not hold what loading would accept";
-    case SEEK_RECORD_DUE: return "not the due sector, not a whole sector, or the recorder is finished or stopped";
-    case SEEK_RECORD_FALLS: return "threshold or malformed count falls, or is too large";
-    case SEEK_RECORD_FRAME: return "the frame under assembly does not start in the area before this sector, or its number is too large";
-    case SEEK_ABSORB_IMAGE: return "the recorder read another image; it is stopped";
-    case SEEK_ABSORB_AREA: return "the recorder is of another area or interval";
-    case SEEK_ABSORB_JOINS: return "the recorder does not join the list";
-    case SEEK_ABSORB_AGREES: return "the recorder and the list disagree where both have read";
-    case SEEK_ABSORB_RESULT: return "the list with the recorder's part would not be a list, or the malformed sectors do not fit";
-    case SEEK_HINTS: return "more than 65,536 hints, or a frame number that is too large";
-    case SEEK_CONFIRMATION: return "the confirmed sector lies outside the area, or its threshold is too large";
-    case SEEK_FINGERPRINT: return "the list holds another fingerprint";
-    case SEEK_HINT_RANGE: return "the range ends before it begins";
-    case SEEK_FILE_SHORT: return "the file ends too early";
-    case SEEK_FILE_MAGIC: return "this is no list file";
-    case SEEK_FILE_SUM: return "the file's sum is wrong: it was changed or cut";
-    case SEEK_FILE_VERSION: return "the file's version is not 1 to 3";
-    case SEEK_FILE_SLOT: return "the file's slot is not 0 or 1";
-    case SEEK_FILE_FLAGS: return "the file has flags that its version does not know";
-    case SEEK_FILE_AREA: return "the file is of another area";
-    case SEEK_FILE_INTERVAL: return "the file's interval is not 1 to 65,536";
-    case SEEK_FILE_RESERVED: return "a reserved field of the file is not 0";
-    case SEEK_FILE_BUDGET: return "the file's budget is above 4,294,967,295";
-    case SEEK_FILE_COUNTS: return "the file's counts do not fit its area or its length";
-    case SEEK_FILE_CHECKPOINTS: return "a checkpoint of the file breaks its rule";
-    case SEEK_FILE_FRAMES: return "a frame or a held part of the file breaks its rule";
-    case SEEK_FILE_KIND: return "a held part of the file has no kind";
-    case SEEK_FILE_END: return "the file's end state breaks its rule";
-    case SEEK_FILE_MALFORMED: return "the file's malformed sectors break their rule";
-    case SEEK_FILE_HINTS: return "the file's hints break their rule";
-    case SEEK_FILE_CONFIRMATIONS: return "the file's confirmations break their rule";
-    case SEEK_FILE_LEFT_OVER: return "something lies behind the file's last section";
-    case SEEK_OUTPUT: return "the output is too short";
-    case SEEK_MERGE_AREA: return "the lists are of different areas or intervals";
-    case SEEK_MERGE_IDS: return "the lists have different image ids or fingerprints";
-    case SEEK_MERGE_CHECKPOINTS: return "the lists disagree about a checkpoint or the end of the disc";
-    case SEEK_FOLD: return "k is not between half the width and the width less one";
-    case SEEK_DISC: return "the disc file's contents table breaks its rules, or two lists share a slot, or one is too long";
+    case SEEK_NO_AREA: return "the area's slot is not 0 or 1, or its range is not one of sectors below 2^32";
+    case SEEK_NO_NUMBERS: return "the interval is not 1 to 65,536, or the budget is above 4,294,967,295";
+    case SEEK_NO_ROOM: return "a table or a block is too short";
+    case SEEK_NO_CONTENT: return "the tables do not hold what loading would accept";
+    case SEEK_NO_RECORD_DUE: return "not the due sector, not a whole sector, or the recorder is finished or stopped";
+    case SEEK_NO_RECORD_FALLS: return "threshold or malformed count falls, or is too large";
+    case SEEK_NO_RECORD_FRAME:
+        return "the frame under assembly does not start in the area before this sector, its number is too large, or its kind is neither 0 nor 1";
+    case SEEK_NO_ABSORB_IMAGE: return "the recorder read another image; it is stopped";
+    case SEEK_NO_ABSORB_AREA: return "the recorder is of another area or interval";
+    case SEEK_NO_ABSORB_JOINS: return "the recorder does not join the list";
+    case SEEK_NO_ABSORB_AGREES: return "the recorder and the list disagree where both have read";
+    case SEEK_NO_ABSORB_RESULT: return "the list with the recorder's part would not be a list, or the malformed sectors do not fit";
+    case SEEK_NO_HINTS: return "more than 65,536 hints, or a frame number that is too large";
+    case SEEK_NO_CONFIRMATION: return "the confirmed sector lies outside the area, or its threshold is too large";
+    case SEEK_NO_FINGERPRINT: return "the list holds another fingerprint";
+    case SEEK_NO_HINT_RANGE: return "the range ends before it begins";
+    case SEEK_NO_FILE_SHORT: return "the file ends too early";
+    case SEEK_NO_FILE_MAGIC: return "this is no list file";
+    case SEEK_NO_FILE_SUM: return "the file's sum is wrong: it was changed or cut";
+    case SEEK_NO_FILE_VERSION: return "the file's version is not 1 to 3";
+    case SEEK_NO_FILE_SLOT: return "the file's slot is not 0 or 1";
+    case SEEK_NO_FILE_FLAGS: return "the file has flags that its version does not know";
+    case SEEK_NO_FILE_AREA: return "the file is of another area";
+    case SEEK_NO_FILE_INTERVAL: return "the file's interval is not 1 to 65,536";
+    case SEEK_NO_FILE_RESERVED: return "a reserved field of the file is not 0";
+    case SEEK_NO_FILE_BUDGET: return "the file's budget is above 4,294,967,295";
+    case SEEK_NO_FILE_COUNTS: return "the file's counts do not fit its area or its length";
+    case SEEK_NO_FILE_CHECKPOINTS: return "a checkpoint of the file breaks its rule";
+    case SEEK_NO_FILE_FRAMES: return "a frame or a held part of the file breaks its rule";
+    case SEEK_NO_FILE_KIND: return "a held part of the file has no kind";
+    case SEEK_NO_FILE_END: return "the file's end state breaks its rule";
+    case SEEK_NO_FILE_MALFORMED: return "the file's malformed sectors break their rule";
+    case SEEK_NO_FILE_HINTS: return "the file's hints break their rule";
+    case SEEK_NO_FILE_CONFIRMATIONS: return "the file's confirmations break their rule";
+    case SEEK_NO_FILE_LEFT_OVER: return "something lies behind the file's last section";
+    case SEEK_NO_OUTPUT: return "the output is too short";
+    case SEEK_NO_MERGE_AREA: return "the lists are of different areas or intervals";
+    case SEEK_NO_MERGE_IDS: return "the lists have different image ids or fingerprints";
+    case SEEK_NO_MERGE_CHECKPOINTS: return "the lists disagree about a checkpoint or the end of the disc";
+    case SEEK_NO_FOLD: return "k is not between half the width and the width less one";
+    case SEEK_NO_DISC: return "the disc file's contents table breaks its rules, or two lists share a slot, or one is too long";
     default: return "no such number";
     }
 }
+
+/* A call that answers a length (seek_save, seek_saved_length, seek_disc_save, seek_disc_saved_length): was it refused? Lengths are at least 88, the shortest
+ * file, and refusal numbers are below. */
+#define SEEK_SHORTEST 88
+static inline int seek_refused(uint64_t answer) { return answer < SEEK_SHORTEST; }
 
 /* ---- areas */
 typedef struct {
@@ -147,7 +245,8 @@ typedef struct {
 
 /* ---- tables
  * A list's checkpoints, frames, frame bytes, held parts, malformed sectors, hints and confirmations lie in seven tables, each in the file's own
- * record layout (docs/FILE.md). seek_sizes and seek_file_sizes tell how many bytes each needs.
+ * record layout (docs/FILE.md). seek_sizes and seek_file_sizes tell how many bytes each needs. A copy of a seek_list has a head of its own and shares
+ * the tables: after a call that writes one of the two, the other is none.
  */
 typedef struct {
     uint8_t *at;
@@ -165,9 +264,19 @@ typedef struct {
     seek_table confirmed;     /* 16 */
 } seek_list;
 
+/* A list that is not there: no head, no memory. Every call on it is refused, and seek_disc_load takes it for a slot that the file has not. */
+#define SEEK_ABSENT \
+    { \
+        {0}, {SEEK_NULL_, 0}, {SEEK_NULL_, 0}, {SEEK_NULL_, 0}, {SEEK_NULL_, 0}, {SEEK_NULL_, 0}, {SEEK_NULL_, 0}, { SEEK_NULL_, 0 } \
+    }
+
 typedef struct {
     uint64_t checkpoints, frames, store, parts, malformed, hints, confirmed;
 } seek_table_sizes;
+
+/* The kinds of a frame. */
+#define SEEK_DST 0
+#define SEEK_DSD 1
 
 /* A recorder: the checkpoints of one pass over the disc, until a list absorbs them. Its block, and four tables of the sizes that the list's have. */
 typedef struct {
@@ -199,10 +308,10 @@ typedef struct {
 
 uint64_t seek_raw_sum(SEEK_IN(bytes));
 uint32_t seek_raw_first_record(SEEK_IN(sector), SEEK_OUT(answer));
-uint32_t seek_raw_sizes(SEEK_AREA_NUMBERS, uint32_t interval, uint64_t budget, uint32_t most, SEEK_OUT(answer));
+uint32_t seek_raw_sizes(SEEK_AREA_NUMBERS, uint32_t interval, uint64_t budget, uint32_t hint_limit, SEEK_OUT(answer));
 uint32_t seek_raw_file_area(SEEK_IN(file), SEEK_OUT(answer));
 uint32_t seek_raw_file_sizes(SEEK_AREA_NUMBERS, SEEK_IN(file), uint64_t limit, SEEK_OUT(answer));
-uint32_t seek_raw_new(SEEK_OUT(head), SEEK_AREA_NUMBERS, uint32_t interval, uint64_t budget, uint32_t spacing, uint32_t most, SEEK_TABLES_IN);
+uint32_t seek_raw_new(SEEK_OUT(head), SEEK_AREA_NUMBERS, uint32_t interval, uint64_t budget, uint32_t spacing, uint32_t hint_limit, SEEK_TABLES_IN);
 uint32_t seek_raw_load(SEEK_OUT(head), SEEK_AREA_NUMBERS, SEEK_IN(file), uint64_t limit, SEEK_TABLES_OUT);
 uint64_t seek_raw_saved_length(SEEK_IN(head), SEEK_TABLES_IN);
 uint64_t seek_raw_save(SEEK_IN(head), SEEK_TABLES_IN, SEEK_OUT(out));
@@ -237,6 +346,9 @@ uint64_t seek_raw_disc_save_both(SEEK_IN(head), SEEK_IN(other), SEEK_TABLES_IN, 
 uint32_t seek_raw_sum32(SEEK_IN(bytes));
 uint32_t seek_raw_fold32(uint32_t sum, uint32_t k, SEEK_OUT(answer));
 uint32_t seek_raw_fold64(uint64_t sum, uint32_t k, SEEK_OUT(answer));
+uint32_t seek_raw_due(SEEK_IN(block), SEEK_OUT(answer));
+uint32_t seek_raw_boundary(SEEK_IN(head), uint32_t number, SEEK_OUT(answer));
+uint32_t seek_raw_version(void);
 
 #define SEEK_LENT_(t) (t).at, (t).length
 #define SEEK_LENT_SEVEN_(l) \
@@ -245,13 +357,17 @@ uint32_t seek_raw_fold64(uint64_t sum, uint32_t k, SEEK_OUT(answer));
 #define SEEK_LENT_FOUR_(r) SEEK_LENT_((r)->checkpoints), SEEK_LENT_((r)->frames), SEEK_LENT_((r)->store), SEEK_LENT_((r)->parts)
 #define SEEK_AREA_(a) (a)->slot, (a)->channels, (a)->key_start, (a)->key_end, (a)->sectors, (a)->start, (a)->end
 
+/* The version of the library that is linked, as SEEK_VERSION is that of this header. A library of the same first number,
+ * and no lower one, has every call of this header. */
+static inline uint32_t seek_version(void) { return seek_raw_version(); }
+
 /* ---- what a list's head says */
 static inline void seek_area_from_(const uint8_t *block, seek_area *a)
 {
-    a->slot = (uint8_t)seek_word(block, 0);
-    a->channels = (uint8_t)seek_word(block, 1);
-    a->key_start = (uint32_t)seek_word(block, 2);
-    a->key_end = (uint32_t)seek_word(block, 3);
+    a->slot = SEEK_CAST_(uint8_t, seek_word(block, 0));
+    a->channels = SEEK_CAST_(uint8_t, seek_word(block, 1));
+    a->key_start = SEEK_CAST_(uint32_t, seek_word(block, 2));
+    a->key_end = SEEK_CAST_(uint32_t, seek_word(block, 3));
     a->sectors = seek_word(block, 4);
     a->start = seek_word(block, 5);
     a->end = seek_word(block, 6);
@@ -268,7 +384,7 @@ static inline uint64_t seek_malformed_count(const seek_list *l) { return seek_wo
 static inline uint64_t seek_hint_count(const seek_list *l) { return seek_word(l->head, 15); }
 static inline uint64_t seek_confirmation_count(const seek_list *l) { return seek_word(l->head, 16); }
 static inline int seek_is_complete(const seek_list *l) { return seek_word(l->head, 17) != 0; }
-static inline uint64_t seek_end_threshold(const seek_list *l) { return seek_word(l->head, 18); }
+static inline uint32_t seek_end_threshold(const seek_list *l) { return SEEK_CAST_(uint32_t, seek_word(l->head, 18)); }
 static inline uint64_t seek_end_malformed(const seek_list *l) { return seek_word(l->head, 19); }
 static inline int seek_has_fingerprint(const seek_list *l) { return seek_word(l->head, 20) != 0; }
 static inline int seek_fingerprint_checked(const seek_list *l) { return seek_word(l->head, 20) > 1; }
@@ -278,13 +394,131 @@ static inline uint64_t seek_image_value(const seek_list *l) { return seek_word(l
 
 static inline void seek_area_of(const seek_list *l, seek_area *a) { seek_area_from_(l->head, a); }
 
+/* The sector of checkpoint number j; answers 0, and tells 0, where the area has no such boundary. */
+static inline int seek_boundary(const seek_list *l, uint32_t j, uint64_t *lsn)
+{
+    uint8_t answer[SEEK_BLOCK] = {0};
+    int there = seek_raw_boundary(l->head, SEEK_BLOCK, j, answer, SEEK_BLOCK) == 0 && seek_word(answer, 0) != 0;
+    *lsn = there ? seek_word(answer, 1) : 0;
+    return there;
+}
+
+/* How far the list reaches. */
+static inline uint64_t seek_frontier(const seek_list *l)
+{
+    uint64_t lsn, n = seek_checkpoint_count(l);
+    if (seek_is_complete(l))
+        return seek_word(l->head, 6);
+    return n != 0 && seek_boundary(l, SEEK_CAST_(uint32_t, n - 1), &lsn) ? lsn : seek_word(l->head, 5);
+}
+
+/* ---- what a list's tables hold, by number from 0 on
+ * Each answers 1, or 0 where the list has no such record; what is told is 0 then. They look up one record and ask no question: of a list that a call has
+ * refused they tell what its bytes say. */
+static inline const uint8_t *seek_record_(const seek_table *t, uint64_t count, uint64_t i, unsigned width)
+{
+    return i < count && i < t->length / width ? t->at + width * i : SEEK_NULL_;
+}
+
+/* Checkpoint number j. 24 bytes: threshold 4, back 4, malformed 8, digest 8. */
+typedef struct {
+    uint64_t lsn;
+    uint32_t threshold;
+    uint32_t back;
+    uint64_t malformed;
+    uint64_t digest;
+} seek_checkpoint;
+
+static inline int seek_checkpoint_at(const seek_list *l, uint64_t j, seek_checkpoint *c)
+{
+    const uint8_t *b = seek_record_(&l->checkpoints, seek_checkpoint_count(l), j, 24);
+    c->lsn = 0;
+    c->threshold = b ? SEEK_CAST_(uint32_t, seek_bytes(b, 4)) : 0;
+    c->back = b ? SEEK_CAST_(uint32_t, seek_bytes(b + 4, 4)) : 0;
+    c->malformed = b ? seek_bytes(b + 8, 8) : 0;
+    c->digest = b ? seek_bytes(b + 16, 8) : 0;
+    return b != SEEK_NULL_ && seek_boundary(l, SEEK_CAST_(uint32_t, j), &c->lsn);
+}
+
+/* Malformed sector number i. 4 bytes. */
+static inline int seek_malformed_at(const seek_list *l, uint64_t i, uint32_t *lsn)
+{
+    const uint8_t *b = seek_record_(&l->malformed, seek_malformed_count(l), i, 4);
+    *lsn = b ? SEEK_CAST_(uint32_t, seek_bytes(b, 4)) : 0;
+    return b != SEEK_NULL_;
+}
+
+/* Held part number i. 24 bytes: checkpoint 4, frame's place in the table of frames 4, length 4, frame number 4, remaining 4, kind 4. Start is the sector in
+ * which the frame starts: the first 4 of the frame's 8 bytes. seek_plan tells where the bytes of a part lie. */
+typedef struct {
+    uint32_t checkpoint;  /* the number of the checkpoint that it is held for */
+    uint32_t start;
+    uint32_t length;      /* its bytes */
+    uint32_t number;      /* the frame's number */
+    int32_t remaining;
+    uint32_t kind;        /* SEEK_DST or SEEK_DSD */
+} seek_held;
+
+static inline int32_t seek_signed_(uint64_t v)
+{
+    return v < 2147483648u ? SEEK_CAST_(int32_t, v) : SEEK_CAST_(int32_t, SEEK_CAST_(int64_t, v) - 4294967296);
+}
+
+static inline int seek_held_at(const seek_list *l, uint64_t i, seek_held *h)
+{
+    const uint8_t *b = seek_record_(&l->parts, seek_part_count(l), i, 24);
+    const uint8_t *f = b ? seek_record_(&l->frames, seek_frame_count(l), seek_bytes(b + 4, 4), 8) : SEEK_NULL_;
+    h->checkpoint = f ? SEEK_CAST_(uint32_t, seek_bytes(b, 4)) : 0;
+    h->start = f ? SEEK_CAST_(uint32_t, seek_bytes(f, 4)) : 0;
+    h->length = f ? SEEK_CAST_(uint32_t, seek_bytes(b + 8, 4)) : 0;
+    h->number = f ? SEEK_CAST_(uint32_t, seek_bytes(b + 12, 4)) : 0;
+    h->remaining = f ? seek_signed_(seek_bytes(b + 16, 4)) : 0;
+    h->kind = f ? SEEK_CAST_(uint32_t, seek_bytes(b + 20, 4)) : 0;
+    return f != SEEK_NULL_;
+}
+
+/* Hint number i. 8 bytes: sector 4, frame number 4. */
+static inline int seek_hint_at(const seek_list *l, uint64_t i, uint32_t *lsn, uint32_t *number)
+{
+    const uint8_t *b = seek_record_(&l->hints, seek_hint_count(l), i, 8);
+    *lsn = b ? SEEK_CAST_(uint32_t, seek_bytes(b, 4)) : 0;
+    *number = b ? SEEK_CAST_(uint32_t, seek_bytes(b + 4, 4)) : 0;
+    return b != SEEK_NULL_;
+}
+
+/* Confirmation number i. 16 bytes: sector 4, threshold 4, digest 8. */
+typedef struct {
+    uint32_t lsn;
+    uint32_t threshold;
+    uint64_t digest;
+} seek_confirmation;
+
+static inline int seek_confirmation_at(const seek_list *l, uint64_t i, seek_confirmation *c)
+{
+    const uint8_t *b = seek_record_(&l->confirmed, seek_confirmation_count(l), i, 16);
+    c->lsn = b ? SEEK_CAST_(uint32_t, seek_bytes(b, 4)) : 0;
+    c->threshold = b ? SEEK_CAST_(uint32_t, seek_bytes(b + 4, 4)) : 0;
+    c->digest = b ? seek_bytes(b + 8, 8) : 0;
+    return b != SEEK_NULL_;
+}
+
 /* ---- what a recorder's block says */
 static inline uint64_t seek_recorded_count(const seek_recorder *r) { return seek_word(r->block, 11); }
 static inline int seek_recorder_stopped(const seek_recorder *r) { return seek_word(r->block, 14) > 1; }
+
+/* The sector that seek_record wants next; answers 0 where there is none: every boundary is recorded and seek_finish is next, or the recorder is finished or
+ * stopped. It reads the recorder's block alone. */
+static inline int seek_due(const seek_recorder *r, uint64_t *lsn)
+{
+    uint8_t answer[SEEK_BLOCK] = {0};
+    int due = seek_raw_due(r->block, SEEK_BLOCK, answer, SEEK_BLOCK) == 0 && seek_word(answer, 0) != 0;
+    *lsn = due ? seek_word(answer, 1) : 0;
+    return due;
+}
+
 static inline uint64_t seek_seen_count(const seek_hint_recorder *h) { return seek_word(h->block, 6); }
 
 /* ---- memory */
-/* The bytes of each table for an area, interval, budget and hint limit: question 3 passes exactly where every table has at least these. */
 static inline void seek_sizes_from_(const uint8_t *answer, seek_table_sizes *s)
 {
     s->checkpoints = seek_word(answer, 0);
@@ -296,10 +530,11 @@ static inline void seek_sizes_from_(const uint8_t *answer, seek_table_sizes *s)
     s->confirmed = seek_word(answer, 6);
 }
 
-static inline uint32_t seek_sizes(const seek_area *a, uint32_t interval, uint64_t budget, uint32_t most, seek_table_sizes *s)
+/* The bytes of each table for an area, interval, budget and hint limit: question 3 passes exactly where every table has at least these. */
+static inline uint32_t seek_sizes(const seek_area *a, uint32_t interval, uint64_t budget, uint32_t hint_limit, seek_table_sizes *s)
 {
     uint8_t answer[SEEK_BLOCK] = {0};
-    uint32_t n = seek_raw_sizes(SEEK_AREA_(a), interval, budget, most, answer, SEEK_BLOCK);
+    uint32_t n = seek_raw_sizes(SEEK_AREA_(a), interval, budget, hint_limit, answer, SEEK_BLOCK);
     seek_sizes_from_(answer, s);
     return n;
 }
@@ -334,13 +569,14 @@ static inline void seek_clear_(uint8_t *block)
         block[i] = 0;
 }
 
-#define SEEK_CARVE_(t) (o->t.at = memory + at, o->t.length = (size_t)s->t, at += s->t)
+#define SEEK_CARVE_(t) (o->t.at = memory ? memory + at : SEEK_NULL_, o->t.length = SEEK_CAST_(size_t, s->t), at += s->t)
 
-/* Carves one block of initialised memory into a list's tables, and clears its head. Answers the bytes used, 0 where there are too few. */
-static inline uint64_t seek_carve(seek_list *o, const seek_table_sizes *s, uint8_t *memory, uint64_t length)
+/* Carves one block of initialised memory into a list's tables, and clears its head. Answers 1, or 0 where there are fewer bytes than seek_total(s). Sizes that
+ * are all 0 take no memory, which may be NULL then: the list is SEEK_ABSENT. */
+static inline int seek_carve(seek_list *o, const seek_table_sizes *s, uint8_t *memory, uint64_t length)
 {
     uint64_t at = 0;
-    if (memory == NULL || length < seek_total(s))
+    if (length < seek_total(s) || (memory == SEEK_NULL_ && seek_total(s) != 0))
         return 0;
     seek_clear_(o->head);
     SEEK_CARVE_(checkpoints);
@@ -350,42 +586,42 @@ static inline uint64_t seek_carve(seek_list *o, const seek_table_sizes *s, uint8
     SEEK_CARVE_(malformed);
     SEEK_CARVE_(hints);
     SEEK_CARVE_(confirmed);
-    return at;
+    return 1;
 }
 
 /* The same for a recorder, which has the first four of these tables, */
 static inline uint64_t seek_recorder_total(const seek_table_sizes *s) { return s->checkpoints + s->frames + s->store + s->parts; }
 
-static inline uint64_t seek_carve_recorder(seek_recorder *o, const seek_table_sizes *s, uint8_t *memory, uint64_t length)
+static inline int seek_carve_recorder(seek_recorder *o, const seek_table_sizes *s, uint8_t *memory, uint64_t length)
 {
     uint64_t at = 0;
-    if (memory == NULL || length < seek_recorder_total(s))
+    if (length < seek_recorder_total(s) || (memory == SEEK_NULL_ && seek_recorder_total(s) != 0))
         return 0;
     seek_clear_(o->block);
     SEEK_CARVE_(checkpoints);
     SEEK_CARVE_(frames);
     SEEK_CARVE_(store);
     SEEK_CARVE_(parts);
-    return at;
+    return 1;
 }
 #undef SEEK_CARVE_
 
 /* and for a hint recorder, whose list takes SEEK_HINT_LIST bytes. */
-static inline uint64_t seek_carve_hint_recorder(seek_hint_recorder *o, uint8_t *memory, uint64_t length)
+static inline int seek_carve_hint_recorder(seek_hint_recorder *o, uint8_t *memory, uint64_t length)
 {
-    if (memory == NULL || length < SEEK_HINT_LIST)
+    if (memory == SEEK_NULL_ || length < SEEK_HINT_LIST)
         return 0;
     seek_clear_(o->block);
     o->list.at = memory;
     o->list.length = SEEK_HINT_LIST;
-    return SEEK_HINT_LIST;
+    return 1;
 }
 
 /* ---- lists: each answers 0 or a refusal number. What a call tells through a pointer is 0 where it refuses. */
-/* An empty list in the tables of l. A hint limit above 65,536 is lowered to it. */
-static inline uint32_t seek_new(seek_list *l, const seek_area *a, uint32_t interval, uint64_t budget, uint32_t spacing, uint32_t most)
+/* An empty list in the tables of l, which seek_carve of seek_sizes makes. A hint limit above 65,536 is lowered to it. */
+static inline uint32_t seek_new(seek_list *l, const seek_area *a, uint32_t interval, uint64_t budget, uint32_t spacing, uint32_t hint_limit)
 {
-    return seek_raw_new(l->head, SEEK_BLOCK, SEEK_AREA_(a), interval, budget, spacing, most, SEEK_LENT_SEVEN_(l));
+    return seek_raw_new(l->head, SEEK_BLOCK, SEEK_AREA_(a), interval, budget, spacing, hint_limit, SEEK_LENT_SEVEN_(l));
 }
 
 /* The list of a file, loaded under an area with a limit in bytes for frame bytes, hints and confirmations (UINT64_MAX: all of it). */
@@ -438,15 +674,15 @@ static inline uint32_t seek_adds(const seek_list *l, const seek_list *other, see
 enum { SEEK_AT_START = 0, SEEK_AT_CHECKPOINT = 1, SEEK_AT_END = 2 };
 typedef struct {
     int where;            /* SEEK_AT_START: the area's start; SEEK_AT_CHECKPOINT: a checkpoint; SEEK_AT_END: the area's end */
-    uint64_t number;      /* SEEK_AT_CHECKPOINT: the checkpoint's number and sector */
+    uint32_t number;      /* SEEK_AT_CHECKPOINT: the checkpoint's number and sector */
     uint64_t lsn;
-    uint64_t threshold;   /* SEEK_AT_CHECKPOINT and SEEK_AT_END */
-    uint64_t malformed;
-    uint64_t back;        /* SEEK_AT_CHECKPOINT */
-    uint64_t digest;
-    int held;             /* a held part: its kind (0 DST, 1 DSD), frame number, remaining, and where its bytes lie in the store */
+    uint32_t threshold;   /* SEEK_AT_CHECKPOINT and SEEK_AT_END */
+    uint32_t back;        /* SEEK_AT_CHECKPOINT */
+    uint64_t malformed;   /* SEEK_AT_CHECKPOINT and SEEK_AT_END */
+    uint64_t digest;      /* SEEK_AT_CHECKPOINT */
+    int held;             /* a held part: its kind (SEEK_DST, SEEK_DSD), frame number, remaining, and where its bytes lie in the store */
     int kind;
-    uint64_t frame;
+    uint32_t frame;
     int32_t remaining;
     uint64_t offset;
     uint64_t length;
@@ -456,19 +692,17 @@ static inline uint32_t seek_plan(const seek_list *l, uint32_t frame, seek_jump *
 {
     uint8_t answer[SEEK_BLOCK] = {0};
     uint32_t n = seek_raw_plan(l->head, SEEK_BLOCK, frame, answer, SEEK_BLOCK, SEEK_LENT_SEVEN_(l));
-    uint64_t r;
-    j->where = (int)seek_word(answer, 0);
-    j->number = seek_word(answer, 1);
+    j->where = SEEK_CAST_(int, seek_word(answer, 0));
+    j->number = SEEK_CAST_(uint32_t, seek_word(answer, 1));
     j->lsn = seek_word(answer, 2);
-    j->threshold = seek_word(answer, 3);
-    j->back = seek_word(answer, 4);
+    j->threshold = SEEK_CAST_(uint32_t, seek_word(answer, 3));
+    j->back = SEEK_CAST_(uint32_t, seek_word(answer, 4));
     j->malformed = seek_word(answer, 5);
     j->digest = seek_word(answer, 6);
     j->held = seek_word(answer, 7) != 0;
-    j->kind = (int)seek_word(answer, 8);
-    j->frame = seek_word(answer, 9);
-    r = seek_word(answer, 10);
-    j->remaining = r < 2147483648u ? (int32_t)r : (int32_t)(r - 2147483648u) + INT32_MIN;
+    j->kind = SEEK_CAST_(int, seek_word(answer, 8));
+    j->frame = SEEK_CAST_(uint32_t, seek_word(answer, 9));
+    j->remaining = seek_signed_(seek_word(answer, 10));
     j->offset = seek_word(answer, 11);
     j->length = seek_word(answer, 12);
     return n;
@@ -478,7 +712,7 @@ static inline uint32_t seek_plan(const seek_list *l, uint32_t frame, seek_jump *
 static inline const uint8_t *seek_part(const seek_list *l, const seek_jump *j)
 {
     if (!j->held || l->store.length < j->offset || l->store.length - j->offset < j->length)
-        return NULL;
+        return SEEK_NULL_;
     return l->store.at + j->offset;
 }
 
@@ -489,17 +723,19 @@ static inline uint32_t seek_fingerprint(seek_list *l, uint64_t value)
 }
 
 /* ---- recorders: a pass over the disc from a sector on, absorbed by the list whose recorder it is */
-/* The recorder of a list that reads from a sector on. A complete list gives a stopped recorder, which records nothing. */
+/* The recorder of a list, for a pass that has read every sector from sector from on (usually the area's start, or the frontier). From does not choose where
+ * recording begins: the first sector that is due is the list's next boundary, whatever from is (seek_due tells it). It is asked when the list absorbs the
+ * recorder: above the list's frontier it does not join (10). A complete list gives a stopped recorder, which records nothing. */
 static inline uint32_t seek_recorder_of(const seek_list *l, uint64_t from, seek_recorder *r)
 {
     return seek_raw_recorder(l->head, SEEK_BLOCK, from, r->block, SEEK_BLOCK, SEEK_LENT_SEVEN_(l));
 }
 
-/* A frame under assembly where a checkpoint is recorded: the sector that it starts in, its number, kind (0 DST, 1 DSD), remaining and bytes so far. */
+/* A frame under assembly where a checkpoint is recorded: the sector that it starts in, its number, kind, remaining and bytes so far. */
 typedef struct {
     uint64_t start;
     uint32_t number;
-    uint8_t kind;
+    uint8_t kind;         /* SEEK_DST or SEEK_DSD; anything else is refused with 7 */
     int32_t remaining;
     const uint8_t *bytes;
     size_t length;
@@ -510,8 +746,8 @@ typedef struct {
 static inline uint32_t seek_record(seek_recorder *r, uint64_t lsn, uint32_t threshold, uint64_t malformed, const seek_frame *f, const uint8_t *sector,
                                    size_t length)
 {
-    return seek_raw_record(r->block, SEEK_BLOCK, lsn, threshold, malformed, f != NULL, f ? f->start : 0, f ? f->number : 0, f ? f->kind : 0,
-                           f ? f->remaining : 0, f ? f->bytes : NULL, f ? f->length : 0, sector, length, SEEK_LENT_FOUR_(r));
+    return seek_raw_record(r->block, SEEK_BLOCK, lsn, threshold, malformed, f != SEEK_NULL_, f ? f->start : 0, f ? f->number : 0, f ? f->kind : 0,
+                           f ? f->remaining : 0, f ? f->bytes : SEEK_NULL_, f ? f->length : 0, sector, length, SEEK_LENT_FOUR_(r));
 }
 
 /* States the end of the area, where every checkpoint is recorded: its threshold, and how many malformed sectors there are. */
@@ -524,7 +760,7 @@ static inline uint32_t seek_finish(seek_recorder *r, uint32_t threshold, uint64_
  * byte first. The recorder is then empty and goes on, or is stopped if it was finished. 8 stops the recorder too; another refusal changes nothing. */
 static inline uint32_t seek_absorb(seek_list *l, seek_recorder *r, const uint64_t *image, const uint8_t *malformed, size_t length)
 {
-    return seek_raw_absorb(l->head, SEEK_BLOCK, r->block, SEEK_BLOCK, image != NULL, image ? *image : 0, malformed, length, SEEK_LENT_SEVEN_(l),
+    return seek_raw_absorb(l->head, SEEK_BLOCK, r->block, SEEK_BLOCK, image != SEEK_NULL_, image ? *image : 0, malformed, length, SEEK_LENT_SEVEN_(l),
                            SEEK_LENT_FOUR_(r));
 }
 
@@ -551,7 +787,7 @@ static inline uint32_t seek_take(seek_hint_recorder *h, size_t *length)
 {
     uint8_t answer[SEEK_BLOCK] = {0};
     uint32_t n = seek_raw_take(h->block, SEEK_BLOCK, answer, SEEK_BLOCK, SEEK_LENT_(h->list));
-    *length = 8 * (size_t)seek_word(answer, 0);
+    *length = 8 * SEEK_CAST_(size_t, seek_word(answer, 0));
     return n;
 }
 
@@ -569,7 +805,7 @@ static inline uint32_t seek_keep_confirmation(seek_list *l, uint64_t lsn, uint32
 typedef struct {
     int found;            /* 0: no hint is near */
     uint64_t lsn;         /* the hint's sector and frame number */
-    uint64_t number;
+    uint32_t number;
     uint64_t upper;       /* the end of the read, excluded */
     int later;            /* a later hint gave the end */
 } seek_hinted;
@@ -580,7 +816,7 @@ static inline uint32_t seek_hint(const seek_list *l, uint32_t first, uint32_t en
     uint32_t n = seek_raw_hint(l->head, SEEK_BLOCK, first, end, playtime, answer, SEEK_BLOCK, SEEK_LENT_SEVEN_(l));
     h->found = seek_word(answer, 0) != 0;
     h->lsn = seek_word(answer, 1);
-    h->number = seek_word(answer, 2);
+    h->number = SEEK_CAST_(uint32_t, seek_word(answer, 2));
     h->upper = seek_word(answer, 3);
     h->later = seek_word(answer, 4) != 0;
     return n;
@@ -592,7 +828,16 @@ static inline uint32_t seek_add_hints(seek_list *l, const uint8_t *list, size_t 
     return seek_raw_add_hints(l->head, SEEK_BLOCK, list, length, SEEK_LENT_SEVEN_(l));
 }
 
-/* ---- disc files: one file for the lists of both areas of a disc, by slot */
+/* ---- disc files: one file for the lists of both areas of a disc, by slot
+ * An area may be NULL, or have seven numbers of 0, where the disc has no area of that slot: a file with a list of it is refused (26 or what comes before it). A
+ * list may be NULL or SEEK_ABSENT where the file has none of that slot. */
+static inline seek_area seek_area_of_slot_(const seek_area *a, uint8_t slot)
+{
+    seek_area none = {0, 0, 0, 0, 0, 0, 0};
+    none.slot = slot;
+    return a == SEEK_NULL_ || (a->slot | a->channels | a->key_start | a->key_end | a->sectors | a->start | a->end) == 0 ? none : *a;
+}
+
 /* What a disc file holds: whether there is a list of each slot, and where its list file lies. Answers 0 or SEEK_DISC. */
 typedef struct {
     int present[2];
@@ -618,20 +863,23 @@ static inline uint32_t seek_disc_sizes(const seek_area *a0, const seek_area *a1,
                                        seek_table_sizes *s1)
 {
     uint8_t answer[SEEK_BLOCK] = {0};
-    uint32_t n = seek_raw_disc_sizes(SEEK_AREA_(a0), SEEK_AREA_(a1), file, length, limit, answer, SEEK_BLOCK);
+    seek_area b0 = seek_area_of_slot_(a0, 0), b1 = seek_area_of_slot_(a1, 1);
+    uint32_t n = seek_raw_disc_sizes(SEEK_AREA_(&b0), SEEK_AREA_(&b1), file, length, limit, answer, SEEK_BLOCK);
     seek_sizes_from_(answer, s0);
     seek_sizes_from_(answer + 64, s1);
     return n;
 }
 
 /* The lists of a disc file, loaded under the areas of slots 0 and 1 with a limit as seek_load's: all of them, or none. present tells which are there; a list
- * that is not there stays as it was, and may have tables of length 0. */
+ * that is not there stays as it was. */
 static inline uint32_t seek_disc_load(seek_list *l0, seek_list *l1, const seek_area *a0, const seek_area *a1, const uint8_t *file, size_t length,
                                       uint64_t limit, int present[2])
 {
     uint8_t answer[SEEK_BLOCK] = {0};
-    uint32_t n = seek_raw_disc_load(l0->head, SEEK_BLOCK, l1->head, SEEK_BLOCK, SEEK_AREA_(a0), SEEK_AREA_(a1), file, length, limit, answer, SEEK_BLOCK,
-                                    SEEK_LENT_SEVEN_(l0), SEEK_LENT_SEVEN_(l1));
+    seek_area b0 = seek_area_of_slot_(a0, 0), b1 = seek_area_of_slot_(a1, 1);
+    seek_list none0 = SEEK_ABSENT, none1 = SEEK_ABSENT, *m0 = l0 ? l0 : &none0, *m1 = l1 ? l1 : &none1;
+    uint32_t n = seek_raw_disc_load(m0->head, SEEK_BLOCK, m1->head, SEEK_BLOCK, SEEK_AREA_(&b0), SEEK_AREA_(&b1), file, length, limit, answer, SEEK_BLOCK,
+                                    SEEK_LENT_SEVEN_(m0), SEEK_LENT_SEVEN_(m1));
     present[0] = seek_word(answer, 0) != 0;
     present[1] = seek_word(answer, 1) != 0;
     return n;
@@ -640,7 +888,7 @@ static inline uint32_t seek_disc_load(seek_list *l0, seek_list *l1, const seek_a
 /* The length that seek_disc_save will write: at least 104; below 88 a refusal number. */
 static inline uint64_t seek_disc_saved_length(const seek_list *l, const seek_list *other)
 {
-    if (other == NULL)
+    if (other == SEEK_NULL_)
         return seek_raw_disc_saved_length(l->head, SEEK_BLOCK, SEEK_LENT_SEVEN_(l));
     return seek_raw_disc_saved_length_both(l->head, SEEK_BLOCK, other->head, SEEK_BLOCK, SEEK_LENT_SEVEN_(l), SEEK_LENT_SEVEN_(other));
 }
@@ -649,7 +897,7 @@ static inline uint64_t seek_disc_saved_length(const seek_list *l, const seek_lis
  * Answers its length, at least 104; below 88 a refusal number. */
 static inline uint64_t seek_disc_save(const seek_list *l, const seek_list *other, uint8_t *out, size_t length)
 {
-    if (other == NULL)
+    if (other == SEEK_NULL_)
         return seek_raw_disc_save(l->head, SEEK_BLOCK, SEEK_LENT_SEVEN_(l), out, length);
     return seek_raw_disc_save_both(l->head, SEEK_BLOCK, other->head, SEEK_BLOCK, SEEK_LENT_SEVEN_(l), SEEK_LENT_SEVEN_(other), out, length);
 }
@@ -673,12 +921,12 @@ static inline uint64_t seek_sum(const uint8_t *bytes, size_t length) { return se
 static inline uint32_t seek_sum32(const uint8_t *bytes, size_t length) { return seek_raw_sum32(bytes, length); }
 
 /* A sum folded to k bits: the sum shifted right by k, xored with the sum modulo 2^k. Any number of the width may be folded. k is 16 to 31 for a sum of 32 bits
- * and 32 to 63 for one of 64 bits. Answers 0 or SEEK_FOLD; *folded is 0 where it refuses. */
+ * and 32 to 63 for one of 64 bits. Answers 0 or SEEK_NO_FOLD; *folded is 0 where it refuses. */
 static inline uint32_t seek_fold32(uint32_t sum, uint32_t k, uint32_t *folded)
 {
     uint8_t answer[SEEK_BLOCK] = {0};
     uint32_t n = seek_raw_fold32(sum, k, answer, SEEK_BLOCK);
-    *folded = (uint32_t)seek_word(answer, 0);
+    *folded = SEEK_CAST_(uint32_t, seek_word(answer, 0));
     return n;
 }
 
@@ -725,6 +973,21 @@ static inline int seek_lacks_nothing(const seek_lacking *lacking)
     return lacking->checkpoints == 0 && lacking->end_state == 0 && lacking->parts == 0 && lacking->malformed == 0 && lacking->hints == 0 &&
            lacking->confirmations == 0 && lacking->fingerprint == 0;
 }
+
+/* ---- the header's own macros; SEEK_NULL_ stays, for SEEK_ABSENT */
+#undef SEEK_IN
+#undef SEEK_OUT
+#undef SEEK_AREA_NUMBERS
+#undef SEEK_AREA_NUMBERS2
+#undef SEEK_TABLES_IN
+#undef SEEK_TABLES_OUT
+#undef SEEK_TABLES_IN2
+#undef SEEK_TABLES_OUT2
+#undef SEEK_LENT_
+#undef SEEK_LENT_SEVEN_
+#undef SEEK_LENT_FOUR_
+#undef SEEK_AREA_
+#undef SEEK_CAST_
 
 #ifdef __cplusplus
 }

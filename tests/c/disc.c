@@ -68,16 +68,16 @@ int main(void)
 
     n = (size_t)seek_disc_saved_length(&l[1], &l[0]);
     HOLDS(n == 28 + lengths[0] + lengths[1]);
-    HOLDS(seek_disc_save(&l[1], &l[0], disc, n - 1) == SEEK_OUTPUT && seek_disc_save(&l[1], &l[0], disc, n) == n);
+    HOLDS(seek_disc_save(&l[1], &l[0], disc, n - 1) == SEEK_NO_OUTPUT && seek_disc_save(&l[1], &l[0], disc, n) == n);
     HOLDS(seek_disc_contents(disc, n, &c) == 0 && c.present[0] && c.present[1]);
     HOLDS(c.offset[0] == 28 && c.length[0] == lengths[0] && c.offset[1] == 28 + lengths[0] && c.length[1] == lengths[1]);
     HOLDS(memcmp(disc + c.offset[0], files[0], lengths[0]) == 0 && memcmp(disc + c.offset[1], files[1], lengths[1]) == 0);
     loads(n, 1, 1);
 
-    HOLDS(seek_disc_save(&l[0], &l[0], disc, n) == SEEK_DISC && seek_disc_saved_length(&l[0], &l[0]) == SEEK_DISC);
-    HOLDS(seek_disc_contents(disc, n - 1, &c) == SEEK_DISC && !c.present[0] && !c.present[1]);
-    HOLDS(seek_disc_sizes(&areas[1], &areas[0], disc, n, UINT64_MAX, &s[0], &s[1]) == SEEK_AREA);
+    HOLDS(seek_disc_save(&l[0], &l[0], disc, n) == SEEK_NO_DISC && seek_disc_saved_length(&l[0], &l[0]) == SEEK_NO_DISC);
+    HOLDS(seek_disc_contents(disc, n - 1, &c) == SEEK_NO_DISC && !c.present[0] && !c.present[1]);
+    HOLDS(seek_disc_sizes(&areas[1], &areas[0], disc, n, UINT64_MAX, &s[0], &s[1]) == SEEK_NO_AREA);
     disc[n - 1] ^= 1;
-    HOLDS(seek_disc_sizes(&areas[0], &areas[1], disc, n, UINT64_MAX, &s[0], &s[1]) == SEEK_FILE_SUM);
+    HOLDS(seek_disc_sizes(&areas[0], &areas[1], disc, n, UINT64_MAX, &s[0], &s[1]) == SEEK_NO_FILE_SUM);
     return 0;
 }

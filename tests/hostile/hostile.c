@@ -170,6 +170,8 @@ static uint64_t call_flush(void) { return seek_raw_flush(LENT(HINTER), LENT(SEEN
 static uint64_t call_take(void) { return seek_raw_take(LENT(HINTER), LENT(ANSWER), LENT(SEEN)); }
 static uint64_t call_keep(void) { return seek_raw_keep_confirmation(LENT(HEAD), v[0], (uint32_t)v[1], v[2], LENT(ANSWER), TABLES); }
 static uint64_t call_hint(void) { return seek_raw_hint(LENT(HEAD), (uint32_t)v[0], (uint32_t)v[1], (uint32_t)v[2], LENT(ANSWER), TABLES); }
+static uint64_t call_due(void) { return seek_raw_due(LENT(RECORDER), LENT(ANSWER)); }
+static uint64_t call_boundary(void) { return seek_raw_boundary(LENT(HEAD), (uint32_t)v[0], LENT(ANSWER)); }
 
 static uint64_t call_contents(void) { return seek_raw_disc_contents(LENT(DISC), LENT(ANSWER)); }
 static uint64_t call_disc_sizes(void) { return seek_raw_disc_sizes(AREA, AREA1, LENT(DISC), v[0], LENT(ANSWER)); }
@@ -237,14 +239,20 @@ static const struct {
     {"sum32", call_sum32, BIT(FILE_), 0, 0, {0}},
     {"fold32", call_fold32, BIT(ANSWER), BIT(ANSWER), 0, {0xbf9cf968, 24}},
     {"fold64", call_fold64, BIT(ANSWER), BIT(ANSWER), 0, {0x85944171f73967e8, 48}},
+    {"due", call_due, BIT(RECORDER) | BIT(ANSWER), BIT(ANSWER), 0, {0}},
+    {"boundary", call_boundary, BIT(HEAD) | BIT(ANSWER), BIT(ANSWER), 0, {3}},
 };
 enum { CALLS = sizeof calls / sizeof *calls };
 
 static int check(unsigned c, uint64_t answer)
 {
     int refused = calls[c].lengths ? answer < 88 : answer != 0, k;
-    if (refused && (answer == 0 || (answer > 43 && answer != SEEK_FOLD && answer != SEEK_DISC))) {
+    if (refused && (answer == 0 || (answer > 43 && answer != SEEK_NO_FOLD && answer != SEEK_NO_DISC))) {
         fprintf(stderr, "%s: %" PRIu64 " is no refusal number\n", calls[c].name, answer);
+        return 0;
+    }
+    if (!refused && calls[c].run == call_record && (uint8_t)v[3] != 0 && (uint8_t)v[6] > 1) {
+        fprintf(stderr, "record: accepted a frame of kind %u\n", (unsigned)(uint8_t)v[6]);
         return 0;
     }
     for (k = 0; k < BUFFERS; k++) {
