@@ -1,0 +1,152 @@
+/* What seek.h tells of a list by number, and what it makes of lists that are absent, sizes of 0, areas of zeros, NULL with length 0, a recorder's block given as a
+ * list's head, and a frame of no kind. Answers status 1 at the first wrong answer. */
+#include <stdio.h>
+#include <stdlib.h>
+
+#include "sample.h"
+#include "seek_file.h"
+
+#define HOLDS(test) \
+    do { \
+        if (!(test)) { \
+            printf("line %d: not %s\n", __LINE__, #test); \
+            exit(1); \
+        } \
+    } while (0)
+
+static uint8_t file[SAMPLE_LONGEST], sector[2048];
+
+/* The sample of 5 checkpoints, a part and 3 hints, with a confirmation and the numbers of its head. */
+static void records(void)
+{
+    seek_list l;
+    seek_checkpoint c;
+    seek_held h;
+    seek_confirmation f;
+    uint32_t lsn, number, made = 0;
+    uint64_t at;
+    int kept;
+    size_t n = sample_file(file, 5, 0, 3);
+    HOLDS(seek_open_bytes(file, n, NULL, UINT64_MAX, &l) == 0);
+    HOLDS(seek_budget(&l) == SAMPLE_BUDGET && seek_hint_limit(&l) == 2048 && seek_spacing(&l) == 8 && seek_interval(&l) == SAMPLE_INTERVAL);
+    HOLDS(seek_frontier(&l) == 1200 && !seek_has_image(&l) && !seek_is_complete(&l));
+    HOLDS(seek_checkpoint_at(&l, 2, &c) && c.lsn == 1100 && c.threshold == 150 && c.back == 40 && c.malformed == 0);
+    HOLDS(c.digest == 2 * UINT64_C(0x9e3779b97f4a7c15));
+    HOLDS(seek_checkpoint_at(&l, 4, &c) && c.lsn == 1200 && !seek_checkpoint_at(&l, 5, &c) && c.lsn == 0 && !seek_checkpoint_at(&l, UINT64_MAX, &c));
+    HOLDS(seek_boundary(&l, 7, &at) && at == 1350 && !seek_boundary(&l, 8, &at) && at == 0 && !seek_boundary(&l, UINT32_MAX, &at));
+    HOLDS(seek_held_at(&l, 0, &h) && h.checkpoint == 2 && h.start == 1060 && h.length == SAMPLE_PART && h.number == 149 && h.remaining == -7);
+    HOLDS(h.kind == SEEK_DSD && !seek_held_at(&l, 1, &h) && h.length == 0);
+    HOLDS(seek_hint_at(&l, 1, &lsn, &number) && lsn == 1003 && number == 4 && !seek_hint_at(&l, 3, &lsn, &number) && lsn == 0 && number == 0);
+    HOLDS(!seek_malformed_at(&l, 0, &made) && made == 0 && !seek_confirmation_at(&l, 0, &f));
+    HOLDS(seek_fingerprint(&l, 9) == 0 && seek_keep_confirmation(&l, 1003, 4, 11, &kept) == 0 && kept);
+    HOLDS(seek_confirmation_at(&l, 0, &f) && f.lsn == 1003 && f.threshold == 4 && f.digest == 11 && !seek_confirmation_at(&l, 1, &f));
+    l.checkpoints.length = 24 * 2; /* a table that is shorter than the head says */
+    HOLDS(!seek_checkpoint_at(&l, 2, &c) && seek_plan(&l, 3, &(seek_jump){0}) == SEEK_NO_ROOM);
+    seek_close(&l);
+
+    n = sample_file(file, 8, 1, 0);
+    HOLDS(seek_open_bytes(file, n, NULL, UINT64_MAX, &l) == 0 && seek_is_complete(&l) && seek_frontier(&l) == 1400 && seek_end_threshold(&l) == 600);
+    seek_close(&l);
+}
+
+/* A reading with a malformed sector, the due sectors, and frames of kinds 1, 2 and 255. */
+static void reading(void)
+{
+    const seek_area area = {0, 2, 1000, 1399, 1550, 1000, 1400};
+    const uint8_t malformed[4] = {0xeb, 3, 0, 0}; /* 1003 */
+    const uint8_t kinds[] = {2, 255};
+    seek_list l;
+    seek_recorder r, other;
+    seek_frame f = {1010, 5, 0, 0, NULL, 0};
+    uint64_t due;
+    uint32_t lsn, k;
+    HOLDS(seek_begin(&area, 50, 4096, 8, 2048, &l) == 0 && seek_frontier(&l) == 1000 && seek_begin_recorder(&l, 1399, &r) == 0);
+    HOLDS(seek_due(&r, &due) && due == 1000 && seek_record(&r, 1000, 0, 0, NULL, sector, sizeof sector) == 0);
+    HOLDS(seek_due(&r, &due) && due == 1050 && seek_absorb(&l, &r, NULL, NULL, 0) == SEEK_NO_ABSORB_JOINS); /* from lies above the frontier */
+    seek_close_recorder(&r);
+    HOLDS(seek_begin_recorder(&l, 1000, &r) == 0 && seek_record(&r, 1000, 0, 0, NULL, sector, sizeof sector) == 0);
+    for (k = 0; k < 2; k++) {
+        f.kind = kinds[k];
+        HOLDS(seek_record(&r, 1050, 5, 1, &f, sector, sizeof sector) == SEEK_NO_RECORD_FRAME && seek_recorded_count(&r) == 1);
+        HOLDS(seek_record(&r, 1051, 5, 1, &f, sector, sizeof sector) == SEEK_NO_RECORD_DUE);   /* 5 and 6 come before 7 */
+        HOLDS(seek_record(&r, 1050, 5, 99, &f, sector, sizeof sector) == SEEK_NO_RECORD_FALLS);
+    }
+    f.kind = SEEK_DSD;
+    HOLDS(seek_record(&r, 1050, 5, 1, &f, sector, sizeof sector) == 0 && seek_absorb(&l, &r, NULL, malformed, 4) == 0);
+    HOLDS(seek_malformed_at(&l, 0, &lsn) && lsn == 1003 && seek_frontier(&l) == 1050);
+    HOLDS(seek_due(&r, &due) && due == 1100 && seek_begin_recorder(&l, 1050, &other) == 0 && seek_due(&other, &due) && due == 1100);
+    seek_close_recorder(&other);
+    for (k = 2; k < 8; k++)
+        HOLDS(seek_due(&r, &due) && due == 1000 + 50 * k && seek_record(&r, due, 5, 1, NULL, sector, sizeof sector) == 0);
+    HOLDS(!seek_due(&r, &due) && due == 0 && seek_finish(&r, 5, 1) == 0 && !seek_due(&r, &due) && seek_absorb(&l, &r, NULL, malformed, 4) == 0);
+    HOLDS(seek_recorder_stopped(&r) && !seek_due(&r, &due) && seek_is_complete(&l));
+    seek_close_recorder(&r);
+    seek_close(&l);
+}
+
+/* Lists without memory, sizes of 0, areas of zeros, NULL with length 0. */
+static void nothing(void)
+{
+    seek_list none = SEEK_ABSENT, l, m;
+    seek_recorder r = {{0}, {NULL, 0}, {NULL, 0}, {NULL, 0}, {NULL, 0}};
+    seek_hint_recorder hr = {{0}, {NULL, 0}};
+    const seek_table_sizes zero = {0, 0, 0, 0, 0, 0, 0};
+    const seek_area empty = {0, 0, 0, 0, 0, 0, 0};
+    seek_table_sizes s[2];
+    seek_contents c;
+    seek_area area;
+    seek_jump j;
+    seek_brings b;
+    seek_hinted h;
+    uint8_t disc[SAMPLE_LONGEST + 28], *bytes;
+    uint64_t number;
+    size_t n = sample_file(file, 5, 0, 0), length;
+    int present[2], made, found;
+    HOLDS(seek_carve(&l, &zero, NULL, 0) && l.store.at == NULL && l.hints.length == 0 && seek_carve_recorder(&r, &zero, NULL, 0));
+    HOLDS(seek_plan(&none, 0, &j) == SEEK_NO_NUMBERS && j.where == SEEK_AT_START && seek_part(&none, &j) == NULL && seek_frontier(&none) == 0);
+    HOLDS(seek_saved_length(&none) == SEEK_NO_NUMBERS && seek_refused(seek_save(&none, NULL, 0)) && seek_fingerprint(&none, 1) == SEEK_NO_NUMBERS);
+    HOLDS(seek_merge(&none, &l) == SEEK_NO_NUMBERS && seek_adds(&none, &l, &b) == SEEK_NO_NUMBERS && seek_hint(&none, 0, 0, 0, &h) == SEEK_NO_NUMBERS);
+    HOLDS(seek_add_hints(&none, NULL, 0) == SEEK_NO_NUMBERS && seek_recorder_of(&none, 0, &r) == SEEK_NO_NUMBERS);
+    HOLDS(seek_hint_recorder_of(&none, &hr, &made) == SEEK_NO_NUMBERS && !made && seek_see(&hr, 0, NULL, 0) == SEEK_NO_ROOM);
+    HOLDS(seek_flush(&hr) == SEEK_NO_ROOM && seek_take(&hr, &length) == SEEK_NO_ROOM && length == 0);
+    HOLDS(seek_record(&r, 0, 0, 0, NULL, NULL, 0) == SEEK_NO_NUMBERS && seek_finish(&r, 0, 0) == SEEK_NO_NUMBERS && !seek_due(&r, &number));
+    HOLDS(seek_absorb(&none, &r, NULL, NULL, 0) == SEEK_NO_NUMBERS && seek_keep_confirmation(&none, 0, 0, 0, &made) == SEEK_NO_NUMBERS);
+    HOLDS(seek_file_area(NULL, 0, &area) == SEEK_NO_FILE_SHORT && seek_load(&l, &empty, NULL, 0, 0) == SEEK_NO_FILE_SHORT);
+    HOLDS(seek_file_sizes(&empty, NULL, 0, 0, &s[0]) == SEEK_NO_FILE_SHORT && seek_total(&s[0]) == 0 && seek_new(&l, &empty, 1, 0, 0, 0) == SEEK_NO_ROOM);
+    HOLDS(seek_disc_contents(NULL, 0, &c) == SEEK_NO_DISC && seek_disc_load(NULL, NULL, NULL, NULL, NULL, 0, 0, present) == SEEK_NO_DISC);
+    HOLDS(seek_first_record(NULL, 0, &found, &number) == 0 && !found && seek_sum(NULL, 0) == UINT64_C(0xcbf29ce484222325));
+    HOLDS(seek_saved(&none, &bytes, &length) == SEEK_NO_NUMBERS && bytes == NULL && seek_open("", NULL, 0, &l) == SEEK_NO_READ);
+    seek_close(&none); /* an absent list has nothing to give back */
+
+    /* a disc file of one list: the other slot has no area, no list and no memory */
+    HOLDS(seek_open_bytes(file, n, NULL, UINT64_MAX, &l) == 0);
+    HOLDS((length = (size_t)seek_disc_save(&l, NULL, disc, sizeof disc)) == n + 16);
+    seek_area_of(&l, &area);
+    HOLDS(seek_disc_sizes(&area, &empty, disc, length, UINT64_MAX, &s[0], &s[1]) == 0 && seek_total(&s[1]) == 0);
+    HOLDS(seek_disc_sizes(&area, NULL, disc, length, UINT64_MAX, &s[0], &s[1]) == 0 && (bytes = (uint8_t *)calloc(1, (size_t)seek_total(&s[0]))) != NULL);
+    HOLDS(seek_carve(&m, &s[0], bytes, seek_total(&s[0])) && seek_carve(&none, &s[1], NULL, 0));
+    HOLDS(seek_disc_load(&m, &none, &area, &empty, disc, length, UINT64_MAX, present) == 0 && present[0] && !present[1]);
+    HOLDS(seek_disc_load(&m, NULL, &area, NULL, disc, length, UINT64_MAX, present) == 0 && seek_checkpoint_count(&m) == 5);
+    HOLDS(seek_disc_load(NULL, &m, NULL, &area, disc, length, UINT64_MAX, present) == SEEK_NO_AREA);     /* slot 0's area for slot 1 */
+    HOLDS(seek_disc_load(&m, NULL, NULL, NULL, disc, length, UINT64_MAX, present) == SEEK_NO_FILE_AREA && !present[0]);
+    free(bytes);
+
+    /* a recorder's block as a list's head, and the other way round */
+    HOLDS(seek_begin_recorder(&l, 1000, &r) == 0);
+    m = l;
+    memcpy(m.head, r.block, SEEK_BLOCK);
+    HOLDS(seek_plan(&m, 0, &j) != 0 || seek_checkpoint_count(&m) == 0);
+    memcpy(r.block, l.head, SEEK_BLOCK);
+    HOLDS(seek_record(&r, 1000, 0, 0, NULL, sector, sizeof sector) != 0);
+    seek_close_recorder(&r);
+    seek_close(&l);
+}
+
+int main(void)
+{
+    HOLDS(seek_version() == SEEK_VERSION && !seek_refused(88) && seek_refused(87) && SEEK_DST == 0 && SEEK_DSD == 1);
+    records();
+    reading();
+    nothing();
+    return 0;
+}
