@@ -2,7 +2,7 @@
 
 use crate::error::answer;
 use crate::raw::{self, BLOCK};
-use crate::{Area, Error, List, saved, sizes_in, word};
+use crate::{Area, Error, List, saved, sizes_in, word, zeros};
 use std::ops::Range;
 
 /// Where the list files of slots 0 and 1 lie in a disc file; none for a list that is not there.
@@ -56,7 +56,7 @@ fn save_one(list: &List) -> Result<Vec<u8>, Error> {
             t4.len(), t5.as_ptr(), t5.len(), t6.as_ptr(), t6.len(),
         )
     };
-    let mut out = vec![0; saved(length)?];
+    let mut out = zeros(saved(length)?)?;
     // Safety: the same, and the output is a slice of its own.
     let written = unsafe {
         raw::seek_raw_disc_save(
@@ -79,7 +79,7 @@ fn save_both(list: &List, other: &List) -> Result<Vec<u8>, Error> {
             u2.len(), u3.as_ptr(), u3.len(), u4.as_ptr(), u4.len(), u5.as_ptr(), u5.len(), u6.as_ptr(), u6.len(),
         )
     };
-    let mut out = vec![0; saved(length)?];
+    let mut out = zeros(saved(length)?)?;
     // Safety: the same, and the output is a slice of its own.
     let written = unsafe {
         raw::seek_raw_disc_save_both(

@@ -4,7 +4,7 @@ use std::fmt;
 
 macro_rules! errors {
     ($($name:ident = $number:literal, $text:literal;)*) => {
-        /// A refusal. It changed nothing.
+        /// Why a call was refused: the numbers of docs/REFUSALS.md. A refusal changed nothing, but for [`Error::AbsorbImage`].
         #[derive(Clone, Copy, Debug, PartialEq, Eq, Hash)]
         #[non_exhaustive]
         pub enum Error {
@@ -48,7 +48,7 @@ errors! {
     Content = 4, "the tables do not hold what loading would accept";
     RecordDue = 5, "not the due sector, not a whole sector, or the recorder is finished or stopped";
     RecordFalls = 6, "threshold or malformed count falls, or is too large";
-    RecordFrame = 7, "the frame under assembly does not start in the area before this sector, or its number is too large";
+    RecordFrame = 7, "the frame under assembly does not start in the area before this sector, its number is too large, or its kind is neither 0 nor 1";
     AbsorbImage = 8, "the recorder read another image; it is stopped";
     AbsorbArea = 9, "the recorder is of another area or interval";
     AbsorbJoins = 10, "the recorder does not join the list";
@@ -83,6 +83,7 @@ errors! {
     MergeCheckpoints = 43, "the lists disagree about a checkpoint or the end of the disc";
     Fold = 49, "k is not between half the width and the width less one";
     Disc = 54, "the disc file's contents table breaks its rules, or two lists share a slot, or one is too long";
+    Memory = 200, "there is no memory for it";
 }
 
 impl std::error::Error for Error {}

@@ -2,7 +2,8 @@
 
 use crate::error::{Error, answer};
 use crate::raw::{self, BLOCK};
-use crate::{List, word};
+use crate::{List, word, zeros};
+use std::fmt;
 
 /// The bytes of a hint recorder's list: 65,536 hints.
 const LIST: usize = 524_288;
@@ -10,14 +11,29 @@ const LIST: usize = 524_288;
 /// A hint: a sector, and the number of the frame that starts there.
 #[derive(Clone, Copy, Debug, PartialEq, Eq)]
 pub struct Hint {
+    /// The sector.
     pub lsn: u32,
+    /// The frame's number.
     pub number: u32,
+}
+
+/// A hint's sector that a player has checked.
+#[derive(Clone, Copy, Debug, PartialEq, Eq)]
+pub struct Confirmation {
+    /// The sector.
+    pub lsn: u32,
+    /// Its threshold.
+    pub threshold: u32,
+    /// Its sum.
+    pub digest: u64,
 }
 
 /// Where to begin reading for a range of frames.
 #[derive(Clone, Copy, Debug, PartialEq, Eq)]
 pub struct Hinted {
+    /// The hint's sector.
     pub lsn: u64,
+    /// The number of the frame that starts there.
     pub number: u32,
     /// The end of the read, excluded.
     pub upper: u64,
@@ -54,7 +70,22 @@ impl HintRecorder {
         // Safety: each pointer is that of a slice of the length behind it, and no two overlap.
         answer(unsafe { raw::seek_raw_take(b.as_mut_ptr(), BLOCK, a.as_mut_ptr(), BLOCK, l.as_ptr(), l.len()) })?;
         let four = |c: &[u8]| u32::from_le_bytes([c[0], c[1], c[2], c[3]]);
-        Ok(l[..8 * word(&a, 0) as usize].chunks_exact(8).map(|c| Hint { lsn: four(c), number: four(&c[4..]) }).collect())
+        let bytes = &l[..8 * word(&a, 0) as usize];
+        let mut taken = Vec::new();
+        taken.try_reserve_exact(bytes.len() / 8).map_err(|_| Error::Memory)?;
+        taken.extend(bytes.chunks_exact(8).map(|c| Hint { lsn: four(c), number: four(&c[4..]) }));
+        Ok(taken)
+    }
+
+    /// How many hints it has listed that were not taken.
+    pub fn hints(&self) -> u64 {
+        word(&self.block, 6)
+    }
+}
+
+impl fmt::Debug for HintRecorder {
+    fn fmt(&self, f: &mut fmt::Formatter<'_>) -> fmt::Result {
+        f.debug_struct("HintRecorder").field("hints", &self.hints()).finish_non_exhaustive()
     }
 }
 
@@ -70,12 +101,17 @@ impl List {
                 t3.as_ptr(), t3.len(), t4.as_ptr(), t4.len(), t5.as_ptr(), t5.len(), t6.as_ptr(), t6.len(),
             )
         })?;
-        Ok((word(&block, 0) != 0).then(|| HintRecorder { block, list: vec![0; LIST] }))
+        if word(&block, 0) == 0 {
+            return Ok(None);
+        }
+        Ok(Some(HintRecorder { block, list: zeros(LIST)? }))
     }
 
     /// Adds hints by their rules.
     pub fn add_hints(&mut self, hints: &[Hint]) -> Result<(), Error> {
-        let list: Vec<u8> = hints.iter().flat_map(|h| [h.lsn.to_le_bytes(), h.number.to_le_bytes()]).flatten().collect();
+        let mut list = Vec::new();
+        list.try_reserve_exact(8 * hints.len()).map_err(|_| Error::Memory)?;
+        list.extend(hints.iter().flat_map(|h| [h.lsn.to_le_bytes(), h.number.to_le_bytes()]).flatten());
         let (head, [t0, t1, t2, t3, t4, t5, t6]) = self.tables_mut();
         // Safety: each pointer is that of a slice of the length behind it, and no two overlap.
         answer(unsafe {

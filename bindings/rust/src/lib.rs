@@ -1,18 +1,50 @@
 //! The seek index of Super Audio discs: a safe wrapper of the player's library (include/seek.h), which is proved.
 //!
 //! A [`List`] owns the memory of its head and its seven tables. Every call answers a result or an [`Error`]; an error changed nothing,
-//! but for the one that stops a recorder ([`List::absorb`]).
+//! but for the one that stops a recorder ([`List::absorb`]). Words such as threshold, back, remaining and budget are explained at the top of seek.h.
+//!
+//! A reading becomes a list, which is saved, loaded and merged, and plans a jump:
+//!
+//! ```
+//! use seek::{Area, Frame, List, Plan};
+//!
+//! # fn main() -> Result<(), seek::Error> {
+//! let area = Area { slot: 0, channels: 2, key_start: 1000, key_end: 1399, sectors: 1550, start: 1000, end: 1400 };
+//! let mut list = List::new(area, 64, 1 << 20, 8, 2048)?;
+//! let mut recorder = list.recorder(area.start)?;
+//! while let Some(lsn) = recorder.due() {
+//!     let sector = [0; 2048]; // as it was read
+//!     let part = [7; 100];
+//!     let frame = (lsn > 1000).then_some(Frame { start: lsn - 40, number: 0, dsd: false, remaining: 2, bytes: &part });
+//!     recorder.record(lsn, (lsn - 1000) as u32, 0, frame, &sector)?;
+//! }
+//! recorder.finish(400, 0)?;
+//! list.absorb(&mut recorder, Some(1), &[])?;
+//! let file = list.save()?;
+//!
+//! let mut other = List::new(area, 64, 1 << 20, 8, 2048)?;
+//! other.merge(&List::load(Area::of_file(&file)?, &file, u64::MAX)?)?;
+//! assert!(other.is_complete());
+//! let Plan::At(at) = other.plan(130)? else { panic!("no checkpoint") };
+//! assert_eq!((at.lsn, at.threshold, at.part.unwrap().bytes.len()), (1128, 128, 100));
+//! assert_eq!(other.save()?, file);
+//! # Ok(())
+//! # }
+//! ```
+#![warn(missing_docs, missing_debug_implementations)]
 
 mod disc;
 mod error;
 mod hints;
 mod raw;
+mod readers;
 mod recorder;
 mod sums;
 
 pub use disc::{contents, load_disc, save_disc};
 pub use error::Error;
-pub use hints::{Hint, HintRecorder, Hinted};
+pub use hints::{Confirmation, Hint, HintRecorder, Hinted};
+pub use readers::{Checkpoint, Held};
 pub use recorder::{Frame, Recorder};
 pub use sums::{fold32, fold64, sum32};
 
@@ -22,12 +54,19 @@ use raw::BLOCK;
 /// An area of a disc: its slot (0 two-channel, 1 multichannel), the key of the disc's table of contents, and the range of sectors, its end excluded.
 #[derive(Clone, Copy, Debug, PartialEq, Eq)]
 pub struct Area {
+    /// 0 two-channel, 1 multichannel.
     pub slot: u8,
+    /// How many channels.
     pub channels: u8,
+    /// The first audio sector, as the disc's table of contents gives it.
     pub key_start: u32,
+    /// The last one.
     pub key_end: u32,
+    /// The sectors of the image.
     pub sectors: u64,
+    /// The first sector of the range.
     pub start: u64,
+    /// Its end, excluded.
     pub end: u64,
 }
 
@@ -39,18 +78,30 @@ pub enum Plan<'a> {
     /// A checkpoint.
     At(Resume<'a>),
     /// The area's end.
-    End { threshold: u32, malformed: u64 },
+    End {
+        /// The threshold there.
+        threshold: u32,
+        /// How many malformed sectors the area has.
+        malformed: u64,
+    },
 }
 
 /// A checkpoint, and the part of a frame that is held for it.
 #[derive(Clone, Debug, PartialEq, Eq)]
 pub struct Resume<'a> {
+    /// The checkpoint's number.
     pub number: u32,
+    /// Its sector.
     pub lsn: u64,
+    /// The first frame that a reader has not yet been given there.
     pub threshold: u32,
+    /// The sectors back to the one in which the frame under assembly starts, or 0.
     pub back: u32,
+    /// How many malformed sectors lie before it.
     pub malformed: u64,
+    /// The sum of its sector.
     pub digest: u64,
+    /// The held part, if there is one.
     pub part: Option<Part<'a>>,
 }
 
@@ -59,21 +110,32 @@ pub struct Resume<'a> {
 pub struct Part<'a> {
     /// DSD, or else DST.
     pub dsd: bool,
+    /// The frame's number.
     pub number: u32,
+    /// The sectors that are still to come, as the player's assembler counts them.
     pub remaining: i32,
+    /// Its bytes.
     pub bytes: &'a [u8],
 }
 
 /// What merging another list would change. The other list can hold more than a merge would take: see [`List::lacks`].
 #[derive(Clone, Copy, Debug, Default, PartialEq, Eq)]
 pub struct Brings {
+    /// Further checkpoints.
     pub checkpoints: bool,
+    /// The end state.
     pub end: bool,
+    /// Held parts.
     pub parts: bool,
+    /// Malformed sectors.
     pub malformed: bool,
+    /// Hints.
     pub hints: bool,
+    /// Confirmations.
     pub confirmations: bool,
+    /// The fingerprint.
     pub fingerprint: bool,
+    /// The image id, which is not saved.
     pub image: bool,
 }
 
@@ -109,6 +171,14 @@ pub struct List {
     sizes: [usize; 7],
 }
 
+/// A vector of zeros, if there is memory for it.
+fn zeros(n: usize) -> Result<Vec<u8>, Error> {
+    let mut v = Vec::new();
+    v.try_reserve_exact(n).map_err(|_| Error::Memory)?;
+    v.resize(n, 0);
+    Ok(v)
+}
+
 fn word(block: &[u8; BLOCK], i: usize) -> u64 {
     let mut bytes = [0; 8];
     bytes.copy_from_slice(&block[8 * i..8 * i + 8]);
@@ -119,7 +189,7 @@ fn word(block: &[u8; BLOCK], i: usize) -> u64 {
 fn sizes_in(block: &[u8; BLOCK], from: usize) -> Result<[usize; 7], Error> {
     let mut sizes = [0; 7];
     for (i, s) in sizes.iter_mut().enumerate() {
-        *s = usize::try_from(word(block, from + i)).map_err(|_| Error::Room)?;
+        *s = usize::try_from(word(block, from + i)).map_err(|_| Error::Memory)?;
     }
     Ok(sizes)
 }
@@ -144,25 +214,26 @@ impl Area {
         let mut b = [0; BLOCK];
         // Safety: pointers and lengths are those of two slices, and the block overlaps nothing.
         answer(unsafe { raw::seek_raw_file_area(file.as_ptr(), file.len(), b.as_mut_ptr(), BLOCK) })?;
-        Ok(Area {
-            slot: word(&b, 0) as u8,
-            channels: word(&b, 1) as u8,
-            key_start: word(&b, 2) as u32,
-            key_end: word(&b, 3) as u32,
-            sectors: word(&b, 4),
-            start: word(&b, 5),
-            end: word(&b, 6),
-        })
+        Ok(Area::from_block(&b))
+    }
+
+    fn from_block(b: &[u8; BLOCK]) -> Area {
+        Area {
+            slot: word(b, 0) as u8,
+            channels: word(b, 1) as u8,
+            key_start: word(b, 2) as u32,
+            key_end: word(b, 3) as u32,
+            sectors: word(b, 4),
+            start: word(b, 5),
+            end: word(b, 6),
+        }
     }
 }
 
 impl List {
     fn zeroed(sizes: [usize; 7]) -> Result<List, Error> {
-        let total = sizes.iter().try_fold(0usize, |a, &b| a.checked_add(b)).ok_or(Error::Room)?;
-        let mut memory = Vec::new();
-        memory.try_reserve_exact(total).map_err(|_| Error::Room)?;
-        memory.resize(total, 0);
-        Ok(List { head: [0; BLOCK], memory, sizes })
+        let total = sizes.iter().try_fold(0usize, |a, &b| a.checked_add(b)).ok_or(Error::Memory)?;
+        Ok(List { head: [0; BLOCK], memory: zeros(total)?, sizes })
     }
 
     fn tables(&self) -> [&[u8]; 7] {
@@ -184,13 +255,21 @@ impl List {
         (&mut self.head, tables)
     }
 
-    /// An empty list. `most` is the hint limit M; above 65,536 it is lowered.
-    pub fn new(a: Area, interval: u32, budget: u64, spacing: u32, most: u32) -> Result<List, Error> {
+    /// An empty list: a checkpoint every `interval` sectors, at most `budget` bytes of held parts, a hint every `spacing` frames, and at most `hint_limit` hints and
+    /// confirmations, which is lowered to 65,536. Usual are 64, 1,048,576, 8 and 2,048.
+    ///
+    /// ```
+    /// # use seek::{Area, Error, List};
+    /// let area = Area { slot: 0, channels: 2, key_start: 1000, key_end: 1399, sectors: 1550, start: 1000, end: 1400 };
+    /// assert_eq!(List::new(area, 64, 1 << 20, 8, 2048).unwrap().checkpoints(), 0);
+    /// assert_eq!(List::new(area, 0, 1 << 20, 8, 2048).unwrap_err(), Error::Numbers);
+    /// ```
+    pub fn new(a: Area, interval: u32, budget: u64, spacing: u32, hint_limit: u32) -> Result<List, Error> {
         let mut b = [0; BLOCK];
         // Safety: the block is a slice of its own.
         answer(unsafe {
             raw::seek_raw_sizes(
-                a.slot, a.channels, a.key_start, a.key_end, a.sectors, a.start, a.end, interval, budget, most, b.as_mut_ptr(), BLOCK,
+                a.slot, a.channels, a.key_start, a.key_end, a.sectors, a.start, a.end, interval, budget, hint_limit, b.as_mut_ptr(), BLOCK,
             )
         })?;
         let mut list = List::zeroed(sizes_in(&b, 0)?)?;
@@ -199,7 +278,7 @@ impl List {
         // Safety: each pointer is that of a slice of the length behind it, and the head is a copy of its own.
         answer(unsafe {
             raw::seek_raw_new(
-                head.as_mut_ptr(), BLOCK, a.slot, a.channels, a.key_start, a.key_end, a.sectors, a.start, a.end, interval, budget, spacing, most,
+                head.as_mut_ptr(), BLOCK, a.slot, a.channels, a.key_start, a.key_end, a.sectors, a.start, a.end, interval, budget, spacing, hint_limit,
                 t0.as_ptr(), t0.len(), t1.as_ptr(), t1.len(), t2.as_ptr(), t2.len(), t3.as_ptr(), t3.len(), t4.as_ptr(), t4.len(), t5.as_ptr(),
                 t5.len(), t6.as_ptr(), t6.len(),
             )
@@ -209,6 +288,18 @@ impl List {
     }
 
     /// The list of a file, under an area, with a limit in bytes for frame bytes, hints and confirmations (`u64::MAX`: all of it).
+    ///
+    /// ```
+    /// # use seek::{Area, Error, List};
+    /// # fn main() -> Result<(), Error> {
+    /// # let area = Area { slot: 0, channels: 2, key_start: 1000, key_end: 1399, sectors: 1550, start: 1000, end: 1400 };
+    /// let file = List::new(area, 64, 1 << 20, 8, 2048)?.save()?;
+    /// assert_eq!(List::load(area, &file, u64::MAX)?.area(), area);
+    /// assert_eq!(List::load(area, &file[..87], u64::MAX).unwrap_err(), Error::FileMagic);
+    /// assert_eq!(List::load(Area { slot: 1, ..area }, &file, u64::MAX).unwrap_err(), Error::FileArea);
+    /// # Ok(())
+    /// # }
+    /// ```
     pub fn load(a: Area, file: &[u8], limit: u64) -> Result<List, Error> {
         let mut b = [0; BLOCK];
         // Safety: pointers and lengths are those of two slices, and the block overlaps nothing.
@@ -240,7 +331,7 @@ impl List {
                 t4.len(), t5.as_ptr(), t5.len(), t6.as_ptr(), t6.len(),
             )
         };
-        let mut out = vec![0; saved(length)?];
+        let mut out = zeros(saved(length)?)?;
         // Safety: the same, and the output is a slice of its own.
         let written = unsafe {
             raw::seek_raw_save(
@@ -361,29 +452,15 @@ impl List {
             most: word(&b, 9) != 0,
         })
     }
-
-    /// How many checkpoints the list holds.
-    pub fn checkpoints(&self) -> u64 {
-        word(&self.head, 11)
-    }
-
-    /// How many hints the list holds.
-    pub fn hints(&self) -> u64 {
-        word(&self.head, 15)
-    }
-
-    /// Has the list the end state?
-    pub fn is_complete(&self) -> bool {
-        word(&self.head, 17) != 0
-    }
-
-    /// The fingerprint, if one is held.
-    pub fn fingerprint(&self) -> Option<u64> {
-        (word(&self.head, 20) != 0).then(|| word(&self.head, 21))
-    }
 }
 
 /// The length saved, at least 88, or a refusal number.
 fn saved(n: u64) -> Result<usize, Error> {
-    if n < 88 { Err(Error::from_number(n as u32)) } else { usize::try_from(n).map_err(|_| Error::Room) }
+    if n < 88 { Err(Error::from_number(n as u32)) } else { usize::try_from(n).map_err(|_| Error::Memory) }
+}
+
+/// The version of the library that is linked: 10,000 times its first number, plus 100 times the second, plus the third.
+pub fn version() -> u32 {
+    // Safety: it takes nothing.
+    unsafe { raw::seek_raw_version() }
 }

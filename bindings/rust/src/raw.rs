@@ -135,4 +135,7 @@ unsafe extern "C" {
     pub fn seek_raw_sum32(bytes: *const u8, length: usize) -> u32;
     pub fn seek_raw_fold32(sum: u32, k: u32, answer: *mut u8, answer_length: usize) -> u32;
     pub fn seek_raw_fold64(sum: u64, k: u32, answer: *mut u8, answer_length: usize) -> u32;
+    pub fn seek_raw_due(block: *const u8, block_length: usize, answer: *mut u8, answer_length: usize) -> u32;
+    pub fn seek_raw_boundary(head: *const u8, head_length: usize, number: u32, answer: *mut u8, answer_length: usize) -> u32;
+    pub fn seek_raw_version() -> u32;
 }

@@ -2,16 +2,19 @@
 
 use crate::error::{Error, answer};
 use crate::raw::{self, BLOCK};
-use crate::{List, word};
+use crate::{List, word, zeros};
+use std::fmt;
 
 /// A frame under assembly where a checkpoint is recorded.
 #[derive(Clone, Copy, Debug)]
 pub struct Frame<'a> {
     /// The sector that it starts in.
     pub start: u64,
+    /// Its number.
     pub number: u32,
     /// DSD, or else DST.
     pub dsd: bool,
+    /// The sectors that are still to come, as the player's assembler counts them.
     pub remaining: i32,
     /// Its bytes so far.
     pub bytes: &'a [u8],
@@ -72,6 +75,29 @@ impl Recorder {
         })
     }
 
+    /// The sector that [`Recorder::record`] wants next; none where every boundary is recorded and [`Recorder::finish`] is next, or where it is finished or stopped.
+    ///
+    /// ```
+    /// # use seek::{Area, List};
+    /// # fn main() -> Result<(), seek::Error> {
+    /// # let area = Area { slot: 0, channels: 2, key_start: 1000, key_end: 1399, sectors: 1550, start: 1000, end: 1400 };
+    /// let list = List::new(area, 200, 1 << 20, 8, 2048)?;
+    /// let mut recorder = list.recorder(1000)?;
+    /// assert_eq!(recorder.due(), Some(1000));
+    /// recorder.record(1000, 0, 0, None, &[0; 2048])?;
+    /// assert_eq!(recorder.due(), Some(1200));
+    /// recorder.record(1200, 200, 0, None, &[0; 2048])?;
+    /// assert_eq!(recorder.due(), None);
+    /// # Ok(())
+    /// # }
+    /// ```
+    pub fn due(&self) -> Option<u64> {
+        let mut b = [0; BLOCK];
+        // Safety: both are arrays of this length, and the answer overlaps nothing.
+        let n = unsafe { raw::seek_raw_due(self.block.as_ptr(), BLOCK, b.as_mut_ptr(), BLOCK) };
+        (n == 0 && word(&b, 0) != 0).then(|| word(&b, 1))
+    }
+
     /// How many checkpoints are recorded and not yet absorbed.
     pub fn checkpoints(&self) -> u64 {
         word(&self.block, 11)
@@ -83,12 +109,19 @@ impl Recorder {
     }
 }
 
+impl fmt::Debug for Recorder {
+    fn fmt(&self, f: &mut fmt::Formatter<'_>) -> fmt::Result {
+        f.debug_struct("Recorder").field("due", &self.due()).field("checkpoints", &self.checkpoints()).field("stopped", &self.is_stopped()).finish_non_exhaustive()
+    }
+}
+
 impl List {
-    /// A recorder that reads from a sector on. A complete list gives a stopped one.
+    /// A recorder for a pass that has read every sector from sector `from` on. `from` does not choose where recording begins: the first sector that is due is the
+    /// list's next boundary ([`Recorder::due`]). Above the list's frontier the recorder does not join it ([`Error::AbsorbJoins`]). A complete list gives a stopped one.
     pub fn recorder(&self, from: u64) -> Result<Recorder, Error> {
         let [t0, t1, t2, t3, t4, t5, t6] = self.tables();
         let sizes = [t0.len(), t1.len(), t2.len(), t3.len()];
-        let mut r = Recorder { block: [0; BLOCK], memory: vec![0; sizes.iter().sum()], sizes };
+        let mut r = Recorder { block: [0; BLOCK], memory: zeros(sizes.iter().sum())?, sizes };
         // Safety: each pointer is that of a slice of the length behind it, and the block overlaps nothing.
         answer(unsafe {
             raw::seek_raw_recorder(
@@ -102,7 +135,9 @@ impl List {
     /// Absorbs what a recorder read: the image id of the reading, if known, and its malformed sectors so far, rising. The recorder is then empty, and
     /// stopped if it was finished. [`Error::AbsorbImage`] stops the recorder too; another error changed nothing.
     pub fn absorb(&mut self, r: &mut Recorder, image: Option<u64>, malformed: &[u32]) -> Result<(), Error> {
-        let given: Vec<u8> = malformed.iter().flat_map(|l| l.to_le_bytes()).collect();
+        let mut given = Vec::new();
+        given.try_reserve_exact(4 * malformed.len()).map_err(|_| Error::Memory)?;
+        given.extend(malformed.iter().flat_map(|l| l.to_le_bytes()));
         let mut block = r.block;
         let [u0, u1, u2, u3] = r.tables();
         let (head, [t0, t1, t2, t3, t4, t5, t6]) = self.tables_mut();

@@ -1,6 +1,9 @@
 //! A list's life through the wrapper.
 
-use seek::{Area, Brings, Error, Frame, Hint, Hinted, Lacking, List, Plan, contents, first_record, load_disc, save_disc, sum};
+use seek::{
+    Area, Brings, Checkpoint, Confirmation, Error, Frame, Held, Hint, Hinted, Lacking, List, Plan, contents, first_record, load_disc, save_disc, sum,
+    version,
+};
 
 fn area() -> Area {
     Area { slot: 0, channels: 2, key_start: 1000, key_end: 1399, sectors: 1550, start: 1000, end: 1400 }
@@ -212,4 +215,36 @@ fn a_disc_file_holds_both_lists() {
     let mut changed = disc.clone();
     changed[100] ^= 1;
     assert_eq!(load_disc(a0, a1, &changed, u64::MAX).err(), Some(Error::FileSum));
+}
+
+#[test]
+fn what_a_list_holds_by_number() {
+    let mut list = List::load(area(), &file(5), u64::MAX).unwrap();
+    assert_eq!((list.area(), list.interval(), list.budget(), list.spacing(), list.hint_limit()), (area(), 50, 4096, 8, 2048));
+    assert_eq!((list.frontier(), list.end(), list.image(), list.parts(), list.malformed()), (1200, None, None, 1, 0));
+    assert_eq!(list.checkpoint(2), Some(Checkpoint { lsn: 1100, threshold: 150, back: 40, malformed: 0, digest: 2 }));
+    assert_eq!((list.checkpoint(5), list.checkpoint(u64::MAX), list.boundary(7), list.boundary(8)), (None, None, Some(1350), None));
+    assert_eq!(list.held(0), Some(Held { checkpoint: 2, start: 1060, length: 300, number: 149, remaining: -7, dsd: true }));
+    assert_eq!((list.held(1), list.malformed_at(0), list.hint_at(0), list.confirmation(0)), (None, None, None, None));
+    list.add_hints(&[Hint { lsn: 1003, number: 4 }]).unwrap();
+    list.bind_fingerprint(7).unwrap();
+    assert!(list.keep_confirmation(1003, 4, 11).unwrap() && list.is_fingerprint_checked());
+    assert_eq!((list.hint_at(0), list.hint_at(1)), (Some(Hint { lsn: 1003, number: 4 }), None));
+    assert_eq!(list.confirmation(0), Some(Confirmation { lsn: 1003, threshold: 4, digest: 11 }));
+    assert_eq!(list.try_clone().unwrap().save(), list.save());
+    assert!(format!("{list:?}").starts_with("List { area: Area { slot: 0, channels: 2"));
+    assert!(version() >= 10100);
+}
+
+#[test]
+fn from_does_not_choose_where_recording_begins() {
+    let mut list = List::new(area(), 50, 4096, 8, 2048).unwrap();
+    let mut r = list.recorder(1399).unwrap();
+    assert_eq!(r.due(), Some(1000));
+    r.record(1000, 0, 0, None, &sector(0)).unwrap();
+    assert_eq!(list.absorb(&mut r, None, &[]), Err(Error::AbsorbJoins));
+    let mut r = list.recorder(1000).unwrap();
+    r.record(1000, 0, 0, None, &sector(0)).unwrap();
+    list.absorb(&mut r, None, &[]).unwrap();
+    assert_eq!((list.frontier(), r.due(), r.checkpoints()), (1000, Some(1050), 0));
 }
