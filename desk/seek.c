@@ -182,7 +182,7 @@ static int words_of(int argc, char **argv, char **words, int *n, const char **as
         else if (!strcmp(argv[i], "--help") || !strcmp(argv[i], "-h"))
             *asked = help;
         else if (!strcmp(argv[i], "--version"))
-            *asked = "seek " SEEK_VERSION "\n";
+            *asked = "seek " SEEK_VERSION_TEXT "\n";
         else
             status = option(argc, argv, &i);
     }

@@ -14,8 +14,6 @@
 
 #include "seek.h"
 
-#define SEEK_VERSION "1.0"
-
 enum { DONE = 0, REFUSED = 1, USAGE = 2 };
 
 /* ---- options */
