@@ -18,8 +18,7 @@ ARCHIVE = target/libseek.a
 SHARED = target/libseek.so.$(VERSION)
 HEADERS = include/seek.h include/seek_file.h
 DESK = desk/seek.c $(wildcard desk/seek/*.c)
-# the desk's program uses the names of version 1.0
-SEEK = $(CC) $(CFLAGS) -std=c99 -Wall -Wextra -Iinclude -DSEEK_OLD_NAMES $(LDFLAGS)
+SEEK = $(CC) $(CFLAGS) -std=c99 -Wall -Wextra -Iinclude $(LDFLAGS)
 
 all: $(ARCHIVE) $(SHARED)
 

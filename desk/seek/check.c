@@ -21,7 +21,7 @@ static const char *reason(const File *f)
     static const char *lengths[] = {NULL, "the file was cut", "a newline lies behind it", "something lies behind it"};
     if (f->bytes.foreign)
         return f->bytes.kind ? f->bytes.kind : "neither a list file nor a disc file";
-    return f->length ? lengths[f->length] : f->number == SEEK_DISC ? "its contents table breaks the rules" : seek_text(f->number);
+    return f->length ? lengths[f->length] : f->number == SEEK_NO_DISC ? "its contents table breaks the rules" : seek_text(f->number);
 }
 
 static void refused_line(const File *f) { say(0, 2, "%s: refused (%u): %s", f->at ? f->at->name : shown(f->name), f->number, reason(f)); }

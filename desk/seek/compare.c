@@ -151,8 +151,8 @@ void each_apart(const Drawer *d, int group, void (*line)(const char *text))
     for (i = 0; i < d->n; i++)
         if (d->items[i].group == group && d->items[i].set == i)
             set_beside_others(d, i, done, done + d->n, line);
-    what_to_do(d, group, SEEK_MERGE_IDS, line);
-    what_to_do(d, group, SEEK_MERGE_CHECKPOINTS, line);
+    what_to_do(d, group, SEEK_NO_MERGE_IDS, line);
+    what_to_do(d, group, SEEK_NO_MERGE_CHECKPOINTS, line);
     free(done);
 }
 
@@ -257,7 +257,7 @@ static void pair_json(const Drawer *d, int a, int b)
     json_number("refused", number);
     fputc(',', opt.told);
     json_name("meaning", seek_text(number));
-    if (number == SEEK_MERGE_CHECKPOINTS && j >= 0) {
+    if (number == SEEK_NO_MERGE_CHECKPOINTS && j >= 0) {
         json_number("checkpoint", (uint64_t)j);
         json_number("sector", x->area.start + (uint64_t)j * seek_interval(&x->list));
         json_time("time", 1, field(x->list.checkpoints.at + 24 * j, 4));

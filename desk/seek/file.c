@@ -34,13 +34,13 @@ static uint32_t sizes_of(List *l, seek_table_sizes *sizes)
     if (number)
         return number;
     number = seek_file_sizes(&l->area, l->bytes, l->length, UINT64_MAX, sizes);
-    if (number == SEEK_AREA) {
+    if (number == SEEK_NO_AREA) {
         seek_area other = l->area;
         uint32_t sooner;
         other.slot = other.slot ? 1 : 0;
         other.start = other.end = 0;
         sooner = seek_file_sizes(&other, l->bytes, l->length, UINT64_MAX, sizes);
-        if (sooner >= SEEK_FILE_SHORT && sooner <= SEEK_FILE_BUDGET)
+        if (sooner >= SEEK_NO_FILE_SHORT && sooner <= SEEK_NO_FILE_BUDGET)
             return sooner;
     }
     return number;
@@ -97,7 +97,7 @@ static int newline_behind(const List *l)
 {
     List shorter = *l;
     seek_table_sizes sizes;
-    if (l->number != SEEK_FILE_SUM || l->bytes[l->length - 1] != '\n')
+    if (l->number != SEEK_NO_FILE_SUM || l->bytes[l->length - 1] != '\n')
         return 0;
     shorter.length -= l->bytes[l->length - 2] == '\r' ? 2 : 1;
     return sizes_of(&shorter, &sizes) == 0;
@@ -235,7 +235,7 @@ int open_file(File *f, const char *name)
     f->name = name;
     status = read_bytes(name, &f->bytes);
     if (status == DONE && f->bytes.foreign)
-        f->number = SEEK_DISC;
+        f->number = SEEK_NO_DISC;
     else if (status == DONE)
         status = is_list_file(&f->bytes) ? open_list(f) : open_disc(f);
     f->unread = status != DONE;

@@ -4,21 +4,21 @@
 /* What to do about a refused file. */
 const char *advice(uint32_t number)
 {
-    if (opt.ranged && number >= SEEK_FILE_COUNTS && number <= SEEK_FILE_CONFIRMATIONS)
+    if (opt.ranged && number >= SEEK_NO_FILE_COUNTS && number <= SEEK_NO_FILE_CONFIRMATIONS)
         return "See that --range gives the sectors of this disc; else keep the file, and have the disc read again.";
     switch (number) {
-    case SEEK_AREA: return "Give the right sectors with --range.";
-    case SEEK_FILE_SHORT:
-    case SEEK_FILE_SUM:
-    case SEEK_FILE_LEFT_OVER: return "Ask the school to send it again. If it comes the same, have the disc read again; the player makes a new list.";
-    case SEEK_FILE_MAGIC: return "Ask the school for the list file; this is something else, or only a piece of it.";
-    case SEEK_FILE_VERSION: return "A newer player wrote it. Keep it, and use a newer version of this program.";
-    case SEEK_FILE_AREA: return "It belongs to another disc or to the other area of this disc. Keep it there.";
-    case SEEK_MERGE_AREA: return "They belong to different areas or discs, or were recorded with different intervals. Keep both.";
-    case SEEK_MERGE_IDS: return "They were made from different discs or pressings. Keep both, each with its disc.";
-    case SEEK_MERGE_CHECKPOINTS: return "One of them is false for this disc. Keep both, and have the disc read again.";
-    case SEEK_ROOM: return "There is not enough memory for this list.";
-    case SEEK_DISC: return "It begins neither as a list file nor as a right disc file. Ask the school whether it is the right file; if so, to send it again.";
+    case SEEK_NO_AREA: return "Give the right sectors with --range.";
+    case SEEK_NO_FILE_SHORT:
+    case SEEK_NO_FILE_SUM:
+    case SEEK_NO_FILE_LEFT_OVER: return "Ask the school to send it again. If it comes the same, have the disc read again; the player makes a new list.";
+    case SEEK_NO_FILE_MAGIC: return "Ask the school for the list file; this is something else, or only a piece of it.";
+    case SEEK_NO_FILE_VERSION: return "A newer player wrote it. Keep it, and use a newer version of this program.";
+    case SEEK_NO_FILE_AREA: return "It belongs to another disc or to the other area of this disc. Keep it there.";
+    case SEEK_NO_MERGE_AREA: return "They belong to different areas or discs, or were recorded with different intervals. Keep both.";
+    case SEEK_NO_MERGE_IDS: return "They were made from different discs or pressings. Keep both, each with its disc.";
+    case SEEK_NO_MERGE_CHECKPOINTS: return "One of them is false for this disc. Keep both, and have the disc read again.";
+    case SEEK_NO_ROOM: return "There is not enough memory for this list.";
+    case SEEK_NO_DISC: return "It begins neither as a list file nor as a right disc file. Ask the school whether it is the right file; if so, to send it again.";
     default: return "Keep the file, and have the disc read again; the player makes a new list.";
     }
 }
@@ -56,7 +56,7 @@ int refused_list(const List *l)
 {
     if (opt.json)
         refused_json(l->file, l->in_disc ? l->area.slot : -1, l->number);
-    else if (l->in_disc && l->number == SEEK_FILE_AREA && !opt.area)
+    else if (l->in_disc && l->number == SEEK_NO_FILE_AREA && !opt.area)
         refused_text(l->name, l->number, "The contents table names it under the wrong area. Ask the school for the list file itself, or have the disc read again.");
     else
         refused_text(l->name, l->number, advice(l->number));

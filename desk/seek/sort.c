@@ -157,7 +157,7 @@ static void find_groups(Drawer *d)
     for (i = 0; i < d->n; i++) {
         d->items[i].group = -1;
         for (j = 0; j < i && d->items[i].group < 0; j++)
-            if (d->items[j].group == j && ask_beside(d->items[j].list, d->items[i].list).number != SEEK_MERGE_AREA)
+            if (d->items[j].group == j && ask_beside(d->items[j].list, d->items[i].list).number != SEEK_NO_MERGE_AREA)
                 d->items[i].group = j;
         if (d->items[i].group < 0)
             d->items[i].group = i;

@@ -175,7 +175,7 @@ void apart(Text *t, const List *a, const List *b, uint32_t number)
 {
     int j = differ_at(a, b);
     add(t, "cannot be merged (%u): ", number);
-    if (number != SEEK_MERGE_CHECKPOINTS)
+    if (number != SEEK_NO_MERGE_CHECKPOINTS)
         add(t, "%s", seek_text(number));
     else if (j < 0)
         add(t, "they agree about every checkpoint and differ about the end of the area (%s and %s)", clock_of(seek_end_threshold(&a->list)),

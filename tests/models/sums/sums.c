@@ -54,7 +54,7 @@ static void sum(const uint8_t *bytes, size_t length)
 /* The sum as 32 bits where the width is 32. */
 static void fold(unsigned width, uint64_t s, uint32_t k)
 {
-    uint32_t number = model_folds(width, k) ? 0 : SEEK_FOLD, no, short_fold = 77;
+    uint32_t number = model_folds(width, k) ? 0 : SEEK_NO_FOLD, no, short_fold = 77;
     uint64_t folded = number ? 0 : model_fold(s, k), long_fold = 77;
     if (width == 32) {
         no = seek_fold32((uint32_t)s, k, &short_fold);
@@ -72,7 +72,7 @@ static void fold(unsigned width, uint64_t s, uint32_t k)
 static void block(unsigned width, uint64_t s, uint32_t k, size_t length)
 {
     uint8_t answer[SEEK_BLOCK + 8], before[SEEK_BLOCK + 8];
-    uint32_t number = length < SEEK_BLOCK ? SEEK_ROOM : model_folds(width, k) ? 0 : SEEK_FOLD, no;
+    uint32_t number = length < SEEK_BLOCK ? SEEK_NO_ROOM : model_folds(width, k) ? 0 : SEEK_NO_FOLD, no;
     memset(answer, 0xa5, sizeof answer);
     memset(before, 0xa5, sizeof before);
     if (number == 0) {
