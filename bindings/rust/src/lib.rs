@@ -142,13 +142,21 @@ pub struct Brings {
 /// What another list holds and this one does not: how many of each, and whether of what there is once at most.
 #[derive(Clone, Copy, Debug, Default, PartialEq, Eq)]
 pub struct Lacking {
+    /// How many checkpoints the other has more.
     pub checkpoints: u64,
+    /// The other has an end state.
     pub end_state: bool,
+    /// Held parts, by bytes, number, kind and remaining.
     pub parts: u64,
+    /// Malformed sectors.
     pub malformed: u64,
+    /// Hints, by sector and number.
     pub hints: u64,
+    /// Confirmations, by sector and digest, with a threshold not above.
     pub confirmations: u64,
+    /// The other states a fingerprint.
     pub fingerprint: bool,
+    /// The other has an image id, which is not saved.
     pub image: bool,
     /// The other's budget is larger.
     pub budget: bool,
