@@ -1,10 +1,11 @@
 -- The sizes of a file, the length of a list's file, and the area that a file is of. Assumes nothing.
 use Prim.Native.Nat.{ℕ, _-_, _<_, _≤_}
 use mathlib.Core.Path.{_≡_, refl, ap, _∙_}
-use mathlib.Core.Bool.{true, false}
+use mathlib.Core.Bool.{Bool, true, false, cond}
 use mathlib.Core.List.{List}
 use native.Mathlib.Omega.{arith}
 use borrow.Author.Tests.{le-leb, lt-leb, eq-eqb, ne-eqb}
+use lib.Dec.{eqb}
 use lib.ListN.{length, take, length-take}
 use Rattle.field.specs.Number.{decode}
 use Rattle.field.specs.Records.{Bytes}
@@ -15,7 +16,8 @@ use Rattle.rules.specs.Questions.{areaOk, question1}
 use Rattle.rules.specs.declared.AreaIndex.{AreaIndex}
 use Rattle.rules.specs.declared.Header.{Header}
 use Rattle.rules.specs.File.{readHeader, savedLength}
-use Rattle.rules.specs.Load.{bodyIn, keyOf, fromBytes, limited}
+use Rattle.fnv.specs.Fnv.{fnv64}
+use Rattle.rules.specs.Load.{bodyIn, sumIn, keyOf, fileNumber, fromBytes, limited}
 use Rattle.laws.proofs.Loaded.{loaded-valid}
 use Rattle.index.specs.Index.{Tables, indexIn, refusal, numbersFrom}
 use Rattle.inspect.specs.declared.Found.{Found}
@@ -25,7 +27,7 @@ use Rattle.sizes.specs.declared.lengths.TableSizes.{TableSizes}
 use Rattle.sizes.specs.LengthsSizes.{limitedSizes, rangeOf}
 use Rattle.sizes.specs.declared.FileArea.the-variants as found
 use Rattle.sizes.specs.declared.Sized.the-variants as sized
-use Rattle.sizes.specs.Sizes.{sizedOf, fileSizes, fileLength, fileArea, fileAreaOf}
+use Rattle.sizes.specs.Sizes.{sizedOf, fileSizes, fileLength, beforeSum, fileArea, fileAreaOf}
 
 -- ---- what inspecting says of the file
 passed-is : (b : List ℕ) (found : Found) (r : Answer Index) → inspected.Passed found ≡ inspectionOf b r
@@ -75,9 +77,14 @@ module _ (x : AreaIndex) (t : Tables) {n : ℕ} (e : n ≡ refusal x t) where
   length-told z q = rw (← e, z, q)
 
 -- ---- the area that a file is of
+-- 22 is not asked
+unasked : (s : Bool) → _≡_ {A = ℕ} (cond (eqb (cond s 0 22) 22) 0 (cond s 0 22)) 0
+unasked true = refl
+unasked false = refl
+
 module _ (b : List ℕ) where
   pub no-length : length b < 8 → fileAreaOf (found.Refused 20) ≡ fileArea b
-  unfolding fileAreaOf fileArea firstNo after
+  unfolding fileAreaOf fileArea fileNumber beforeSum firstNo after
   no-length h = rw (lt-leb 8 (length b) h)
 
   body-length : 8 ≤ length b → length (bodyIn b) ≡ length b - 8
@@ -85,7 +92,7 @@ module _ (b : List ℕ) where
 
   module _ (h : 8 ≤ length b) where
     pub no-body : length b - 8 < 80 → fileAreaOf (found.Refused 21) ≡ fileArea b
-    unfolding fileAreaOf fileArea firstNo after
+    unfolding fileAreaOf fileArea fileNumber beforeSum firstNo after
     no-body g = rw (le-leb 8 (length b) h, body-length h, lt-leb 80 (length b - 8) g)
 
     module _ (g : 80 ≤ length b - 8) {r : Header} (i : r ≡ readHeader (take (length b - 8 - 0) b)) where
@@ -93,9 +100,9 @@ module _ (b : List ℕ) where
       e = i ∙ ap (λ n. readHeader (take n b)) (let z : length b - 8 - 0 ≡ length b - 8 = omega arith in z)
 
       pub no-magic : (r .magic ≡ 6361698709525447251 → ⊥) → fileAreaOf (found.Refused 21) ≡ fileArea b
-      unfolding fileAreaOf fileArea firstNo after decode
+      unfolding fileAreaOf fileArea fileNumber beforeSum firstNo after decode
       no-magic n = rw (le-leb 8 (length b) h, body-length h, le-leb 80 (length b - 8) g, ← e, ne-eqb (r .magic) 6361698709525447251 n)
 
       pub area-there : {a : Area} → r .magic ≡ 6361698709525447251 → a ≡ rangeOf (keyOf r) → fileAreaOf (found.Area a) ≡ fileArea b
-      unfolding fileAreaOf fileArea firstNo after decode
-      area-there m q = rw (le-leb 8 (length b) h, body-length h, le-leb 80 (length b - 8) g, ← e, eq-eqb (r .magic) 6361698709525447251 m, q)
+      unfolding fileAreaOf fileArea fileNumber beforeSum firstNo after decode
+      area-there m q = rw (le-leb 8 (length b) h, body-length h, le-leb 80 (length b - 8) g, ← e, eq-eqb (r .magic) 6361698709525447251 m, unasked (eqb (fnv64 (bodyIn b)) (sumIn b)), q)

@@ -1,17 +1,16 @@
 -- How many bytes the tables of a list and its file take, and the area that a file is of.
 use Prim.Native.Nat.{ℕ, min}
-use mathlib.Core.Bool.{Bool, _&&_, cond}
+use mathlib.Core.Bool.{Bool, cond}
 use mathlib.Core.List.{List, [], _∷_}
 use lib.Dec.{eqb, leb}
 use lib.ListN.{length}
-use Rattle.field.specs.Number.{decode}
 use Rattle.rules.specs.declared.Area.{Area}
 use Rattle.rules.specs.declared.AreaIndex.{AreaIndex}
 use Rattle.rules.specs.Tests.{all, ask, firstNo, Answer, Refused, Accepted, after, bind}
 use Rattle.rules.specs.Values.{Index, maxHints}
 use Rattle.rules.specs.Questions.{areaOk, numbersOk}
-use Rattle.rules.specs.File.{readHeader, magicBytes, savedLength}
-use Rattle.rules.specs.Load.{keyOf, bodyIn, fromBytes, limited}
+use Rattle.rules.specs.File.{readHeader, savedLength}
+use Rattle.rules.specs.Load.{keyOf, bodyIn, fileNumber, fromBytes, limited}
 use Rattle.index.specs.Index.{Tables, indexIn, refusal}
 use Rattle.sizes.specs.declared.lengths.TableSizes.{TableSizes}
 use Rattle.sizes.specs.LengthsSizes.{sizesOf, rangeOf}
@@ -50,13 +49,13 @@ unfoldable pub fileLength : AreaIndex → Tables → ℕ
 fileLength x t = cond (eqb (refusal x t) 0) (savedLength (indexIn x t)) (refusal x t)
 
 -- ---- the area of a file
+-- loading's number where it is that of a question before 22
+unfoldable pub beforeSum : ℕ → ℕ
+beforeSum n = cond (eqb n 22) 0 n
+
 -- 20 and 21
 unfoldable pub fileArea : List ℕ → Answer Area
-fileArea b =
-    after
-    (firstNo
-    (ask (leb 8 (length b)) 20 ∷ ask (leb 80 (length (bodyIn b)) && eqb (readHeader (bodyIn b) .magic) (decode magicBytes)) 21 ∷ []))
-    (Accepted (rangeOf (keyOf (readHeader (bodyIn b)))))
+fileArea b = after (beforeSum (fileNumber b)) (Accepted (rangeOf (keyOf (readHeader (bodyIn b)))))
 
 unfoldable pub fileAreaOf : FileArea → Answer Area
 fileAreaOf (found.Refused n) = Refused n

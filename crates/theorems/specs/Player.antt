@@ -3,13 +3,14 @@ use Prim.Native.Nat.{ℕ, _/_, _≤_}
 use mathlib.Core.Path.{_≡_}
 use mathlib.Core.Bool.{Bool, true}
 use mathlib.Core.List.{List, [], _∷_}
+use mathlib.Core.Logic.{_≢_}
 use lib.Dec.{leb}
 use lib.ListN.{length}
 use Rattle.rules.specs.declared.Area.{Area}
 use Rattle.rules.specs.declared.AreaIndex.{AreaIndex}
 use Rattle.rules.specs.declared.HintRecorder.{HintRecorder}
 use Rattle.rules.specs.Tests.{all, ask, firstNo, Answer, Refused, Accepted, after, bind}
-use Rattle.rules.specs.Values.{Index, maxList}
+use Rattle.rules.specs.Values.{Index, maxList, sameKey}
 use Rattle.rules.specs.Values as values
 use Rattle.rules.specs.Questions.{areaOk, question3, recorderQuestion3}
 use Rattle.rules.specs.Load.{fromBytes, limited, load}
@@ -22,7 +23,7 @@ use Rattle.save.specs.declared.Saved.the-variants as saved
 use Rattle.save.specs.Save.{saveIn}
 use Rattle.sizes.specs.declared.lengths.TableSizes.{TableSizes}
 use Rattle.sizes.specs.LengthsSizes.{sizesOf}
-use Rattle.sizes.specs.Sizes.{sizesFor, hasSizes, fileSizes, fileLength}
+use Rattle.sizes.specs.Sizes.{sizesFor, hasSizes, fileSizes, fileLength, fileArea}
 use Rattle.player.specs.Block.{savedNumber}
 
 -- ---- saving
@@ -78,3 +79,12 @@ HintListIsSize = (list : List ℕ) → leb maxList (length list / 8) ≡ leb 524
 -- a hint recorder that is made has a spacing: a first word of 0 tells that there is none
 abbrev pub MadeHasSpacing : Type 0
 MadeHasSpacing = (x : AreaIndex) (t : Tables) (h : HintRecorder) → hintRecorderIn x t ≡ created.Recorder h → 1 ≤ h .spacing
+
+-- ---- the area of a file
+pub record FileAreaIsLoadings : Type 0 where
+  -- where it is refused, loading refuses with the same number under every area
+  pub refused : (b : List ℕ) (n : ℕ) → fileArea b ≡ Refused n → (a : Area) → fromBytes a b ≡ Refused n
+  -- the area that it gives is one that 26 accepts
+  pub accepted : (b : List ℕ) (a : Area) → fileArea b ≡ Accepted a → fromBytes a b ≢ Refused 26
+  -- every area under which the file loads has its key
+  pub loads : (a : Area) (b : List ℕ) (x : Index) → fromBytes a b ≡ Accepted x → (c : Area) × (fileArea b ≡ Accepted c) × (sameKey (c .key) (a .key) ≡ true)
