@@ -23,7 +23,7 @@ use Rattle.rules_lacks.specs.declared.Lacks.{Lacks}
 use Rattle.rules_lacks.specs.Lacks.{holdsAll}
 use Rattle.lacks.specs.Lacks.{lacksIn}
 use Rattle.theorems.specs.Adds.{SameAnswersInTables}
-use Rattle.theorems.specs.Demand3InTables.{LentIn}
+use Rattle.theorems.specs.TableRun.{LentIn}
 use Rattle.theorems.specs.Lacks.{Serves, HintServes}
 
 -- k says what h says, and its bytes in the store of t are those of h in that of u

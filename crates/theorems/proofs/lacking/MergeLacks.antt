@@ -120,7 +120,7 @@ unfolding lacking merge merged
 merge-lacks l m own other y e =
     let r = accepted→ (mergeNumber l own m other) (merged own other) y e in
     let t = joinable l m own other (taken l m own other (r .0)) in
-    let o = merge-takes l m own other y e in
+    let o = merge-takes l m own other y e .scan in
     let w : length (own .scan .parts) ≤ length (y .scan .parts) =
     subst (λ (z : Index). length (own .scan .parts) ≤ length (z .scan .parts)) (r .1) (merged-longer (own .scan) (other .scan)) in
     let n = merged-numbers (own .scan) (other .scan) in

@@ -320,7 +320,7 @@ merge-left l m own other y e =
     record {
       hints = own-hint own other y k o (c .area) ih;
       confirmed = own-confirmed own other y k o ic;
-      parts' = other-part (own .scan) (other .scan) (y .scan) (joinable l m own other c) (merge-takes l m own other y e);
+      parts' = other-part (own .scan) (other .scan) (y .scan) (joinable l m own other c) (merge-takes l m own other y e .scan);
       hints' = other-hint own other y k o (c .area) ih;
       confirmed' = other-confirmed own other y k o ic;
     }
