@@ -260,7 +260,7 @@ static void pair_json(const Drawer *d, int a, int b)
     if (number == SEEK_NO_MERGE_CHECKPOINTS && j >= 0) {
         json_number("checkpoint", (uint64_t)j);
         json_number("sector", x->area.start + (uint64_t)j * seek_interval(&x->list));
-        json_time("time", 1, field(x->list.checkpoints.at + 24 * j, 4));
+        json_time("time", 1, threshold_at(x, (uint64_t)j));
     }
     fputs("}\n", opt.told);
 }

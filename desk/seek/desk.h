@@ -116,7 +116,7 @@ uint64_t frontier_frame(const List *l);
 uint64_t malformed_counted(const List *l);
 uint64_t held_bytes(const List *l);
 uint64_t coverage(const List *l);
-uint64_t field(const uint8_t *at, unsigned width);
+uint64_t threshold_at(const List *l, uint64_t j);
 
 /* ---- refusals */
 const char *advice(uint32_t number);

@@ -155,9 +155,9 @@ static int salvage(File *f)
     uint64_t i, last = 0, n = f->bytes.length;
     seek_table_sizes sizes;
     f->disc = 1;
-    for (i = 0; i < field(table, 4) && 16 + 12 * i <= n; i++) {
+    for (i = 0; i < seek_bytes(table, 4) && 16 + 12 * i <= n; i++) {
         const uint8_t *entry = table + 4 + 12 * i;
-        uint64_t s = field(entry, 4), offset = field(entry + 4, 4), length = field(entry + 8, 4);
+        uint64_t s = seek_bytes(entry, 4), offset = seek_bytes(entry + 4, 4), length = seek_bytes(entry + 8, 4);
         last = offset + length > last ? offset + length : last;
         if (s > 1 || f->present[s] || offset + length > n)
             continue;

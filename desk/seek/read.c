@@ -59,7 +59,7 @@ static int is_foreign(const Bytes *b)
     uint64_t count;
     if (b->length < 8 || !memcmp(b->at, "SBSEEKIX", 8))
         return 0;
-    count = field(b->at, 4);
+    count = seek_bytes(b->at, 4);
     return count != 1 && count != 2;
 }
 

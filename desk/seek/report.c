@@ -42,18 +42,17 @@ static uint64_t frame_at(const List *l, uint64_t lsn)
     j = (lsn - l->area.start) / interval;
     if (j >= n)
         return frontier_frame(l);
-    from = field(l->list.checkpoints.at + 24 * j, 4);
-    to = j + 1 < n ? field(l->list.checkpoints.at + 24 * (j + 1), 4) : frontier_frame(l);
+    from = threshold_at(l, j);
+    to = j + 1 < n ? threshold_at(l, j + 1) : frontier_frame(l);
     return from + (to - from) * (lsn - l->area.start - j * interval) / interval;
 }
 
 static uint64_t last_hint(const List *l)
 {
-    uint64_t i, most = 0;
-    for (i = 0; i < seek_hint_count(&l->list); i++) {
-        uint64_t v = field(l->list.hints.at + 8 * i + 4, 4);
-        most = v > most ? v : most;
-    }
+    uint64_t i;
+    uint32_t lsn, number, most = 0;
+    for (i = 0; seek_hint_at(&l->list, i, &lsn, &number); i++)
+        most = number > most ? number : most;
     return most;
 }
 
@@ -95,9 +94,9 @@ static void draw_parts(const List *l, uint64_t axis, int y)
 {
     uint64_t i;
     double last = 0;
-    for (i = 0; i < seek_part_count(&l->list); i++) {
-        uint64_t j = field(l->list.parts.at + 24 * i, 4);
-        double x = place(field(l->list.checkpoints.at + 24 * j, 4), axis);
+    seek_held part;
+    for (i = 0; seek_held_at(&l->list, i, &part); i++) {
+        double x = place(threshold_at(l, part.checkpoint), axis);
         if (x >= last + 1)
             mark_part(last = x, y);
     }
@@ -107,8 +106,9 @@ static void draw_malformed(const List *l, uint64_t axis, int y)
 {
     uint64_t i;
     double last = 0;
-    for (i = 0; i < seek_malformed_count(&l->list); i++) {
-        double x = place(frame_at(l, field(l->list.malformed.at + 4 * i, 4)), axis);
+    uint32_t lsn;
+    for (i = 0; seek_malformed_at(&l->list, i, &lsn); i++) {
+        double x = place(frame_at(l, lsn), axis);
         if (x >= last + 1)
             add(&page, "<path class=\"bad\" d=\"M%.1f %dl-4 -6h8z\"/>\n", last = x, y);
     }
@@ -119,9 +119,9 @@ static void draw_hints(const List *l, uint64_t axis, int y)
 {
     unsigned bins[BINS] = {0}, most = 1, b;
     uint64_t i;
-    for (i = 0; i < seek_hint_count(&l->list); i++) {
-        uint64_t v = field(l->list.hints.at + 8 * i + 4, 4);
-        b = v >= axis ? BINS - 1 : (unsigned)(v * BINS / axis);
+    uint32_t lsn, number;
+    for (i = 0; seek_hint_at(&l->list, i, &lsn, &number); i++) {
+        b = number >= axis ? BINS - 1 : (unsigned)((uint64_t)number * BINS / axis);
         most = ++bins[b] > most ? bins[b] : most;
     }
     for (b = 0; b < BINS; b++)

@@ -182,5 +182,5 @@ void apart(Text *t, const List *a, const List *b, uint32_t number)
             clock_of(seek_end_threshold(&b->list)));
     else
         add(t, "they differ from checkpoint %s on, sector %s (%s)", grouped((uint64_t)j), grouped(a->area.start + (uint64_t)j * seek_interval(&a->list)),
-            clock_of(field(a->list.checkpoints.at + 24 * j, 4)));
+            clock_of(threshold_at(a, (uint64_t)j)));
 }
