@@ -93,7 +93,7 @@ int main(int argc, char **argv)
            && take_in(&list, &recorder, &hinter) && save(&list, argv[1]);
     if (done)
         printf("%u checkpoints, %u held parts, %u hints, %s\n", (unsigned)seek_checkpoint_count(&list), (unsigned)seek_part_count(&list),
-               (unsigned)seek_hint_count(&list), seek_is_complete(&list) ? "to the end of the disc" : "not to the end of the disc");
+               (unsigned)seek_hint_count(&list), seek_is_complete(&list) ? "to the end of the area" : "not to the end of the area");
     free(memory);
     return done ? 0 : 1;
 }

@@ -220,7 +220,7 @@ static inline const char *seek_text(uint32_t number)
     case SEEK_NO_OUTPUT: return "the output is too short";
     case SEEK_NO_MERGE_AREA: return "the lists are of different areas or intervals";
     case SEEK_NO_MERGE_IDS: return "the lists have different image ids or fingerprints";
-    case SEEK_NO_MERGE_CHECKPOINTS: return "the lists disagree about a checkpoint or the end of the disc";
+    case SEEK_NO_MERGE_CHECKPOINTS: return "the lists disagree about a checkpoint or the end state";
     case SEEK_NO_FOLD: return "k is not between half the width and the width less one";
     case SEEK_NO_DISC: return "the disc file's contents table breaks its rules, or two lists share a slot, or one is too long";
     default: return "no such number";

@@ -80,7 +80,7 @@ errors! {
     Output = 40, "the output is too short";
     MergeArea = 41, "the lists are of different areas or intervals";
     MergeIds = 42, "the lists have different image ids or fingerprints";
-    MergeCheckpoints = 43, "the lists disagree about a checkpoint or the end of the disc";
+    MergeCheckpoints = 43, "the lists disagree about a checkpoint or the end state";
     Fold = 49, "k is not between half the width and the width less one";
     Disc = 54, "the disc file's contents table breaks its rules, or two lists share a slot, or one is too long";
     Memory = 200, "there is no memory for it";
