@@ -10,6 +10,8 @@ use rules::Area;
 use rules::AreaIndex;
 use rules::HINT_REACH;
 use rules::Hinted;
+use rules_jump::HintEnd;
+use rules_jump::HintStart;
 use tables::read_hint;
 ghost use mathlib.Core.Path.{_≡_};
 ghost use Prim.Native.Nat.{_*_, _≤_, _<_};
@@ -17,14 +19,22 @@ ghost use lib.ListN.{length, drop};
 ghost use Rattle.rules.specs.Hints.{firstFrom};
 ghost use Rattle.tables.specs.Tables.{hintsIn};
 ghost use Rattle.index.specs.Index.{tables};
-ghost use Rattle.hint.specs.Calls.{hintedOf, answerOf, hintIn};
+ghost use Rattle.hint.specs.Calls.{namedOf, answerOf, hintIn};
+ghost use Rattle.rules_jump.specs.Names.{named, namedEnd};
 ghost use Rattle.hint.specs.Needs.{Ready, laterEnd, hintedFrom, answerIn};
 
 // A refusal number, that no hint is near, or the read.
 pub enum HintAnswer {
     Refused(u32),
     Nothing,
-    Hinted(Hinted),
+    Hinted(NamedHint),
+}
+
+// The read, how its hint was chosen, and where its upper end came from.
+pub struct NamedHint {
+    pub hint: Hinted,
+    pub start: HintStart,
+    pub end: HintEnd,
 }
 
 // The upper end through the first of the hints from place i on that is numbered end or more, if at most 64 frames past it; 0 where there is none.
@@ -46,26 +56,56 @@ fn later_end(hints: &[u8], n: usize, i: usize, end: u32) -> u64
     0
 }
 
+// An upper end at the area's end is named so instead.
+fn named_end(area: Area, upper: u64, rule: HintEnd) -> HintEnd
+    ensures { λ r. ⌜ r ≡ namedEnd area upper rule ⌝ }
+{
+    if upper == area.end {
+        return HintEnd::AreaEnd;
+    }
+    rule
+}
+
 // The read from the hint at place i on.
-fn hinted_from(area: Area, hints: &[u8], n: usize, i: usize, end: u32, playtime: u32) -> Hinted
+fn hinted_from(
+    area: Area,
+    hints: &[u8],
+    n: usize,
+    i: usize,
+    end: u32,
+    playtime: u32,
+    start: HintStart,
+) -> NamedHint
     requires { ⌜ (n * 8 ≤ length (now hints)) × (i < n) × (area .start ≤ area .end) × (area .end ≤ 4294967295) ⌝ }
-    ensures { λ r. ⌜ hintedOf r ≡ hintedFrom area (hintsIn n (now (hints .entry))) i end playtime ⌝ }
+    ensures { λ r. ⌜ namedOf r ≡ named area (hintsIn n (now (hints .entry))) end playtime start i (hintedFrom area (hintsIn n (now (hints .entry))) i end playtime) ⌝ }
 {
     let h = read_hint(hints, i);
     let upper = later_end(hints, n, i + 1, end);
     if upper != 0 {
-        return Hinted {
+        let hint = Hinted {
             lsn: h.lsn,
             number: h.number,
             upper,
             later: true,
         };
+        return NamedHint {
+            hint,
+            start,
+            end: named_end(area, upper, HintEnd::Later),
+        };
     }
-    Hinted {
+    let e = local_end(area, hints, n, i, end, playtime);
+    let rule = e.rule;
+    let hint = Hinted {
         lsn: h.lsn,
         number: h.number,
-        upper: local_end(area, hints, n, i, end, playtime),
+        upper: e.upper,
         later: false,
+    };
+    NamedHint {
+        hint,
+        start,
+        end: named_end(area, e.upper, rule),
     }
 }
 
@@ -85,11 +125,13 @@ fn hint_in(
     let f = x.fingerprint;
     let n = x.hints as usize;
     let m = x.confirmed as usize;
-    let count = hint_place(hints, n, confirmed, m, is_checked(f), first);
+    let found = hint_place(hints, n, confirmed, m, is_checked(f), first);
+    let count = found.count;
+    let start = found.start;
     if count == 0 {
         return HintAnswer::Nothing;
     }
-    HintAnswer::Hinted(hinted_from(area, hints, n, count - 1, end, playtime))
+    HintAnswer::Hinted(hinted_from(area, hints, n, count - 1, end, playtime, start))
 }
 
 // The hint to begin at for frames first to end, and the end of the read.

@@ -18,12 +18,12 @@ use Rattle.rules.specs.Values.{noHint, hintReach}
 use Rattle.rules.specs.File.{decodeHint}
 use Rattle.rules.specs.Hints.{near, confirmedAt, larger, largerOf, largestOf, hintPlace}
 use Rattle.rules.proofs.Tests.{test, never, and-left}
+use Rattle.rules_jump.specs.Names.{chosenBy, startRule}
+use Rattle.rules_jump.proofs.Largest.{largest-holds}
+use Rattle.rules_jump.specs.declared.HintStart.the-variants.{Confirmed, Nearest}
 use Rattle.tables.specs.Tables.{hintsIn}
 use Rattle.plan.specs.Search.{lastIn}
 use Rattle.hint.specs.Place.{candidate, largestIn}
-
-some-is : {a b : ℕ} → _≡_ {A = Option ℕ} (some a) (some b) → a ≡ b
-some-is e = cc
 
 -- ---- near
 -- by how far the number is above the lower bound, modulo 2^32
@@ -135,22 +135,13 @@ module _ (checked : Bool) (n : ℕ) (t : List ℕ) (cs : List Confirmation) (fir
   unfolding hintPlace orElse largestIn candidate lastIn
   place-any {best} {o} e z g = g ∙ near-all ∙ sym (rw (records-length, ← e, z))
 
--- ---- a largest one passes its test
-module _ (p : ℕ → Bool) (hs : List Hint) where
-  larger-holds : (k : ℕ) (o : Option ℕ) (i : ℕ) → ((m : ℕ) → o ≡ some m → (m < k) × (p m ≡ true)) → p k ≡ true → some (largerOf hs o k) ≡ some i
-      → (i < suc k) × (p i ≡ true)
-  unfolding largerOf
-  larger-holds k none i h y e = let q : k ≡ i = cc in (omega arith, rw (← q) y)
-  larger-holds k (some m) i h y e =
-      test (larger hs m k) (λ w. let q : k ≡ i = some-is (rw w at e) in (omega arith, rw (← q) y))
-      (λ w. let q : m ≡ i = some-is (rw w at e) in let r = h m refl in (let l = r .0 in omega arith, rw (← q) (r .1)))
+  pub start-confirmed : {best : ℕ} → lastIn best ≡ largestIn checked false hs cs first n → (best ≡ 0 → ⊥) → Confirmed ≡ startRule checked hs cs first
+  unfolding startRule chosenBy largestIn candidate
+  start-confirmed {best} e z = sym (rw (records-length, ← e, last-some best z))
 
-  largest-holds : (n i : ℕ) → largestOf p hs n ≡ some i → (i < n) × (p i ≡ true)
-  unfolding largestOf
-  largest-holds zero i e = let z : _≡_ {A = ℕ} 0 1 = cc in let f : ⊥ = omega arith in absurd f
-  largest-holds (suc n) i e =
-      test (p n) (λ y. larger-holds n (largestOf p hs n) i (λ m. largest-holds n m) y (rw y at e))
-      (λ y. let r = largest-holds n i (rw y at e) in (let l = r .0 in omega arith, r .1))
+  pub start-nearest : {best : ℕ} → lastIn best ≡ largestIn checked false hs cs first n → best ≡ 0 → Nearest ≡ startRule checked hs cs first
+  unfolding startRule chosenBy largestIn candidate lastIn
+  start-nearest {best} e z = sym (rw (records-length, ← e, z))
 
 or-holds : (P : ℕ → Type 0) (o o' : Option ℕ) (i : ℕ) → (o ≡ some i → P i) → (o' ≡ some i → P i) → orElse o o' ≡ some i → P i
 unfolding orElse

@@ -1,0 +1,5 @@
+pub mod Chosen
+pub mod JumpExamples
+pub mod Largest
+pub mod Named
+pub mod Values

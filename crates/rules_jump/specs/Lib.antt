@@ -1,0 +1,3 @@
+pub mod JumpExamples
+pub mod Names
+pub mod Statements
