@@ -16,6 +16,7 @@ use Rattle.rules.specs.declared.Plan.the-variants as plan
 use Rattle.rules.specs.declared.Recorder.{Recorder}
 use Rattle.rules.specs.File.{unsigned32, kindNumber, bit, over}
 use Rattle.rules.specs.Tests.{Answer, Refused, Accepted}
+use Rattle.rules_jump.specs.Names.{planRule, planRuleNumber}
 use Rattle.adds.specs.declared.Brings.{Brings}
 use Rattle.blocks.specs.From.{indexFrom, recorderFrom, hintRecorderFrom}
 use Rattle.blocks.specs.Head.{wordsIn, blockOf}
@@ -71,18 +72,22 @@ assemblyWords (Stored p) =
       len = p .len;
     }
 
-abbrev pub planArray : ℕ → ℕ → ℕ → ℕ → ℕ → ℕ → ℕ → HeldWords → List ℕ
-planArray place number lsn threshold back malformed digest h =
+abbrev pub planArray : ℕ → ℕ → ℕ → ℕ → ℕ → ℕ → ℕ → HeldWords → ℕ → List ℕ
+planArray place number lsn threshold back malformed digest h rule =
     place ∷ number ∷ lsn ∷ threshold ∷ back ∷ malformed ∷ digest ∷ h .held ∷ h .kind ∷ h .number ∷ h .remaining ∷ h .offset ∷ h .len
-    ∷ 0 ∷ 0 ∷ 0 ∷ 0 ∷ 0 ∷ 0 ∷ 0 ∷ 0 ∷ 0 ∷ 0 ∷ 0 ∷ []
+    ∷ rule ∷ 0 ∷ 0 ∷ 0 ∷ 0 ∷ 0 ∷ 0 ∷ 0 ∷ 0 ∷ 0 ∷ 0 ∷ []
 
--- 0 the area's start, 1 a checkpoint, 2 the area's end
+-- the number of a plan's rule
+abbrev pub ruleWord : Plan → ℕ
+ruleWord p = planRuleNumber (planRule p)
+
+-- 0 the area's start, 1 a checkpoint, 2 the area's end; word 13 is the rule
 unfoldable pub planWords : Plan → List ℕ
-planWords plan.Start = planArray 0 0 0 0 0 0 0 (assemblyWords Replayed)
+planWords plan.Start = planArray 0 0 0 0 0 0 0 (assemblyWords Replayed) (ruleWord plan.Start)
 planWords (plan.At r) =
     planArray 1 (r .number) (r .lsn) (r .checkpoint .threshold) (r .checkpoint .back) (r .checkpoint .malformed) (r .checkpoint .digest)
-    (assemblyWords (r .assembly))
-planWords (plan.End e) = planArray 2 0 0 (e .threshold) 0 (e .malformed) 0 (assemblyWords Replayed)
+    (assemblyWords (r .assembly)) (ruleWord (plan.At r))
+planWords (plan.End e) = planArray 2 0 0 (e .threshold) 0 (e .malformed) 0 (assemblyWords Replayed) (ruleWord (plan.End e))
 
 abbrev pub two : ℕ → ℕ → List ℕ
 two a b = a ∷ b ∷ 0 ∷ 0 ∷ 0 ∷ 0 ∷ 0 ∷ 0 ∷ 0 ∷ 0 ∷ 0 ∷ 0 ∷ 0 ∷ 0 ∷ 0 ∷ 0 ∷ 0 ∷ 0 ∷ 0 ∷ 0 ∷ 0 ∷ 0 ∷ 0 ∷ 0 ∷ []

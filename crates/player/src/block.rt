@@ -18,6 +18,8 @@ use rules::HintRecorder;
 use rules::Plan;
 use rules::Recorder;
 use rules::Resume;
+use rules_jump::plan_rule;
+use rules_jump::plan_rule_number;
 use save::Saved;
 use sizes::FileArea;
 use sizes::Sized;
@@ -36,7 +38,7 @@ ghost use Rattle.index.specs.Calls.{madeOf};
 ghost use Rattle.plan.specs.Calls.{plannedOf};
 ghost use Rattle.adds.specs.Brings.{addsOf};
 ghost use Rattle.sizes.specs.Sizes.{sizedOf, fileAreaOf};
-ghost use Rattle.player.specs.Block.{called, into, planArray, headIndex, headRecorder, headHintRecorder, areaFrom, assemblyWords, planWords, firstWords, sizeWords, areaWords, bringsWords, oneWord, savedNumber};
+ghost use Rattle.player.specs.Block.{called, into, planArray, ruleWord, headIndex, headRecorder, headHintRecorder, areaFrom, assemblyWords, planWords, firstWords, sizeWords, areaWords, bringsWords, oneWord, savedNumber};
 ghost use Rattle.player.specs.Needs.{resumeWords};
 
 // ---- from blocks
@@ -129,8 +131,9 @@ fn plan_array(
     malformed: u64,
     digest: u64,
     h: HeldWords,
+    rule: u64,
 ) -> [u64; 24]
-    ensures { λ r. ⌜ r ≡ planArray place number lsn threshold back malformed digest h ⌝ }
+    ensures { λ r. ⌜ r ≡ planArray place number lsn threshold back malformed digest h rule ⌝ }
 {
     [
         place,
@@ -146,7 +149,7 @@ fn plan_array(
         h.remaining,
         h.offset,
         h.len,
-        0,
+        rule,
         0,
         0,
         0,
@@ -163,6 +166,7 @@ fn plan_array(
 fn resume_words(r: Resume) -> [u64; 24]
     ensures { λ w. ⌜ w ≡ resumeWords r ⌝ }
 {
+    let rule = rule_word(Plan::At(r));
     let c = r.checkpoint;
     let assembly = r.assembly;
     let h = assembly_words(assembly);
@@ -175,15 +179,34 @@ fn resume_words(r: Resume) -> [u64; 24]
         c.malformed,
         c.digest,
         h,
+        rule,
     )
 }
 
-// 0 the area's start, 1 a checkpoint, 2 the area's end.
+// The number of a plan's rule.
+fn rule_word(p: Plan) -> u64
+    ensures { λ r. ⌜ r ≡ ruleWord p ⌝ }
+{
+    plan_rule_number(plan_rule(p))
+}
+
+// 0 the area's start, 1 a checkpoint, 2 the area's end; word 13 is the rule.
 pub fn plan_words(p: Plan) -> [u64; 24]
     ensures { λ r. ⌜ r ≡ planWords p ⌝ }
 {
+    let rule = rule_word(p);
     match p {
-        Plan::Start => plan_array(0, 0, 0, 0, 0, 0, 0, assembly_words(Assembly::Replayed)),
+        Plan::Start => plan_array(
+            0,
+            0,
+            0,
+            0,
+            0,
+            0,
+            0,
+            assembly_words(Assembly::Replayed),
+            rule,
+        ),
         Plan::At(r) => resume_words(r),
         Plan::End(e) => plan_array(
             2,
@@ -194,6 +217,7 @@ pub fn plan_words(p: Plan) -> [u64; 24]
             e.malformed,
             0,
             assembly_words(Assembly::Replayed),
+            rule,
         ),
     }
 }

@@ -12,9 +12,9 @@ use Rattle.rules.specs.declared.Recorder.{Recorder}
 use Rattle.rules.specs.declared.UnderAssembly.{UnderAssembly}
 use Rattle.rules.specs.declared.UnderAssembly.the-variants as frame
 use Rattle.rules.specs.File.{bit, over}
-use Rattle.rules.specs.Hints.{Hinted}
 use Rattle.rules.specs.Tests.{Answer, Refused, Accepted}
 use Rattle.rules.specs.Values.{lim}
+use Rattle.rules_jump.specs.Names.{NamedHint, startRuleNumber, endRuleNumber}
 use Rattle.absorb.specs.declared.Absorbed.{Absorbed}
 use Rattle.blocks.specs.Head.{blockOf, indexWords, recorderWords, hintRecorderWords}
 use Rattle.hint_recorder.specs.declared.Created.{Created}
@@ -71,14 +71,14 @@ unfoldable pub createdWords : Option HintRecorder → List ℕ
 createdWords none = oneWord 0
 createdWords (some r) = hintRecorderWords r
 
--- 1, LSN, frame number, upper end of the read, and 1 where a later hint gave it
-abbrev pub foundWords : Hinted → List ℕ
+-- 1, LSN, frame number, upper end of the read, and 1 where a later hint gave it; how the hint was chosen, and where the upper end came from
+abbrev pub foundWords : NamedHint → List ℕ
 foundWords h =
-    1 ∷ h .lsn ∷ h .number ∷ h .upper ∷ bit (h .later)
-    ∷ 0 ∷ 0 ∷ 0 ∷ 0 ∷ 0 ∷ 0 ∷ 0 ∷ 0 ∷ 0 ∷ 0 ∷ 0 ∷ 0 ∷ 0 ∷ 0 ∷ 0 ∷ 0 ∷ 0 ∷ 0 ∷ 0 ∷ []
+    1 ∷ h .hinted .lsn ∷ h .hinted .number ∷ h .hinted .upper ∷ bit (h .hinted .later) ∷ startRuleNumber (h .start) ∷ endRuleNumber (h .end)
+    ∷ 0 ∷ 0 ∷ 0 ∷ 0 ∷ 0 ∷ 0 ∷ 0 ∷ 0 ∷ 0 ∷ 0 ∷ 0 ∷ 0 ∷ 0 ∷ 0 ∷ 0 ∷ 0 ∷ 0 ∷ []
 
 -- where there is no hint, the words are 0
-unfoldable pub hintWords : Option Hinted → List ℕ
+unfoldable pub hintWords : Option NamedHint → List ℕ
 hintWords none = oneWord 0
 hintWords (some h) = foundWords h
 

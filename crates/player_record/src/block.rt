@@ -6,6 +6,7 @@ use blocks::recorder_words;
 use blocks::write_words;
 use confirmations::Kept;
 use hint::HintAnswer;
+use hint::NamedHint;
 use hint_recorder::Created;
 use hint_recorder::Seen;
 use hint_recorder::Taken;
@@ -15,16 +16,17 @@ use recorder::Recorded;
 use recorder::boundary::Boundary;
 use rules::Assembling;
 use rules::FrameKind;
-use rules::Hinted;
 use rules::ImageId;
 use rules::MAX_NEXT_ACCEPTABLE;
 use rules::UnderAssembly;
+use rules_jump::end_rule_number;
+use rules_jump::start_rule_number;
 ghost use mathlib.Core.Path.{_≡_};
 ghost use Prim.Native.Nat.{_≤_};
 ghost use lib.ListN.{length};
 ghost use Rattle.blocks.specs.From.{imageFrom};
 ghost use Rattle.blocks.specs.Head.{recorderWords, hintRecorderWords};
-ghost use Rattle.hint.specs.Calls.{hintedOf, answerOf};
+ghost use Rattle.hint.specs.Calls.{namedOf, answerOf};
 ghost use Rattle.player.specs.Block.{called, into};
 ghost use Rattle.player_record.specs.Block.{kindFrom, numberFrom, frameFrom, recordedOf, seenOf, createdOf, createdWords, hintWords, foundWords, calledBoth, takenInto, keptInto, absorbedInto, boundaryOf, lsnWords, boundaryWords};
 
@@ -119,18 +121,23 @@ pub fn put_created(block: &mut [u8], created: Created) -> u32
     }
 }
 
-fn found_words(h: Hinted) -> [u64; 24]
-    ensures { λ r. ⌜ r ≡ foundWords (hintedOf h) ⌝ }
+fn found_words(named: NamedHint) -> [u64; 24]
+    ensures { λ r. ⌜ r ≡ foundWords (namedOf named) ⌝ }
 {
+    let h = named.hint;
     let later = bit_word(h.later);
+    let s = named.start;
+    let e = named.end;
+    let start = start_rule_number(s);
+    let end = end_rule_number(e);
     [
         1,
         h.lsn as u64,
         h.number as u64,
         h.upper,
         later,
-        0,
-        0,
+        start,
+        end,
         0,
         0,
         0,

@@ -9,7 +9,7 @@ use Rattle.rules.specs.Tests.{all, Answer, Accepted, after, firstNo}
 use Rattle.rules.specs.Values.{Scan, Hinting, Index, Lengths, sameCheckpoint, sameEnd}
 use Rattle.rules.specs.Questions.{question1, question2, question3, question4}
 use Rattle.rules.specs.Plan.{plan, bytesAt}
-use Rattle.rules.specs.Hints.{hint}
+use Rattle.rules_jump.specs.Names.{namedHint}
 use Rattle.rules.specs.Merge.{further, takenScan, mergedScan, merged, mergeNumber, merge}
 use Rattle.rules.specs.File.{over, hasHinting, versionOf, headerOf, hintSection, confirmedSection, bodyOf, saved}
 use Rattle.rules.proofs.Tests.{test, both, and-left, and-right, all→, →all, accepted→, accepted-eq, →after}
@@ -144,7 +144,7 @@ unfolding saved bodyOf headerOf hintSection confirmedSection versionOf hasHintin
 same-file own x b = rw (b .scan, b .hinting, b .fingerprint)
 
 pub only-image-named : OnlyImageNamed
-unfolding plan hint question1 question2 question3 question4
+unfolding plan namedHint question1 question2 question3 question4
 only-image-named l m own other x b e h g =
     let s = but-image l m own other x b e h g in
     record {
@@ -182,7 +182,7 @@ only-image-named-in-tables x t y u b z t' a c e m h =
     record {
       plans = λ first. through l o (λ n v. plan n v first) (s .plans first);
       parts = λ offset len. ap (λ (v : List ℕ). bytesAt v offset len) store;
-      hints = λ first end playtime. through l o (λ n v. hint n v first end playtime) (s .hints first end playtime);
+      hints = λ first end playtime. through l o (λ n v. namedHint n v first end playtime) (s .hints first end playtime);
       file = ap saved (l .stands) ∙ s .file;
     }
   where

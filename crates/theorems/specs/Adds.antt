@@ -9,9 +9,9 @@ use Rattle.rules.specs.declared.Held.{Held}
 use Rattle.rules.specs.Tests.{all, Accepted}
 use Rattle.rules.specs.Values.{Index, Lengths, partBytes}
 use Rattle.rules.specs.Plan.{jump, plan, bytesAt}
-use Rattle.rules.specs.Hints.{hint}
 use Rattle.rules.specs.Merge.{merge}
 use Rattle.rules.specs.File.{saved}
+use Rattle.rules_jump.specs.Names.{namedHint}
 use Rattle.index.specs.declared.Made.the-variants as made
 use Rattle.index.specs.Index.{Tables, indexIn, out}
 use Rattle.plan.specs.Calls.{planIn}
@@ -40,7 +40,7 @@ pub record SameAnswers (l : Lengths) (own x : Index) : Type 0 where
   pub plans : (first : ℕ) → plan l x first ≡ plan l own first
   pub starts : (first : ℕ) → jump (x .scan) first ≡ jump (own .scan) first
   pub parts : (p : Held) → partBytes (x .scan .frames) p ≡ partBytes (own .scan .frames) p
-  pub hints : (first end playtime : ℕ) → hint l x first end playtime ≡ hint l own first end playtime
+  pub hints : (first end playtime : ℕ) → namedHint l x first end playtime ≡ namedHint l own first end playtime
   pub file : saved x ≡ saved own
 
 abbrev pub OnlyImageNamed : Type 0
