@@ -670,6 +670,14 @@ static inline uint32_t seek_adds(const seek_list *l, const seek_list *other, see
     return n;
 }
 
+/* The rule by which seek_plan gets its answer; 0: none, the call was refused. */
+enum { SEEK_RULE_AREA_START = 1, SEEK_RULE_CHECKPOINT = 2, SEEK_RULE_HELD_PART = 3, SEEK_RULE_END_STATE = 4 };
+static inline const char *seek_rule_text(int rule)
+{
+    static const char *const text[] = {"none", "area start", "checkpoint", "checkpoint with held part", "end state"};
+    return rule < 1 || rule > 4 ? text[0] : text[rule];
+}
+
 /* Where a jump to a frame starts. */
 enum { SEEK_AT_START = 0, SEEK_AT_CHECKPOINT = 1, SEEK_AT_END = 2 };
 typedef struct {
@@ -686,6 +694,7 @@ typedef struct {
     int32_t remaining;
     uint64_t offset;
     uint64_t length;
+    int rule;             /* SEEK_RULE_AREA_START .. SEEK_RULE_END_STATE */
 } seek_jump;
 
 static inline uint32_t seek_plan(const seek_list *l, uint32_t frame, seek_jump *j)
@@ -705,6 +714,7 @@ static inline uint32_t seek_plan(const seek_list *l, uint32_t frame, seek_jump *
     j->remaining = seek_signed_(seek_word(answer, 10));
     j->offset = seek_word(answer, 11);
     j->length = seek_word(answer, 12);
+    j->rule = (int)seek_word(answer, 13);
     return n;
 }
 
@@ -801,6 +811,20 @@ static inline uint32_t seek_keep_confirmation(seek_list *l, uint64_t lsn, uint32
     return n;
 }
 
+/* How seek_hint chose the hint, and where the end of the read came from; 0: none, no hint is near or the call was refused. */
+enum { SEEK_START_CONFIRMED = 1, SEEK_START_NEAREST = 2 };
+enum { SEEK_END_LATER = 1, SEEK_END_LOCAL = 2, SEEK_END_AVERAGE = 3, SEEK_END_AREA = 4 };
+static inline const char *seek_start_text(int start)
+{
+    static const char *const text[] = {"none", "confirmed", "nearest"};
+    return start < 1 || start > 2 ? text[0] : text[start];
+}
+static inline const char *seek_end_text(int end)
+{
+    static const char *const text[] = {"none", "a later hint", "local spacing", "the area's average", "the area's end"};
+    return end < 1 || end > 4 ? text[0] : text[end];
+}
+
 /* The hint to begin at for the frames from first up to end, end excluded, in an area of playtime frames, and the end of the read to make there. */
 typedef struct {
     int found;            /* 0: no hint is near */
@@ -808,6 +832,8 @@ typedef struct {
     uint32_t number;
     uint64_t upper;       /* the end of the read, excluded */
     int later;            /* a later hint gave the end */
+    int start;            /* SEEK_START_CONFIRMED, SEEK_START_NEAREST */
+    int end;              /* SEEK_END_LATER .. SEEK_END_AREA: the last where the end of the read is the area's end, whatever gave it */
 } seek_hinted;
 
 static inline uint32_t seek_hint(const seek_list *l, uint32_t first, uint32_t end, uint32_t playtime, seek_hinted *h)
@@ -819,6 +845,8 @@ static inline uint32_t seek_hint(const seek_list *l, uint32_t first, uint32_t en
     h->number = SEEK_CAST_(uint32_t, seek_word(answer, 2));
     h->upper = seek_word(answer, 3);
     h->later = seek_word(answer, 4) != 0;
+    h->start = (int)seek_word(answer, 5);
+    h->end = (int)seek_word(answer, 6);
     return n;
 }
 

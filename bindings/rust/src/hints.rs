@@ -28,6 +28,28 @@ pub struct Confirmation {
     pub digest: u64,
 }
 
+/// How a hint was chosen.
+#[derive(Clone, Copy, Debug, PartialEq, Eq)]
+pub enum HintStart {
+    /// A near hint is confirmed for the first frame.
+    Confirmed,
+    /// The nearest one.
+    Nearest,
+}
+
+/// Where the end of the read came from; `AreaEnd` where it is the area's end, whatever gave it.
+#[derive(Clone, Copy, Debug, PartialEq, Eq)]
+pub enum HintEnd {
+    /// A later hint.
+    Later,
+    /// Local spacing.
+    Local,
+    /// The area's average.
+    Average,
+    /// The area's end.
+    AreaEnd,
+}
+
 /// Where to begin reading for a range of frames.
 #[derive(Clone, Copy, Debug, PartialEq, Eq)]
 pub struct Hinted {
@@ -39,6 +61,8 @@ pub struct Hinted {
     pub upper: u64,
     /// A later hint gave the end.
     pub later: bool,
+    pub start: HintStart,
+    pub end: HintEnd,
 }
 
 /// A hint recorder: the numbers in its block, and its list.
@@ -153,6 +177,13 @@ impl List {
             number: word(&a, 2) as u32,
             upper: word(&a, 3),
             later: word(&a, 4) != 0,
+            start: if word(&a, 5) == 1 { HintStart::Confirmed } else { HintStart::Nearest },
+            end: match word(&a, 6) {
+                1 => HintEnd::Later,
+                2 => HintEnd::Local,
+                3 => HintEnd::Average,
+                _ => HintEnd::AreaEnd,
+            },
         }))
     }
 }

@@ -43,7 +43,7 @@ mod sums;
 
 pub use disc::{contents, load_disc, save_disc};
 pub use error::Error;
-pub use hints::{Confirmation, Hint, HintRecorder, Hinted};
+pub use hints::{Confirmation, Hint, HintEnd, HintRecorder, HintStart, Hinted};
 pub use readers::{Checkpoint, Held};
 pub use recorder::{Frame, Recorder};
 pub use sums::{fold32, fold64, sum32};
@@ -84,6 +84,31 @@ pub enum Plan<'a> {
         /// How many malformed sectors the area has.
         malformed: u64,
     },
+}
+
+/// The rule by which a plan gets its answer.
+#[derive(Clone, Copy, Debug, PartialEq, Eq)]
+pub enum PlanRule {
+    /// The area's start.
+    AreaStart,
+    /// A checkpoint.
+    Checkpoint,
+    /// A checkpoint with held part.
+    HeldPart,
+    /// The end state.
+    EndState,
+}
+
+impl Plan<'_> {
+    /// The rule is a function of the answer.
+    pub fn rule(&self) -> PlanRule {
+        match self {
+            Plan::Start => PlanRule::AreaStart,
+            Plan::At(Resume { part: None, .. }) => PlanRule::Checkpoint,
+            Plan::At(_) => PlanRule::HeldPart,
+            Plan::End { .. } => PlanRule::EndState,
+        }
+    }
 }
 
 /// A checkpoint, and the part of a frame that is held for it.

@@ -1,8 +1,8 @@
 //! A list's life through the wrapper.
 
 use seek::{
-    Area, Brings, Checkpoint, Confirmation, Error, Frame, Held, Hint, Hinted, Lacking, List, Plan, contents, first_record, load_disc, save_disc, sum,
-    version,
+    Area, Brings, Checkpoint, Confirmation, Error, Frame, Held, Hint, HintEnd, HintStart, Hinted, Lacking, List, Plan, PlanRule, contents, first_record,
+    load_disc, save_disc, sum, version,
 };
 
 fn area() -> Area {
@@ -183,7 +183,7 @@ fn hints_and_confirmations() {
     list.add_hints(&taken).unwrap();
     assert_eq!(list.hints(), 3);
     assert!(list.hint(110, 110, 400).unwrap().is_some_and(|h| h.lsn == 1100 && h.number == 100 && !h.later));
-    assert_eq!(list.hint(110, 160, 400).unwrap(), Some(Hinted { lsn: 1100, number: 100, upper: 1176, later: true }));
+    assert_eq!(list.hint(110, 160, 400).unwrap(), Some(Hinted { lsn: 1100, number: 100, upper: 1176, later: true, start: HintStart::Nearest, end: HintEnd::Later }));
     assert_eq!(list.hint(50, 60, 400).unwrap(), None);
     assert_eq!(list.hint(60, 50, 400), Err(Error::HintRange));
     assert_eq!(list.keep_confirmation(1100, 100, 5), Ok(false));
@@ -191,6 +191,42 @@ fn hints_and_confirmations() {
     assert_eq!(list.keep_confirmation(1100, 100, 5), Ok(true));
     assert_eq!(list.keep_confirmation(999, 100, 5), Err(Error::Confirmation));
     assert!(List::new(area(), 50, 0, 0, 2048).unwrap().hint_recorder().unwrap().is_none());
+}
+
+#[test]
+fn a_plan_names_its_rule() {
+    let bytes = file(5);
+    let list = List::load(area(), &bytes, u64::MAX).unwrap();
+    assert_eq!(list.plan(160).unwrap().rule(), PlanRule::HeldPart);
+    assert_eq!(list.plan(0).unwrap().rule(), PlanRule::Checkpoint);
+    assert_eq!(List::load(area(), &bytes, 100).unwrap().plan(160).unwrap().rule(), PlanRule::Checkpoint);
+    assert_eq!(List::new(area(), 50, 0, 8, 2048).unwrap().plan(5).unwrap().rule(), PlanRule::AreaStart);
+    assert_eq!(Plan::End { threshold: 1, malformed: 0 }.rule(), PlanRule::EndState);
+}
+
+/// How the hint for frames 45 to 75 was chosen and where its end came from, in an area 0..1000 of 500 frames, 2 sectors for each.
+fn named(hints: &[(u32, u32)], confirmed: &[(u64, u32)]) -> (u64, HintStart, HintEnd) {
+    let area = Area { key_start: 0, key_end: 999, sectors: 1000, start: 0, end: 1000, ..area() };
+    let mut list = List::new(area, 100, 0, 8, 2048).unwrap();
+    list.add_hints(&hints.iter().map(|&(lsn, number)| Hint { lsn, number }).collect::<Vec<_>>()).unwrap();
+    list.bind_fingerprint(9).unwrap();
+    for &(lsn, threshold) in confirmed {
+        assert_eq!(list.keep_confirmation(lsn, threshold, 1), Ok(true));
+    }
+    let h = list.hint(45, 75, 500).unwrap().unwrap();
+    (h.upper, h.start, h.end)
+}
+
+#[test]
+fn a_hint_names_how_it_was_chosen_and_its_end() {
+    use HintEnd::{AreaEnd, Average, Later, Local};
+    use HintStart::{Confirmed, Nearest};
+    assert_eq!(named(&[(100, 10), (160, 40)], &[]), (251, Nearest, Local));
+    assert_eq!(named(&[(100, 10), (159, 40)], &[]), (250, Nearest, Average));
+    assert_eq!(named(&[(100, 10), (160, 40), (998, 80)], &[]), (999, Nearest, Later));
+    assert_eq!(named(&[(100, 10), (160, 40), (999, 80)], &[]), (1000, Nearest, AreaEnd));
+    assert_eq!(named(&[(100, 30), (160, 40)], &[(100, 45)]), (426, Confirmed, Local));
+    assert_eq!(named(&[(100, 30), (160, 40)], &[(160, 46)]), (426, Nearest, Local));
 }
 
 #[test]
