@@ -521,6 +521,20 @@ static void do_plan(void)
     end_line();
 }
 
+/* The rule of a plan alone. */
+static void do_plan_rule(void)
+{
+    int p = at_place();
+    uint32_t frame = (uint32_t)number();
+    seek_jump j;
+    if (!list_there(p))
+        return;
+    keep_list(p, READ);
+    if (answer(seek_plan(&places[p].list, frame, &j)))
+        say((uint64_t)j.rule);
+    end_line();
+}
+
 static void do_merge(void)
 {
     int p = at_place(), q = at_place();
@@ -582,6 +596,20 @@ static void do_hint(void)
         if (h.found)
             say(h.lsn), say(h.number), say(h.upper), say((uint64_t)h.later);
     }
+    end_line();
+}
+
+/* How the hint was chosen and where its upper end came from; 0 0 without one. */
+static void do_hint_rule(void)
+{
+    int p = at_place();
+    uint64_t first = number(), end = number(), playtime = number();
+    seek_hinted h;
+    if (!list_there(p))
+        return;
+    keep_list(p, READ);
+    if (answer(seek_hint(&places[p].list, (uint32_t)first, (uint32_t)end, (uint32_t)playtime, &h)))
+        say((uint64_t)h.start), say((uint64_t)h.end);
     end_line();
 }
 
@@ -785,7 +813,8 @@ static const struct {
              {"reload", do_reload}, {"plan", do_plan}, {"merge", do_merge}, {"fingerprint", do_fingerprint}, {"add_hints", do_add_hints},
              {"confirm", do_confirm}, {"hint", do_hint}, {"recorder", do_recorder}, {"record", do_record}, {"finish", do_finish},
              {"absorb", do_absorb}, {"first_record", do_first_record}, {"hint_recorder", do_hint_recorder}, {"see", do_see},
-             {"see_bytes", do_see_bytes}, {"see_many", do_see_many}, {"flush", do_flush}, {"take", do_take}};
+             {"see_bytes", do_see_bytes}, {"see_many", do_see_many}, {"flush", do_flush}, {"take", do_take},
+             {"plan_rule", do_plan_rule}, {"hint_rule", do_hint_rule}};
 
 static void run_line(char *line)
 {

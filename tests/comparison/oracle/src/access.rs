@@ -6,6 +6,7 @@ use crate::lent::Raw;
 use crate::text::{Sum, put, put_sum};
 
 pub mod differences;
+pub mod names;
 
 include!(concat!(env!("OUT_DIR"), "/persist_cuts.rs"));
 

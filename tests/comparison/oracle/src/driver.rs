@@ -341,6 +341,54 @@ const LARGE_ANSWERS: [(&str, &[u64]); 7] = [
     ("take", &[0]),
 ];
 
+/// What calls name in scripts of kind names: each name, and each boundary from both sides.
+const NAMES: [(&str, &[&str]); 2] = [
+    (
+        "plan_rule",
+        &[
+            "a checkpoint, at its threshold",
+            "area start",
+            "area start, no checkpoint",
+            "area start, one frame before checkpoint 0",
+            "checkpoint",
+            "checkpoint 0",
+            "end state",
+            "end state, at its threshold",
+            "held part",
+            "held part of 0 bytes",
+            "one frame before the end state",
+        ],
+    ),
+    (
+        "hint_rule",
+        &[
+            "a later hint",
+            "area's end by a later hint",
+            "area's end by local spacing",
+            "area's end by the average",
+            "confirmed, and the nearest",
+            "confirmed, and the nearest, its threshold the first frame",
+            "confirmed, another is nearer",
+            "confirmed, another is nearer, its threshold the first frame",
+            "equal densities",
+            "local spacing larger",
+            "local spacing larger, with one upper end",
+            "nearest",
+            "nearest, a threshold one above the first frame",
+            "nearest, the fingerprint is unchecked",
+            "no hint is near",
+            "one above the area's end by local spacing",
+            "one above the area's end by the average",
+            "one below the area's end by a later hint",
+            "one below the area's end by local spacing",
+            "one below the area's end by the average",
+            "the average alone",
+            "the average larger",
+            "the average larger, with one upper end",
+        ],
+    ),
+];
+
 /// What lines of kind lent are to lend and edit, as the oracle counts it.
 fn lent_names() -> Vec<String> {
     let mut out = Vec::new();
@@ -379,6 +427,10 @@ fn missing_names(stats: &Stats, a: &Arguments) -> Vec<String> {
     }
     if a.kinds.contains(&generate::Kind::Lent) {
         out.extend(lent_names().into_iter().filter(|n| !stats.lent.contains_key(n)));
+    }
+    if a.kinds.contains(&generate::Kind::Names) {
+        let all = NAMES.iter().flat_map(|(call, list)| list.iter().map(move |what| (*call, *what)));
+        out.extend(all.filter(|b| !stats.branches.contains_key(b)).map(|(call, what)| format!("{call}: {what}")));
     }
     out
 }
@@ -419,6 +471,11 @@ fn missing(stats: &Stats, a: &Arguments) -> Vec<String> {
                 need(command, n);
             }
         }
+    }
+    if a.kinds.contains(&generate::Kind::Names) {
+        need("plan_rule", 0);
+        need("hint_rule", 0);
+        need("hint_rule", 16);
     }
     if a.kinds.contains(&generate::Kind::Large) {
         for (call, list) in LARGE_ANSWERS {

@@ -27,6 +27,8 @@ pub enum Kind {
     Large,
     /// Tables lent too short, lists and recorders that are edited: 1 to 4 of all calls.
     Lent,
+    /// The rules that `plan` and `hint` name: `plan_rule`, `hint_rule`.
+    Names,
 }
 
 pub fn kinds(names: &str) -> Option<Vec<Kind>> {
@@ -41,6 +43,7 @@ pub fn kinds(names: &str) -> Option<Vec<Kind>> {
             "hints" => Some(vec![Kind::Hints]),
             "large" => Some(vec![Kind::Large]),
             "lent" => Some(vec![Kind::Lent]),
+            "names" => Some(vec![Kind::Names]),
             "all" => {
                 Some(vec![Kind::Load, Kind::Load, Kind::Merge, Kind::Calls, Kind::Seams, Kind::Hints, Kind::Unrelated])
             }
@@ -82,6 +85,7 @@ macro_rules! say {
 }
 
 mod lent;
+mod names;
 
 /// Appends script `number`; answers how many files it loads. `small` keeps files short.
 pub fn script(kind: Kind, number: u32, seed: u64, small: bool, out: &mut Vec<u8>) -> u64 {
@@ -97,6 +101,7 @@ pub fn script(kind: Kind, number: u32, seed: u64, small: bool, out: &mut Vec<u8>
         Kind::Unrelated => unrelated(&mut s, &mut rng),
         Kind::Large => large(&mut s, &mut rng),
         Kind::Lent => lent::lent(&mut s, &mut rng),
+        Kind::Names => names::names(&mut s, &mut rng),
     }
     s.loads
 }

@@ -337,6 +337,13 @@ impl Oracle {
         }
     }
 
+    /// Counts what a call named.
+    fn count_names(&mut self, call: &'static str, names: Vec<&'static str>) {
+        if self.count {
+            self.branch(call, names.into_iter().filter(|n| !n.is_empty()));
+        }
+    }
+
     /// Runs one line; false where it is not a line of a script.
     pub fn line(&mut self, line: &[u8], out: &mut Vec<u8>) -> bool {
         if line.is_empty() || line.len() >= sizes().line {
@@ -737,6 +744,21 @@ impl Oracle {
                 }
                 Some(Number(0, values))
             }
+            b"plan_rule" => {
+                let (p, frame) = (w.place()?, w.u32()?);
+                if self.places[p].list.is_none() {
+                    return Some(Nothing);
+                }
+                if let Some(no) = self.refused("plan_rule", &[List(p)]) {
+                    return Some(no);
+                }
+                let Some(ix) = &self.places[p].list else { return Some(Nothing) };
+                let (rule, names) = access::names::plan_rule(ix, frame);
+                self.count_names("plan_rule", names);
+                let mut values = Vec::new();
+                put(&mut values, rule);
+                Some(Number(0, values))
+            }
             b"merge" => {
                 let (p, q) = (w.place()?, w.place()?);
                 if p == q {
@@ -818,6 +840,24 @@ impl Oracle {
                     let branches = access::hint_branches(ix, first, end, playtime);
                     self.branch("hint", branches);
                 }
+                Some(Number(0, values))
+            }
+            b"hint_rule" => {
+                let (p, first, end, playtime) = (w.place()?, w.u32()?, w.u32()?, w.u32()?);
+                if self.places[p].list.is_none() {
+                    return Some(Nothing);
+                }
+                if let Some(no) = self.refused("hint_rule", &[List(p)]) {
+                    return Some(no);
+                }
+                let Some(ix) = &self.places[p].list else { return Some(Nothing) };
+                if end < first {
+                    return Some(Number(16, Vec::new()));
+                }
+                let (rules, names) = access::names::hint_rule(ix, first, end, playtime);
+                self.count_names("hint_rule", names);
+                let mut values = Vec::new();
+                rules.into_iter().for_each(|v| put(&mut values, v));
                 Some(Number(0, values))
             }
             b"recorder" => {
