@@ -1,5 +1,5 @@
-pub mod Chosen
 pub mod JumpExamples
 pub mod Largest
 pub mod Named
+pub mod Rules
 pub mod Values
