@@ -61,7 +61,9 @@ pub struct Hinted {
     pub upper: u64,
     /// A later hint gave the end.
     pub later: bool,
+    /// How it was chosen.
     pub start: HintStart,
+    /// Where the end came from.
     pub end: HintEnd,
 }
 
