@@ -11,7 +11,9 @@ use Rattle.rules.specs.Tests.{Answer, Refused, Accepted}
 use Rattle.rules.specs.Values.{Index}
 use Rattle.rules.specs.Plan.{plan, planned}
 use Rattle.rules.specs.Create.{bindFingerprint, recorder, hintRecorder}
-use Rattle.rules.specs.Hints.{addHints, hint}
+use Rattle.rules.specs.Hints.{addHints}
+use Rattle.rules_jump.specs.Names.{namedHint}
+use Rattle.rules_jump.proofs.Values.{named-number, named-none}
 use Rattle.rules.specs.Merge.{merge}
 use Rattle.rules.specs.File.{decodeHint, saved, save, over}
 use Rattle.rules.proofs.Tests.{accepted→}
@@ -53,7 +55,8 @@ refuses-nothing-in =
       addsHints = λ x t list v q.
           rw (kinds-pass (kindsIn x t) (addHints (roomOf t) (indexIn x t) (hintsOf list)) (v .kinds), refuses-nothing .addsHints (roomOf t) (indexIn x t) (hintsOf list) (v .valid) q) refl;
       hints = λ x t first end playtime v q.
-          rw (kinds-pass (kindsIn x t) (hint (roomOf t) (indexIn x t) first end playtime) (v .kinds)) (refuses-nothing .hints (roomOf t) (indexIn x t) first end playtime (v .valid) q);
+          rw (kinds-pass (kindsIn x t) (namedHint (roomOf t) (indexIn x t) first end playtime) (v .kinds), named-number (roomOf t) (indexIn x t) first end playtime)
+          (refuses-nothing .hints (roomOf t) (indexIn x t) first end playtime (v .valid) q);
       plans = λ x t f v. (planned (indexIn x t .scan) f, kinds-pass (kindsIn x t) _ (v .kinds) ∙ refuses-nothing .plans (roomOf t) (indexIn x t) f (v .valid));
       saves = λ x t old v l.
           rw (kinds-pass (kindsIn x t) (save (roomOf t) (indexIn x t) (length old)) (v .kinds), refuses-nothing .saves (roomOf t) (indexIn x t) (length old) (v .valid) l) refl;
@@ -116,4 +119,5 @@ pub hint-looks-in : HintLooksIn
 unfolding hintIn
 hint-looks-in x t first end playtime i e l =
     let n : i < length (indexIn x t .hinting .hints) = rw (records-length 8 decodeHint (x .hints) (t .hints)) l in
-    hint-looks (roomOf t) (indexIn x t) first end playtime i (kinded→ (kindsIn x t) (hint (roomOf t) (indexIn x t) first end playtime) none e .1) n
+    hint-looks (roomOf t) (indexIn x t) first end playtime i
+    (named-none (roomOf t) (indexIn x t) first end playtime (kinded→ (kindsIn x t) (namedHint (roomOf t) (indexIn x t) first end playtime) none e .1)) n

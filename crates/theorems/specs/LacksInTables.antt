@@ -12,13 +12,13 @@ use Rattle.rules.specs.declared.Plan.the-variants.{At}
 use Rattle.rules.specs.declared.Resume.{Resume}
 use Rattle.rules.specs.Tests.{Accepted, agree}
 use Rattle.rules.specs.Values.{isChecked}
-use Rattle.rules.specs.Hints.{Hinted}
 use Rattle.rules.specs.Plan.{startOf, bytesAt}
 use Rattle.index.specs.declared.Made.the-variants as made
 use Rattle.index.specs.Index.{Tables, indexIn, out}
 use Rattle.plan.specs.Calls.{planIn}
 use Rattle.hint.specs.Calls.{hintIn}
 use Rattle.merge.specs.Merge.{mergeIn}
+use Rattle.rules_jump.specs.Names.{NamedHint}
 use Rattle.rules_lacks.specs.declared.Lacks.{Lacks}
 use Rattle.rules_lacks.specs.Lacks.{holdsAll}
 use Rattle.lacks.specs.Lacks.{lacksIn}
@@ -49,8 +49,8 @@ abbrev pub LacksHintInTables : Type 0
 LacksHintInTables =
     (x : AreaIndex) (t : Tables) (y : AreaIndex) (u : Tables) (b : Lacks) → lacksIn x t y u ≡ Accepted b → holdsAll b ≡ true
     → (isChecked (y .fingerprint) ≡ true → isChecked (x .fingerprint) ≡ true)
-    → (first end playtime : ℕ) (q : Hinted) → hintIn y u first end playtime ≡ Accepted (some q)
-    → (p : Hinted) × (hintIn x t first end playtime ≡ Accepted (some p)) × HintServes (indexIn x t) (indexIn y u) first p q
+    → (first end playtime : ℕ) (q : NamedHint) → hintIn y u first end playtime ≡ Accepted (some q)
+    → (p : NamedHint) × (hintIn x t first end playtime ≡ Accepted (some p)) × HintServes (indexIn x t) (indexIn y u) first (p .hinted) (q .hinted)
 
 -- all lists below a kept one may go at once
 abbrev pub LacksTransInTables : Type 0

@@ -16,7 +16,8 @@ use Rattle.rules.specs.Tests.{Answer, Accepted}
 use Rattle.rules.specs.Values.{used}
 use Rattle.rules.specs.Plan.{planned, startOf, bytesAt, plan}
 use Rattle.rules.specs.Merge.{question41, merged}
-use Rattle.rules.specs.Hints.{hint}
+use Rattle.rules_jump.specs.Names.{namedHint}
+use Rattle.rules_jump.proofs.Values.{named-some, some-named}
 use Rattle.rules.proofs.Tests.{both, and-left, and-right, all→, after→, accepted→, →after}
 use Rattle.adds.specs.Brings.{bringsOf, brings}
 use Rattle.rules.proofs.Same.{sameArea-eq}
@@ -87,9 +88,10 @@ pub lacks-hint-in-tables : LacksHintInTables
 unfolding hintIn
 lacks-hint-in-tables x t y u b e h mark first end playtime q d =
     let k = kinded→ (kindsIn x t && kindsIn y u) (lacks (roomOf t) (indexIn x t) (roomOf u) (indexIn y u)) b e in
-    let f = kinded→ (kindsIn y u) (hint (roomOf u) (indexIn y u) first end playtime) (some q) d in
-    let r = lacks-hint (roomOf t) (roomOf u) (indexIn x t) (indexIn y u) b (k .1) h mark first end playtime q (f .1) in
-    (r .0, kinded-is (kindsIn x t) (hint (roomOf t) (indexIn x t) first end playtime) (and-left (kindsIn x t) (kindsIn y u) (k .0)) ∙ r .1, r .2)
+    let f = kinded→ (kindsIn y u) (namedHint (roomOf u) (indexIn y u) first end playtime) (some q) d in
+    let r = lacks-hint (roomOf t) (roomOf u) (indexIn x t) (indexIn y u) b (k .1) h mark first end playtime (q .hinted) (named-some (roomOf u) (indexIn y u) first end playtime q (f .1)) in
+    let p = some-named (roomOf t) (indexIn x t) first end playtime (r .0) (r .1) in
+    (p .0, kinded-is (kindsIn x t) (namedHint (roomOf t) (indexIn x t) first end playtime) (and-left (kindsIn x t) (kindsIn y u) (k .0)) ∙ p .1, rw (p .2) (r .2))
 
 pub lacks-trans-in-tables : LacksTransInTables
 lacks-trans-in-tables x t y u z v b c e h f g i =
