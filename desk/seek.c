@@ -26,7 +26,11 @@ static const char help[] =
     "                            our.disc our-two-channel.sbx, our-multichannel.sbx\n"
     "  seek plan FILE FRAME..    where a jump to a frame starts; a frame is a number,\n"
     "                            minutes:seconds or minutes:seconds:frames, of which\n"
-    "                            there are 75 a second\n"
+    "                            there are 75 a second; and why there\n"
+    "  seek hint FILE FIRST END PLAYTIME\n"
+    "                            where a read of the frames FIRST up to END begins and\n"
+    "                            ends by the list's hints, in an area of PLAYTIME\n"
+    "                            frames; and why there\n"
     "\n"
     "A file is a list file, or a disc file with the lists of one or both areas of a\n"
     "disc; the name - is standard input. Disc files are compared and merged slot by\n"
@@ -43,6 +47,8 @@ static const char help[] =
     "  -o OUT              the file that merge and pack write, - for standard output;\n"
     "                      for unpack what its files' names begin with\n"
     "  --partial           merge writes a file also where not all was taken\n"
+    "  --checked           for hint: the disc is the list's own, so that hints which\n"
+    "                      were confirmed count\n"
     "  -f                  an existing file may be replaced, but never one that is\n"
     "                      read\n"
     "  --                  all words after it are names, also those that begin with -\n"
@@ -70,6 +76,7 @@ static const struct {
     {"pack", pack, 1, 2, 2, "-o DISC and one list file or two"},
     {"unpack", unpack, 1, 1, 1, "one disc file"},
     {"plan", plan, 2, INT_MAX, 0, "a file and a frame"},
+    {"hint", hint, 4, 4, 0, "a file, the first frame, the end and the playtime"},
 };
 
 static int range_option(const char *start, const char *end)
@@ -115,6 +122,8 @@ static int option(int argc, char **argv, int *i)
         opt.force = 1;
     else if (!strcmp(w, "--partial"))
         opt.partial = 1;
+    else if (!strcmp(w, "--checked"))
+        opt.checked = 1;
     else if (is(w, "-o"))
         opt.out = v = value(argc, argv, i, "-o");
     else if (is(w, "--area"))
@@ -164,6 +173,8 @@ static int command(char **words, int n)
         return complain("--slot is not for %s: a disc file is kept or deleted whole", words[0]);
     if (commands[c].run != merge && opt.partial)
         return complain("--partial is for merge");
+    if (commands[c].run != hint && opt.checked)
+        return complain("--checked is for hint");
     if (n - 1 < commands[c].least || n - 1 > commands[c].most || (commands[c].writes == 2 && !opt.out))
         return complain("%s needs %s; seek --help tells more", words[0], commands[c].needs);
     status = opt.area ? want_area() : DONE;

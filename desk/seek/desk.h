@@ -1,6 +1,6 @@
 /* What the files of the desk's program share. Each answers for itself: text.c words and lines, refuse.c refusals, read.c bytes read, file.c files and their
  * lists, hold.c what a list holds, lack.c what it holds beside another, sort.c many lists sorted, words.c the sentences on them, write.c files written; show.c,
- * check.c, compare.c, merge.c, report.c, pack.c and plan.c the commands. */
+ * check.c, compare.c, merge.c, report.c, pack.c, plan.c and hint.c the commands. */
 #ifndef DESK_H
 #define DESK_H
 
@@ -25,6 +25,7 @@ typedef struct {
     int known[2];             /* by slot: the areas of the file that --area names */
     seek_area wanted[2];
     int partial;              /* --partial */
+    int checked;              /* --checked */
     FILE *told;               /* where answers go: standard output, or with -o - standard error */
 } Options;
 extern Options opt;
@@ -205,5 +206,7 @@ int report(char **names, int n);
 int pack(char **names, int n);
 int unpack(char **names, int n);
 int plan(char **words, int n);
+int frame_of(const char *s, uint32_t *frame);
+int hint(char **words, int n);
 
 #endif

@@ -2,7 +2,7 @@
 #include "desk.h"
 
 /* A number, minutes:seconds, or minutes:seconds:frames at 75 a second. */
-static int frame_of(const char *s, uint32_t *frame)
+int frame_of(const char *s, uint32_t *frame)
 {
     uint64_t a, b, c = 0;
     if (digits(&s, &a))
@@ -21,6 +21,12 @@ static int frame_of(const char *s, uint32_t *frame)
     return 0;
 }
 
+/* The rules of a plan, by number. */
+static const char *const rules[] = {"", "area_start", "checkpoint", "held_part", "end_state"};
+
+/* Is the checkpoint of the plan the list's last? */
+static int is_last(const List *l, const seek_jump *j) { return j->where == SEEK_AT_CHECKPOINT && j->number + 1 == seek_checkpoint_count(&l->list); }
+
 static void plan_json(const List *l, uint32_t frame, uint64_t lsn, const seek_jump *j)
 {
     fputc('{', opt.told);
@@ -34,14 +40,16 @@ static void plan_json(const List *l, uint32_t frame, uint64_t lsn, const seek_ju
     json_time("start_time", 1, j->where == SEEK_AT_START ? 0 : j->threshold);
     fprintf(opt.told, ",\"where\":\"%s\"", j->where == SEEK_AT_START ? "start" : j->where == SEEK_AT_END ? "end" : "checkpoint");
     json_number("held_bytes", j->held ? j->length : 0);
-    fputs("}\n", opt.told);
+    fprintf(opt.told, ",\"rule\":\"%s\"", rules[j->rule]);
+    json_number("back", j->back);
+    fprintf(opt.told, ",\"last\":%s}\n", truth(is_last(l, j)));
 }
 
 /* How many frames lie between the end of the list and the frame; 0 where the list goes on, or runs to the end. */
 static uint64_t beyond(const List *l, uint32_t frame, const seek_jump *j)
 {
     uint64_t n = seek_checkpoint_count(&l->list), from = j->where == SEEK_AT_CHECKPOINT ? j->threshold : 0;
-    int last = j->where == SEEK_AT_CHECKPOINT ? j->number + 1 == n : j->where == SEEK_AT_START && n == 0;
+    int last = is_last(l, j) || (j->where == SEEK_AT_START && n == 0);
     return last && !seek_is_complete(&l->list) && frame > from ? frame - from : 0;
 }
 
@@ -64,6 +72,26 @@ static void plan_text(const List *l, const char *word, uint32_t frame, uint64_t 
     free_text(&t);
 }
 
+/* Why the jump starts there, by its rule. */
+static void plan_why(const List *l, const seek_jump *j)
+{
+    Text t = {0};
+    if (j->rule == SEEK_RULE_AREA_START)
+        add(&t, "no checkpoint of this list lies at or before the frame; the player reads from the area's start");
+    else if (j->rule == SEEK_RULE_END_STATE)
+        add(&t, "the list runs to the end of the disc, and the frame lies at or past it");
+    else
+        add(&t, "checkpoint %s is the last at or before the frame", grouped(j->number));
+    if (j->rule == SEEK_RULE_HELD_PART)
+        add(&t, ", and %s of the frame under assembly %s held there: nothing is read again", counted(j->length, "byte", "bytes"), j->length == 1 ? "is" : "are");
+    else if (j->rule == SEEK_RULE_CHECKPOINT && j->back)
+        add(&t, "; nothing of the frame under assembly is held, so the player reads again from %s before it", counted(j->back, "sector", "sectors"));
+    if (is_last(l, j) && !seek_is_complete(&l->list))
+        add(&t, "; the list ends there: what lies behind it was not recorded");
+    say(2, 4, "why: %s", text_of(&t));
+    free_text(&t);
+}
+
 static int plan_one(List *l, const char *word)
 {
     uint32_t frame = 0;
@@ -76,8 +104,10 @@ static int plan_one(List *l, const char *word)
     lsn = j.where == SEEK_AT_START ? l->area.start : j.where == SEEK_AT_END ? l->area.end : j.lsn;
     if (opt.json)
         plan_json(l, frame, lsn, &j);
-    else
+    else {
         plan_text(l, word, frame, lsn, &j);
+        plan_why(l, &j);
+    }
     return DONE;
 }
 
