@@ -714,7 +714,7 @@ static inline uint32_t seek_plan(const seek_list *l, uint32_t frame, seek_jump *
     j->remaining = seek_signed_(seek_word(answer, 10));
     j->offset = seek_word(answer, 11);
     j->length = seek_word(answer, 12);
-    j->rule = (int)seek_word(answer, 13);
+    j->rule = SEEK_CAST_(int, seek_word(answer, 13));
     return n;
 }
 
@@ -845,8 +845,8 @@ static inline uint32_t seek_hint(const seek_list *l, uint32_t first, uint32_t en
     h->number = SEEK_CAST_(uint32_t, seek_word(answer, 2));
     h->upper = seek_word(answer, 3);
     h->later = seek_word(answer, 4) != 0;
-    h->start = (int)seek_word(answer, 5);
-    h->end = (int)seek_word(answer, 6);
+    h->start = SEEK_CAST_(int, seek_word(answer, 5));
+    h->end = SEEK_CAST_(int, seek_word(answer, 6));
     return n;
 }
 
