@@ -13,6 +13,9 @@ use Rattle.rules.specs.declared.Resume.{Resume}
 use Rattle.rules.specs.Tests.{Accepted, agree}
 use Rattle.rules.specs.Values.{isChecked}
 use Rattle.rules.specs.Plan.{startOf, bytesAt}
+use Rattle.rules.specs.Run.{Reading, Cut}
+use Rattle.rules.specs.Sections.{ownLsn}
+use Rattle.laws.specs.Order.{Rises}
 use Rattle.index.specs.declared.Made.the-variants as made
 use Rattle.index.specs.Index.{Tables, indexIn, out}
 use Rattle.plan.specs.Calls.{planIn}
@@ -20,11 +23,11 @@ use Rattle.hint.specs.Calls.{hintIn}
 use Rattle.merge.specs.Merge.{mergeIn}
 use Rattle.rules_jump.specs.Names.{NamedHint}
 use Rattle.rules_lacks.specs.declared.Lacks.{Lacks}
-use Rattle.rules_lacks.specs.Lacks.{holdsAll}
+use Rattle.rules_lacks.specs.Lacks.{lacking, holdsAll}
 use Rattle.lacks.specs.Lacks.{lacksIn}
 use Rattle.theorems.specs.Adds.{SameAnswersInTables}
 use Rattle.theorems.specs.TableRun.{LentIn}
-use Rattle.theorems.specs.Lacks.{Serves, HintServes}
+use Rattle.theorems.specs.Lacks.{Serves, HintServes, MergedHolds, MergeLeaves}
 
 -- k says what h says, and its bytes in the store of t are those of h in that of u
 pub record SamePartIn (t : Tables) (k : HeldPart) (u : Tables) (h : HeldPart) : Type 0 where
@@ -64,3 +67,20 @@ abbrev pub LacksAddsInTables : Type 0
 LacksAddsInTables =
     (x : AreaIndex) (t : Tables) (y : AreaIndex) (u : Tables) (b : Lacks) (z : AreaIndex) (t' : Tables) → LentIn x t → LentIn y u → lacksIn x t y u ≡ Accepted b
     → holdsAll b ≡ true → mergeIn x t y u ≡ out (made.Index z) t' → SameAnswersInTables x t z t'
+
+-- what the merged tables can lack of the two lists, and which hints, confirmations and parts
+pub record MergedIn (x : AreaIndex) (t : Tables) (y : AreaIndex) (u : Tables) (z : AreaIndex) (t' : Tables) : Type 0 where
+  pub holds : MergedHolds (indexIn x t) (indexIn y u) (indexIn z t')
+  pub leaves : MergeLeaves (indexIn x t) (indexIn y u) (indexIn z t')
+
+abbrev pub MergeLacksInTables : Type 0
+MergeLacksInTables =
+    (x : AreaIndex) (t : Tables) (y : AreaIndex) (u : Tables) (z : AreaIndex) (t' : Tables) → LentIn x t → LentIn y u
+    → mergeIn x t y u ≡ out (made.Index z) t' → MergedIn x t y u z t'
+
+-- of two lists cut from one reading, whose malformed LSNs rise, the merged tables lack no malformed LSN
+abbrev pub MergeMalformedInTables : Type 0
+MergeMalformedInTables =
+    (R : Reading) (x : AreaIndex) (t : Tables) (y : AreaIndex) (u : Tables) (z : AreaIndex) (t' : Tables) → LentIn x t → LentIn y u
+    → Rises ownLsn 0 (R .malformed) → Cut R (indexIn x t) → Cut R (indexIn y u) → mergeIn x t y u ≡ out (made.Index z) t'
+    → (lacking (indexIn z t') (indexIn x t) .malformed ≡ 0) × (lacking (indexIn z t') (indexIn y u) .malformed ≡ 0)

@@ -30,14 +30,17 @@ use Rattle.plan.proofs.Steps.{answer-is}
 use Rattle.hint.specs.Calls.{hintIn}
 use Rattle.rules_lacks.specs.declared.Lacks.{Lacks}
 use Rattle.rules_lacks.specs.Lacks.{lacks}
-use Rattle.theorems.proofs.MergeInTables.{kinded→}
+use Rattle.theorems.proofs.MergeInTables.{kinded→, merge-left}
 use Rattle.theorems.specs.Lacks.{Serves, SamePart}
-use Rattle.theorems.specs.LacksInTables.{SamePartIn, ServesIn, NothingLackingInTables, LacksHintInTables, LacksTransInTables, LacksAddsInTables}
+use Rattle.theorems.specs.LacksInTables.{SamePartIn, ServesIn, NothingLackingInTables, LacksHintInTables, LacksTransInTables, LacksAddsInTables, MergedIn, MergeLacksInTables, MergeMalformedInTables}
 use Rattle.theorems.proofs.Adds.{only-image-named-in-tables}
 use Rattle.theorems.proofs.lacking.Trans.{Asked, →asked, lacks→, lacks-trans}
 use Rattle.theorems.proofs.lacking.Brought.{lacks-brings}
 use Rattle.theorems.proofs.lacking.Serves.{nothing-lacking}
 use Rattle.theorems.proofs.lacking.HintPlace.{lacks-hint}
+use Rattle.theorems.proofs.lacking.MergeLacks.{merge-lacks}
+use Rattle.theorems.proofs.lacking.MergeLeft as left
+use Rattle.theorems.proofs.lacking.Malformed.{merge-malformed}
 
 -- a plan that is accepted in tables
 record Plans (x : AreaIndex) (t : Tables) (f : ℕ) (p : Plan) : Type 0 where
@@ -110,3 +113,16 @@ lacks-adds-in-tables x t y u b z t' lx ly e h m =
     →after (→asked (roomOf t) (roomOf u) (indexIn x t) (indexIn y u) (p .0)) refl in
     only-image-named-in-tables x t y u _ z t' lx ly (kinded-is (kindsIn x t && kindsIn y u) _ (k .0) ∙ a) m
     (lacks-brings (roomOf t) (roomOf u) (indexIn x t) (indexIn y u) b _ (k .1) h a)
+
+pub merge-lacks-in-tables : MergeLacksInTables
+merge-lacks-in-tables x t y u z t' a c e =
+    let l = merge-left x t y u z t' a c e in
+    record {
+      holds = rw (l .stands) (merge-lacks (roomOf t) (roomOf u) (indexIn x t) (indexIn y u) (l .list) (l .accepted));
+      leaves = rw (l .stands) (left.merge-left (roomOf t) (roomOf u) (indexIn x t) (indexIn y u) (l .list) (l .accepted));
+    }
+
+pub merge-malformed-in-tables : MergeMalformedInTables
+merge-malformed-in-tables R x t y u z t' a c rising own other e =
+    let l = merge-left x t y u z t' a c e in
+    rw (l .stands) (merge-malformed R (roomOf t) (roomOf u) (indexIn x t) (indexIn y u) (l .list) rising own other (l .accepted))
