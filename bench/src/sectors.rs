@@ -1,10 +1,11 @@
-//! Calls on bytes: sum, first record, sizes.
+//! Calls on bytes and blocks alone: sum, first record, sizes, boundary, due, version.
 
 use crate::limits::Work;
 use crate::lists::{Area, list};
 use crate::raw::BLOCK;
 use crate::report::{Report, Row};
-use crate::rounds::repeat;
+use crate::rounds::{Round, repeat};
+use crate::tables::Tables;
 use crate::{plain, tables};
 use std::hint::black_box;
 
@@ -20,6 +21,7 @@ pub fn rows(r: &Report) {
     if r.wants("sizes") {
         sizes(r);
     }
+    numbers(r);
 }
 
 fn sum(r: &Report, n: usize) {
@@ -74,4 +76,22 @@ fn sizes(r: &Report) {
         least: Work::default(),
         goal: None,
     });
+}
+
+/// Calls that the original has no like of: one block is read, and one word answered.
+fn numbers(r: &Report) {
+    let mut t = Tables::loaded(&crate::lists::List { checkpoints: 3_700, ..list(7_400, 64) });
+    let (mut answer, mut block, head) = ([0; BLOCK], [0; BLOCK], t.head);
+    assert_eq!(tables::boundary(&head, 3_700, &mut answer), Some(1_000 + 64 * 3_700));
+    row(r, "boundary", repeat(move || tables::boundary(black_box(&head), black_box(3_700), &mut answer)));
+    assert_eq!(t.recorder(1_000, &mut block), 0, "a recorder is refused");
+    assert_eq!(tables::due(&block, &mut answer), Some(1_000 + 64 * 3_700));
+    row(r, "due", repeat(move || tables::due(black_box(&block), &mut answer)));
+    row(r, "version", repeat(tables::version));
+}
+
+fn row(r: &Report, call: &'static str, ours: Round<'_>) {
+    if r.wants(call) {
+        r.row(Row { call, case: "a block".to_string(), ours, theirs: None, four: None, least: Work::default(), goal: None });
+    }
 }

@@ -313,6 +313,26 @@ pub fn first_record(sector: &[u8]) -> Option<u32> {
     (word(&answer, 0) != 0).then(|| word(&answer, 1) as u32)
 }
 
+/// The LSN of a list's boundary by its number.
+pub fn boundary(head: &[u8; BLOCK], number: u32, answer: &mut [u8; BLOCK]) -> Option<u64> {
+    // Safety: as above.
+    let refused = unsafe { raw::seek_raw_boundary(head.as_ptr(), BLOCK, number, answer.as_mut_ptr(), BLOCK) };
+    (refused == 0 && word(answer, 0) != 0).then(|| word(answer, 1))
+}
+
+/// The LSN that a recorder wants next.
+pub fn due(block: &[u8; BLOCK], answer: &mut [u8; BLOCK]) -> Option<u64> {
+    // Safety: as above.
+    let refused = unsafe { raw::seek_raw_due(block.as_ptr(), BLOCK, answer.as_mut_ptr(), BLOCK) };
+    (refused == 0 && word(answer, 0) != 0).then(|| word(answer, 1))
+}
+
+/// The library's version.
+pub fn version() -> u32 {
+    // Safety: it takes nothing.
+    unsafe { raw::seek_raw_version() }
+}
+
 /// The lengths of the tables of an area, as the library says them.
 pub fn area_sizes(a: &Area, interval: u32, budget: u64, most: u32, answer: &mut [u8; BLOCK]) -> u32 {
     let Area { slot, channels, key_start, key_end, sectors, start, end } = *a;
