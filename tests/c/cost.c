@@ -23,6 +23,9 @@ static void (*doing)(void);
 
 static void nothing(void) {}
 static void do_sum(void) { seek_sum(sector, sizeof sector); }
+static void do_sum32(void) { seek_sum32(sector, sizeof sector); }
+static void do_fold32(void) { uint32_t f; seek_fold32(0xbf9cf968, 24, &f); }
+static void do_fold64(void) { uint64_t f; seek_fold64(0x85944171f73967e8, 48, &f); }
 static void do_first(void) { int f; uint64_t n; seek_first_record(sector, sizeof sector, &f, &n); }
 static void do_sizes(void) { seek_table_sizes s; seek_sizes(&area, INTERVAL, 1048576, 2048, &s); }
 static void do_file_area(void) { seek_area a; seek_file_area(file, length, &a); }
@@ -35,6 +38,7 @@ static void do_plan(void) { seek_jump j; seek_plan(&list, 500000, &j); }
 static void do_fingerprint(void) { seek_fingerprint(&list, 7); }
 static void do_merge(void) { seek_merge(&list, &copy); }
 static void do_adds(void) { seek_brings b; seek_adds(&list, &copy, &b); }
+static void do_lacks(void) { seek_lacking m; seek_lacks(&list, &copy, &m); }
 static void do_hint(void) { seek_hinted h; seek_hint(&list, 5000, 5075, 300000, &h); }
 static void do_few(void) { seek_add_hints(&copy, many, 800); }
 static void do_many(void) { seek_add_hints(&copy, many, sizeof many); }
@@ -60,6 +64,9 @@ static const struct {
     void (*run)(void);
 } calls[] = {
     {"`seek_sum` of a sector", do_sum},
+    {"`seek_sum32` of a sector", do_sum32},
+    {"`seek_fold32`", do_fold32},
+    {"`seek_fold64`", do_fold64},
     {"`seek_first_record`", do_first},
     {"`seek_sizes`", do_sizes},
     {"`seek_file_area`", do_file_area},
@@ -72,6 +79,7 @@ static const struct {
     {"`seek_fingerprint`", do_fingerprint},
     {"`seek_merge`, of a list that brings nothing", do_merge},
     {"`seek_adds`", do_adds},
+    {"`seek_lacks`", do_lacks},
     {"`seek_hint`", do_hint},
     {"`seek_add_hints`, 100 that rise", do_few},
     {"`seek_add_hints`, 65,536 in no order", do_many},
