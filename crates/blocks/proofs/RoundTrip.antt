@@ -19,7 +19,7 @@ use Rattle.rules.specs.declared.Tail.{Tail}
 use Rattle.rules.specs.declared.Tail.the-variants as tail
 use Rattle.rules.specs.File.{over}
 use Rattle.blocks.specs.From.{areaFrom, endFrom, fingerprintFrom, imageFrom, modeFrom, lastFrom, tailFrom, indexFrom, recorderFrom, hintRecorderFrom}
-use Rattle.blocks.specs.Head.{wordsIn, blockOf, endWords, fingerprintWords, imageWords, modeWords, lastWords, tailWords, indexWords, recorderWords, hintRecorderWords}
+use Rattle.blocks.specs.Head.{wordsIn, blockOf, endWords, fingerprintWords, imageWords, modeWords, lastWords, tailWords, indexWords, recorderWords, hintRecorderArray}
 use Rattle.blocks.specs.RoundTrip.{Fits8, Fits32, Fits64, IndexBack, RecorderBack, HintRecorderBack}
 
 words-back : (ws b : List ℕ) → Each Fits64 ws → wordsIn (length ws) (over (blockOf ws) b) ≡ ws
@@ -153,14 +153,14 @@ recorder-back r b f =
     )
 
 pub hint-recorder-back : HintRecorderBack
-unfolding hintRecorderFrom hintRecorderWords
-hint-recorder-back r b f =
-    let s : Each Fits64 (hintRecorderWords r) =
-    one (wide32 (f .spacing)) (one (last-fits (r .last)) (one (wide32 (f .last)) (one (tail-fits (r .tail)) (one (wide32 (f .lsn)) (one (wide32 (f .number)) (one (wide32 (f .count)) (one (zero) (one (zero) (one (zero) (one (zero) (one (zero) (one (zero) (one (zero) (one (zero) (one (zero) (one (zero) (one (zero) (one (zero) (one (zero) (one (zero) (one (zero) (one (zero) (one (zero) (none)))))))))))))))))))))))) in
+unfolding hintRecorderFrom hintRecorderArray
+hint-recorder-back r f b g h =
+    let s : Each Fits64 (hintRecorderArray r f) =
+    one (wide32 (g .spacing)) (one (last-fits (r .last)) (one (wide32 (g .last)) (one (tail-fits (r .tail)) (one (wide32 (g .lsn)) (one (wide32 (g .number)) (one (wide32 (g .count)) (one (h .found) (one (h .number) (one (h .offset) (one (h .why) (one (zero) (one (zero) (one (zero) (one (zero) (one (zero) (one (zero) (one (zero) (one (zero) (one (zero) (one (zero) (one (zero) (one (zero) (one (zero) (none)))))))))))))))))))))))) in
     rw (
-      words-back (hintRecorderWords r) b s,
-      low32 _ (f .spacing),
-      last-back (r .last) (f .last),
-      tail-back (r .tail) (f .lsn) (f .number),
-      low32 _ (f .count),
+      words-back (hintRecorderArray r f) b s,
+      low32 _ (g .spacing),
+      last-back (r .last) (g .last),
+      tail-back (r .tail) (g .lsn) (g .number),
+      low32 _ (g .count),
     )

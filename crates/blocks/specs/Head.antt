@@ -3,11 +3,15 @@ use Prim.Native.Nat.{ℕ}
 use mathlib.Core.List.{List, [], _∷_}
 use Rattle.field.specs.Number.{encode, decode}
 use Rattle.field.specs.Records.{records, bytesOf}
+use Rattle.rules.specs.declared.Absence.{Absence}
+use Rattle.rules.specs.declared.Absence.the-variants.{NoFrame, Missing}
 use Rattle.rules.specs.declared.AreaIndex.{AreaIndex}
 use Rattle.rules.specs.declared.End.{End}
 use Rattle.rules.specs.declared.End.the-variants.{Open, Closed}
 use Rattle.rules.specs.declared.Fingerprint.{Fingerprint}
 use Rattle.rules.specs.declared.Fingerprint.the-variants.{Unknown, Held, Checked}
+use Rattle.rules.specs.declared.First.{First}
+use Rattle.rules.specs.declared.First.the-variants as first
 use Rattle.rules.specs.declared.HintRecorder.{HintRecorder}
 use Rattle.rules.specs.declared.ImageId.{ImageId}
 use Rattle.rules.specs.declared.ImageId.the-variants.{Anonymous, Id}
@@ -19,6 +23,7 @@ use Rattle.rules.specs.declared.Recorder.{Recorder}
 use Rattle.rules.specs.declared.Tail.{Tail}
 use Rattle.rules.specs.declared.Tail.the-variants as tail
 use Rattle.blocks.specs.declared.Marked.{Marked}
+use Rattle.blocks.specs.declared.Told.{Told}
 
 -- ---- words in bytes
 abbrev pub wordsIn : ℕ → List ℕ → List ℕ
@@ -74,7 +79,28 @@ recorderArray x m =
 unfoldable pub recorderWords : Recorder → List ℕ
 recorderWords x = recorderArray x (modeWords (x .mode))
 
-unfoldable pub hintRecorderWords : HintRecorder → List ℕ
-hintRecorderWords x =
+-- why there is no first record: 1 no frame starts there, 2 bytes are missing
+unfoldable pub absenceNumber : Absence → ℕ
+absenceNumber NoFrame = 1
+absenceNumber Missing = 2
+
+-- a first record: whether there is one, its frame number, its offset, and why there is none
+abbrev pub told : ℕ → ℕ → ℕ → ℕ → Told
+told found number offset why = record { found = found; number = number; offset = offset; why = why }
+
+unfoldable pub firstTold : First → Told
+firstTold (first.Number t) = told 1 (t .number) (t .offset) 0
+firstTold (first.Nothing a) = told 0 0 0 (absenceNumber a)
+
+-- words 7 to 10 tell the first record of the sector that was seen; nothing reads them back
+unfoldable pub hintRecorderArray : HintRecorder → Told → List ℕ
+hintRecorderArray x f =
     x .spacing ∷ lastWords (x .last) .mark ∷ lastWords (x .last) .first ∷ tailWords (x .tail) .mark ∷ tailWords (x .tail) .first
-    ∷ tailWords (x .tail) .second ∷ x .count ∷ 0 ∷ 0 ∷ 0 ∷ 0 ∷ 0 ∷ 0 ∷ 0 ∷ 0 ∷ 0 ∷ 0 ∷ 0 ∷ 0 ∷ 0 ∷ 0 ∷ 0 ∷ 0 ∷ 0 ∷ []
+    ∷ tailWords (x .tail) .second ∷ x .count ∷ f .found ∷ f .number ∷ f .offset ∷ f .why
+    ∷ 0 ∷ 0 ∷ 0 ∷ 0 ∷ 0 ∷ 0 ∷ 0 ∷ 0 ∷ 0 ∷ 0 ∷ 0 ∷ 0 ∷ 0 ∷ []
+
+unfoldable pub hintRecorderWords : HintRecorder → List ℕ
+hintRecorderWords x = hintRecorderArray x (told 0 0 0 0)
+
+unfoldable pub seenWords : HintRecorder → First → List ℕ
+seenWords x f = hintRecorderArray x (firstTold f)

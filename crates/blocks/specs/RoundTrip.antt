@@ -8,7 +8,8 @@ use Rattle.rules.specs.declared.HintRecorder.{HintRecorder}
 use Rattle.rules.specs.declared.Recorder.{Recorder}
 use Rattle.rules.specs.File.{over}
 use Rattle.blocks.specs.From.{indexFrom, recorderFrom, hintRecorderFrom}
-use Rattle.blocks.specs.Head.{wordsIn, blockOf, endWords, fingerprintWords, imageWords, modeWords, lastWords, tailWords, indexWords, recorderWords, hintRecorderWords}
+use Rattle.blocks.specs.Head.{wordsIn, blockOf, endWords, fingerprintWords, imageWords, modeWords, lastWords, tailWords, indexWords, recorderWords, hintRecorderArray}
+use Rattle.blocks.specs.declared.Told.{Told}
 
 -- numbers have the widths of their types
 abbrev pub Fits8 : ℕ → Type 0
@@ -65,6 +66,12 @@ pub record HintRecorderFits (r : HintRecorder) : Type 0 where
   pub number : Fits32 (tailWords (r .tail) .second)
   pub count : Fits32 (r .count)
 
+pub record ToldFits (f : Told) : Type 0 where
+  pub found : Fits64 (f .found)
+  pub number : Fits64 (f .number)
+  pub offset : Fits64 (f .offset)
+  pub why : Fits64 (f .why)
+
 -- what is written over a block is read from it again
 abbrev pub IndexBack : Type 0
 IndexBack = (x : AreaIndex) (b : List ℕ) → IndexFits x → indexFrom (wordsIn 24 (over (blockOf (indexWords x)) b)) ≡ x
@@ -72,5 +79,7 @@ IndexBack = (x : AreaIndex) (b : List ℕ) → IndexFits x → indexFrom (wordsI
 abbrev pub RecorderBack : Type 0
 RecorderBack = (r : Recorder) (b : List ℕ) → RecorderFits r → recorderFrom (wordsIn 24 (over (blockOf (recorderWords r)) b)) ≡ r
 
+-- whatever words 7 to 10 are
 abbrev pub HintRecorderBack : Type 0
-HintRecorderBack = (r : HintRecorder) (b : List ℕ) → HintRecorderFits r → hintRecorderFrom (wordsIn 24 (over (blockOf (hintRecorderWords r)) b)) ≡ r
+HintRecorderBack =
+    (r : HintRecorder) (f : Told) (b : List ℕ) → HintRecorderFits r → ToldFits f → hintRecorderFrom (wordsIn 24 (over (blockOf (hintRecorderArray r f)) b)) ≡ r

@@ -3,9 +3,11 @@ pub mod read;
 
 use field::read_u64;
 use field::write_u64;
+use rules::Absence;
 use rules::AreaIndex;
 use rules::End;
 use rules::Fingerprint;
+use rules::First;
 use rules::HintRecorder;
 use rules::ImageId;
 use rules::LastListed;
@@ -16,7 +18,7 @@ ghost use mathlib.Core.Path.{_≡_};
 ghost use Prim.Native.Nat.{_%_, _^_, _≤_, _<_, _*_};
 ghost use lib.ListN.{length};
 ghost use Rattle.rules.specs.File.{over};
-ghost use Rattle.blocks.specs.Head.{wordsIn, blockOf, indexArray, recorderArray, indexWords, recorderWords, hintRecorderWords, endWords, fingerprintWords, imageWords, lastWords, tailWords, modeWords};
+ghost use Rattle.blocks.specs.Head.{wordsIn, blockOf, indexArray, recorderArray, indexWords, recorderWords, hintRecorderArray, hintRecorderWords, seenWords, endWords, fingerprintWords, imageWords, lastWords, tailWords, modeWords, absenceNumber, firstTold};
 
 // The words of a head.
 pub const HEAD_WORDS: usize = 24;
@@ -254,8 +256,44 @@ pub fn recorder_words(x: Recorder) -> [u64; 24]
     recorder_array(x, m)
 }
 
-pub fn hint_recorder_words(x: HintRecorder) -> [u64; 24]
-    ensures { λ r. ⌜ r ≡ hintRecorderWords x ⌝ }
+// The words that tell a first record: whether there is one, its frame number, its offset, and why there is none.
+pub struct Told {
+    pub found: u64,
+    pub number: u64,
+    pub offset: u64,
+    pub why: u64,
+}
+
+fn absence_number(a: Absence) -> u64
+    ensures { λ r. ⌜ r ≡ absenceNumber a ⌝ }
+{
+    match a {
+        Absence::NoFrame => 1,
+        Absence::Missing => 2,
+    }
+}
+
+pub fn first_told(f: First) -> Told
+    ensures { λ r. ⌜ r ≡ firstTold f ⌝ }
+{
+    match f {
+        First::Number(t) => Told {
+            found: 1,
+            number: t.number as u64,
+            offset: t.offset as u64,
+            why: 0,
+        },
+        First::Nothing(a) => Told {
+            found: 0,
+            number: 0,
+            offset: 0,
+            why: absence_number(a),
+        },
+    }
+}
+
+fn hint_recorder_array(x: HintRecorder, f: Told) -> [u64; 24]
+    ensures { λ r. ⌜ r ≡ hintRecorderArray x f ⌝ }
 {
     let last = x.last;
     let tail = x.tail;
@@ -269,10 +307,10 @@ pub fn hint_recorder_words(x: HintRecorder) -> [u64; 24]
         t.first,
         t.second,
         x.count as u64,
-        0,
-        0,
-        0,
-        0,
+        f.found,
+        f.number,
+        f.offset,
+        f.why,
         0,
         0,
         0,
@@ -287,4 +325,24 @@ pub fn hint_recorder_words(x: HintRecorder) -> [u64; 24]
         0,
         0,
     ]
+}
+
+pub fn hint_recorder_words(x: HintRecorder) -> [u64; 24]
+    ensures { λ r. ⌜ r ≡ hintRecorderWords x ⌝ }
+{
+    let f = Told {
+        found: 0,
+        number: 0,
+        offset: 0,
+        why: 0,
+    };
+    hint_recorder_array(x, f)
+}
+
+// A hint recorder, and the first record of the sector that it has seen.
+pub fn seen_words(x: HintRecorder, first: First) -> [u64; 24]
+    ensures { λ r. ⌜ r ≡ seenWords x first ⌝ }
+{
+    let f = first_told(first);
+    hint_recorder_array(x, f)
 }

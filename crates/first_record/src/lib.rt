@@ -1,5 +1,7 @@
 // The first record of a sector.
+use rules::Absence;
 use rules::First;
+use rules::TimeBytes;
 ghost use mathlib.Core.Path.{_≡_};
 ghost use Prim.Native.Nat.{_+_, _<_, _≤_};
 ghost use lib.ListN.{length};
@@ -34,20 +36,24 @@ fn time_at(sector: &[u8], r: usize) -> u32
     (wide(sector[r]) * 60 + wide(sector[r + 1])) * 75 + wide(sector[r + 2])
 }
 
-// The first frame record of a sector, as a frame number.
+// The first record of a sector: its frame number and where its three bytes lie, or why there is none.
 pub fn first_record(sector: &[u8]) -> First
     ensures { λ r. ⌜ r ≡ firstRecord (now (sector .entry)) ⌝ }
 {
     if sector.len() == 0 {
-        return First::Nothing;
+        return First::Nothing(Absence::Missing);
     }
     let header = sector[0];
     if frames_of(header) == 0 {
-        return First::Nothing;
+        return First::Nothing(Absence::NoFrame);
     }
-    let r = 1 + 2 * packets_of(header);
+    let k = packets_of(header);
+    let r = 1 + 2 * k;
     if sector.len() < r + 3 {
-        return First::Nothing;
+        return First::Nothing(Absence::Missing);
     }
-    First::Number(time_at(sector, r))
+    First::Number(TimeBytes {
+        number: time_at(sector, r),
+        offset: (1 + 2 * k) as u32,
+    })
 }

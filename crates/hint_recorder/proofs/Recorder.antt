@@ -13,6 +13,7 @@ use Rattle.field.specs.Records.{records, bytesOf, Bytes}
 use Rattle.field.proofs.Records.{records-length}
 use Rattle.field.proofs.Format.{bytes-records, bytesOf-append, bytesOf-one, bytesOf-length}
 use Rattle.rules.specs.declared.AreaIndex.{AreaIndex}
+use Rattle.rules.specs.declared.Absence.{Absence}
 use Rattle.rules.specs.declared.First.{First}
 use Rattle.rules.specs.declared.First.the-variants as first
 use Rattle.rules.specs.declared.Hint.{Hint}
@@ -21,6 +22,7 @@ use Rattle.rules.specs.declared.LastListed.{LastListed}
 use Rattle.rules.specs.declared.LastListed.the-variants.{Never, Number}
 use Rattle.rules.specs.declared.Tail.{Tail}
 use Rattle.rules.specs.declared.Tail.the-variants as tail
+use Rattle.rules.specs.declared.TimeBytes.{TimeBytes}
 use Rattle.rules.specs.Tests.{each, ask, firstNo, after, Accepted}
 use Rattle.rules.specs.Values as values
 use Rattle.rules.specs.Values.{maxList, max32}
@@ -34,10 +36,11 @@ use Rattle.tables.specs.Tables.{hintsIn}
 use Rattle.index.specs.Index.{Tables, indexIn, refusal}
 use Rattle.index.proofs.Four.{Later, kinded-index}
 use Rattle.hint_recorder.specs.Numbers.{lastIn, tailless, emptied}
+use Rattle.hint_recorder.specs.declared.Saw.the-variants as saw
 use Rattle.hint_recorder.specs.declared.Seen.the-variants as seen
 use Rattle.hint_recorder.specs.declared.Taken.the-variants as taken
 use Rattle.hint_recorder.specs.declared.Created.the-variants as created
-use Rattle.hint_recorder.specs.Recorder.{tailIn, lastFrom, tailFrom, recorderIn, numbersFrom, out, outOf, seeIn, flushIn, takenOf, takeIn, createdOf, hintRecorderIn}
+use Rattle.hint_recorder.specs.Recorder.{tailIn, lastFrom, tailFrom, recorderIn, numbersFrom, out, outOf, sawOut, sawOf, seeIn, flushIn, takenOf, takeIn, createdOf, hintRecorderIn}
 use Rattle.hint_recorder.specs.Needs.{Roomy, Steps, refusalOf, flushedRecord, hintSeen}
 
 last-back : (l : LastListed) → lastFrom (lastIn l) ≡ l
@@ -134,16 +137,16 @@ module _ (r : HintRecorder) (t : List ℕ) (p : Roomy r t) (b : Bytes t) where
   pub same-step : Steps r (recorderIn r t) t t
   same-step = step-none r t p b (r .last) (r .tail)
 
-  pub seen-nothing : {f : First} (lsn : ℕ) → f ≡ first.Nothing → Steps r (seenRecord (recorderIn r t) lsn f) t t
+  pub seen-nothing : {f : First} {a : Absence} (lsn : ℕ) → f ≡ first.Nothing a → Steps r (seenRecord (recorderIn r t) lsn f) t t
   unfolding seenRecord
   seen-nothing lsn e = rw e same-step
 
-  pub seen-past : {f : First} {n : ℕ} (lsn : ℕ) → f ≡ first.Number n → 4294967295 < lsn → Steps r (seenRecord (recorderIn r t) lsn f) t t
+  pub seen-past : {f : First} {n : TimeBytes} (lsn : ℕ) → f ≡ first.Number n → 4294967295 < lsn → Steps r (seenRecord (recorderIn r t) lsn f) t t
   unfolding seenRecord
   seen-past lsn e h = rw (e, lt-ltb 4294967295 lsn h) same-step
 
-  pub seen-number : {f : First} {n : ℕ} {k : HintRecorder} {new : List ℕ} (lsn : ℕ) → f ≡ first.Number n → lsn ≤ 4294967295
-      → Steps k (hintSeen (recorderIn r t) (record { lsn = lsn; number = n })) t new → Steps k (seenRecord (recorderIn r t) lsn f) t new
+  pub seen-number : {f : First} {n : TimeBytes} {k : HintRecorder} {new : List ℕ} (lsn : ℕ) → f ≡ first.Number n → lsn ≤ 4294967295
+      → Steps k (hintSeen (recorderIn r t) (record { lsn = lsn; number = n .number })) t new → Steps k (seenRecord (recorderIn r t) lsn f) t new
   unfolding seenRecord
   seen-number lsn e h s = rw (e, le-ltb 4294967295 lsn h) s
 
@@ -164,8 +167,8 @@ module _ (r : HintRecorder) (t : List ℕ) (p : Roomy r t) (b : Bytes t) where
 
 -- ---- the calls
 module _ (r : HintRecorder) (t : List ℕ) {n : ℕ} (e : n ≡ refusalOf r t) where
-  pub see-no : (lsn : ℕ) (sector : List ℕ) → (n ≡ 0 → ⊥) → out (seen.Refused n) t ≡ seeIn r t lsn sector
-  unfolding seeIn see outOf after refusalOf
+  pub see-no : (lsn : ℕ) (sector : List ℕ) → (n ≡ 0 → ⊥) → sawOut (saw.Refused n) t ≡ seeIn r t lsn sector
+  unfolding seeIn see sawOf after refusalOf
   see-no lsn sector h = sym (rw (← e, ne-eqb n 0 h))
 
   pub flush-no : (n ≡ 0 → ⊥) → out (seen.Refused n) t ≡ flushIn r t
@@ -178,8 +181,8 @@ module _ (r : HintRecorder) (t : List ℕ) {n : ℕ} (e : n ≡ refusalOf r t) w
 
   module _ (z : n ≡ 0) where
     pub see-yes : {k : HintRecorder} {new : List ℕ} {f : First} (lsn : ℕ) (sector : List ℕ) → f ≡ firstRecord sector → Steps k (seenRecord (recorderIn r t) lsn f) t new
-        → out (seen.Recorder k) new ≡ seeIn r t lsn sector
-    unfolding seeIn see outOf after refusalOf
+        → sawOut (saw.Sector (record { first = f; recorder = k })) new ≡ seeIn r t lsn sector
+    unfolding seeIn see sawOf after refusalOf
     see-yes lsn sector f s = sym (rw (← e, eq-eqb n 0 z, ← f, ← (s .numbers), ← (s .list)))
 
     pub flush-yes : {k : HintRecorder} {new : List ℕ} → Steps k (flushedRecord (recorderIn r t)) t new → out (seen.Recorder k) new ≡ flushIn r t

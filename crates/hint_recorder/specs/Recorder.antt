@@ -20,6 +20,8 @@ use Rattle.rules.specs.Hints as rules
 use Rattle.tables.specs.Tables.{hintsIn}
 use Rattle.index.specs.Index.{Tables, roomOf, indexIn, kindsIn, kinded}
 use Rattle.hint_recorder.specs.Numbers.{lastIn}
+use Rattle.hint_recorder.specs.declared.Saw.{Saw}
+use Rattle.hint_recorder.specs.declared.Saw.the-variants as saw
 use Rattle.hint_recorder.specs.declared.Seen.{Seen}
 use Rattle.hint_recorder.specs.declared.Seen.the-variants as seen
 use Rattle.hint_recorder.specs.declared.Taken.{Taken}
@@ -60,8 +62,21 @@ unfoldable pub outOf : List ℕ → Answer values.HintRecorder → Out
 outOf t (Refused n) = out (seen.Refused n) t
 outOf t (Accepted r) = out (seen.Recorder (numbersFrom r)) (over (bytesOf encodeHint (r .list)) t)
 
-unfoldable pub seeIn : HintRecorder → List ℕ → ℕ → List ℕ → Out
-seeIn r t lsn sector = outOf t (see (length t / 8) (recorderIn r t) lsn sector)
+-- see: what the sector says too
+pub record SawOut : Type 0 where
+  pub answer : Saw
+  pub list : List ℕ
+
+abbrev pub sawOut : Saw → List ℕ → SawOut
+sawOut r t = record { answer = r; list = t }
+
+unfoldable pub sawOf : List ℕ → Answer rules.SeenSector → SawOut
+sawOf t (Refused n) = sawOut (saw.Refused n) t
+sawOf t (Accepted s) =
+    sawOut (saw.Sector (record { first = s .first; recorder = numbersFrom (s .recorder) })) (over (bytesOf encodeHint (s .recorder .list)) t)
+
+unfoldable pub seeIn : HintRecorder → List ℕ → ℕ → List ℕ → SawOut
+seeIn r t lsn sector = sawOf t (see (length t / 8) (recorderIn r t) lsn sector)
 
 unfoldable pub flushIn : HintRecorder → List ℕ → Out
 flushIn r t = outOf t (flush (length t / 8) (recorderIn r t))

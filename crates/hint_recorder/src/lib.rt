@@ -19,8 +19,20 @@ use thin::write_hint;
 ghost use mathlib.Core.Path.{_≡_};
 ghost use Rattle.rules.specs.Hints.{seenRecord};
 ghost use Rattle.index.specs.Index.{tables};
-ghost use Rattle.hint_recorder.specs.Recorder.{recorderIn, out, seeIn, flushIn, takeIn, hintRecorderIn};
+ghost use Rattle.hint_recorder.specs.Recorder.{recorderIn, out, sawOut, seeIn, flushIn, takeIn, hintRecorderIn};
 ghost use Rattle.hint_recorder.specs.Needs.{refusalOf, Roomy, Steps, flushedRecord, hintSeen};
+
+// What a sector says, and the recorder afterwards.
+pub struct SeenSector {
+    pub first: First,
+    pub recorder: HintRecorder,
+}
+
+// The answer of see.
+pub enum Saw {
+    Refused(u32),
+    Sector(SeenSector),
+}
 
 // A hint recorder after a call, or the number that refuses.
 pub enum Seen {
@@ -96,7 +108,7 @@ impl Step {
         }
         let h = Hint {
             lsn: lsn as u32,
-            number: t,
+            number: t.number,
         };
         let r = self.recorder;
         let recorder = list_or_keep(r, h, list);
@@ -104,19 +116,19 @@ impl Step {
     }
 }
 
-// A sector seen at an LSN.
-pub fn see(r: HintRecorder, lsn: u64, sector: &[u8], list: &mut [u8]) -> Seen
-    ensures { λ q. ⌜ out q (now (list .exit)) ≡ seeIn r (now (list .entry)) lsn (now (sector .entry)) ⌝ }
+// A sector seen at an LSN: its first record is told, also where it is passed over.
+pub fn see(r: HintRecorder, lsn: u64, sector: &[u8], list: &mut [u8]) -> Saw
+    ensures { λ q. ⌜ sawOut q (now (list .exit)) ≡ seeIn r (now (list .entry)) lsn (now (sector .entry)) ⌝ }
 {
     let number = refuses(r, list);
     if number != 0 {
-        return Seen::Refused(number);
+        return Saw::Refused(number);
     }
     let first = first_record(sector);
     let step = Step { recorder: r };
     let after = step.seen(lsn, first, list);
     let recorder = after.recorder;
-    Seen::Recorder(recorder)
+    Saw::Sector(SeenSector { first, recorder })
 }
 
 // The tail listed, under the same bound, and cleared.

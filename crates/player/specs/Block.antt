@@ -9,7 +9,6 @@ use Rattle.rules.specs.declared.AreaIndex.{AreaIndex}
 use Rattle.rules.specs.declared.Assembly.{Assembly}
 use Rattle.rules.specs.declared.Assembly.the-variants.{Replayed, Stored}
 use Rattle.rules.specs.declared.First.{First}
-use Rattle.rules.specs.declared.First.the-variants as first
 use Rattle.rules.specs.declared.HintRecorder.{HintRecorder}
 use Rattle.rules.specs.declared.Plan.{Plan}
 use Rattle.rules.specs.declared.Plan.the-variants as plan
@@ -19,7 +18,8 @@ use Rattle.rules.specs.Tests.{Answer, Refused, Accepted}
 use Rattle.rules_jump.specs.Names.{planRule, planRuleNumber}
 use Rattle.adds.specs.declared.Brings.{Brings}
 use Rattle.blocks.specs.From.{indexFrom, recorderFrom, hintRecorderFrom}
-use Rattle.blocks.specs.Head.{wordsIn, blockOf}
+use Rattle.blocks.specs.declared.Told.{Told}
+use Rattle.blocks.specs.Head.{wordsIn, blockOf, firstTold}
 use Rattle.save.specs.declared.Saved.{Saved}
 use Rattle.save.specs.declared.Saved.the-variants as saved
 use Rattle.save.specs.Save.{SaveOut}
@@ -92,10 +92,12 @@ planWords (plan.End e) = planArray 2 0 0 (e .threshold) 0 (e .malformed) 0 (asse
 abbrev pub two : ℕ → ℕ → List ℕ
 two a b = a ∷ b ∷ 0 ∷ 0 ∷ 0 ∷ 0 ∷ 0 ∷ 0 ∷ 0 ∷ 0 ∷ 0 ∷ 0 ∷ 0 ∷ 0 ∷ 0 ∷ 0 ∷ 0 ∷ 0 ∷ 0 ∷ 0 ∷ 0 ∷ 0 ∷ 0 ∷ 0 ∷ []
 
--- 1 and the frame number, or 0
+-- whether there is a first record, its frame number, its offset, and why there is none
+abbrev pub toldWords : Told → List ℕ
+toldWords f = f .found ∷ f .number ∷ f .offset ∷ f .why ∷ 0 ∷ 0 ∷ 0 ∷ 0 ∷ 0 ∷ 0 ∷ 0 ∷ 0 ∷ 0 ∷ 0 ∷ 0 ∷ 0 ∷ 0 ∷ 0 ∷ 0 ∷ 0 ∷ 0 ∷ 0 ∷ 0 ∷ 0 ∷ []
+
 unfoldable pub firstWords : First → List ℕ
-firstWords first.Nothing = two 0 0
-firstWords (first.Number t) = two 1 t
+firstWords f = toldWords (firstTold f)
 
 abbrev pub seven : ℕ → ℕ → ℕ → ℕ → ℕ → ℕ → ℕ → List ℕ
 seven a b c d e f g = a ∷ b ∷ c ∷ d ∷ e ∷ f ∷ g ∷ 0 ∷ 0 ∷ 0 ∷ 0 ∷ 0 ∷ 0 ∷ 0 ∷ 0 ∷ 0 ∷ 0 ∷ 0 ∷ 0 ∷ 0 ∷ 0 ∷ 0 ∷ 0 ∷ 0 ∷ []

@@ -1,6 +1,7 @@
 // Answers of calls as a number and a block: 0 and words over the start of the block, or the refusal number and the block as it was.
 use adds::Added;
 use adds::Brings;
+use blocks::first_told;
 use blocks::index_words;
 use blocks::read::hint_recorder_from;
 use blocks::read::index_from;
@@ -225,60 +226,33 @@ pub fn plan_words(p: Plan) -> [u64; 24]
 fn first_words(f: First) -> [u64; 24]
     ensures { λ r. ⌜ r ≡ firstWords f ⌝ }
 {
-    match f {
-        First::Nothing => [
-            0,
-            0,
-            0,
-            0,
-            0,
-            0,
-            0,
-            0,
-            0,
-            0,
-            0,
-            0,
-            0,
-            0,
-            0,
-            0,
-            0,
-            0,
-            0,
-            0,
-            0,
-            0,
-            0,
-            0,
-        ],
-        First::Number(t) => [
-            1,
-            t as u64,
-            0,
-            0,
-            0,
-            0,
-            0,
-            0,
-            0,
-            0,
-            0,
-            0,
-            0,
-            0,
-            0,
-            0,
-            0,
-            0,
-            0,
-            0,
-            0,
-            0,
-            0,
-            0,
-        ],
-    }
+    let t = first_told(f);
+    [
+        t.found,
+        t.number,
+        t.offset,
+        t.why,
+        0,
+        0,
+        0,
+        0,
+        0,
+        0,
+        0,
+        0,
+        0,
+        0,
+        0,
+        0,
+        0,
+        0,
+        0,
+        0,
+        0,
+        0,
+        0,
+        0,
+    ]
 }
 
 fn size_words(s: TableSizes) -> [u64; 24]

@@ -28,7 +28,7 @@ pub extern "C" fn seek_raw_sum(bytes: &[u8]) -> u64
     fnv::fnv(bytes)
 }
 
-// Whether a frame starts in a sector, and the number of its first record.
+// The first record of a sector: its number and where its three bytes lie, or why there is none.
 #[no_mangle]
 pub extern "C" fn seek_raw_first_record(sector: &[u8], answer: &mut [u8]) -> u32
     ensures { λ r. ⌜ called r (now (answer .exit)) ≡ firstCall (now (answer .entry)) (now (sector .entry)) ⌝ }

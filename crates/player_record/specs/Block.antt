@@ -16,11 +16,14 @@ use Rattle.rules.specs.Tests.{Answer, Refused, Accepted}
 use Rattle.rules.specs.Values.{lim}
 use Rattle.rules_jump.specs.Names.{NamedHint, startRuleNumber, endRuleNumber}
 use Rattle.absorb.specs.declared.Absorbed.{Absorbed}
-use Rattle.blocks.specs.Head.{blockOf, indexWords, recorderWords, hintRecorderWords}
+use Rattle.blocks.specs.Head.{blockOf, indexWords, recorderWords, hintRecorderWords, seenWords}
 use Rattle.hint_recorder.specs.declared.Created.{Created}
 use Rattle.hint_recorder.specs.declared.Created.the-variants as created
+use Rattle.hint_recorder.specs.declared.Saw.{Saw}
+use Rattle.hint_recorder.specs.declared.Saw.the-variants as saw
 use Rattle.hint_recorder.specs.declared.Seen.{Seen}
 use Rattle.hint_recorder.specs.declared.Seen.the-variants as seen
+use Rattle.hint_recorder.specs.declared.SeenSector.{SeenSector}
 use Rattle.hint_recorder.specs.declared.Taken.{Taken}
 use Rattle.hint_recorder.specs.declared.Taken.the-variants as taken
 use Rattle.confirmations.specs.declared.Kept.{Kept}
@@ -55,6 +58,10 @@ unfoldable pub seenOf : Seen → Answer HintRecorder
 seenOf (seen.Refused n) = Refused n
 seenOf (seen.Recorder r) = Accepted r
 
+unfoldable pub sawOf : Saw → Answer SeenSector
+sawOf (saw.Refused n) = Refused n
+sawOf (saw.Sector s) = Accepted s
+
 unfoldable pub createdOf : Created → Answer (Option HintRecorder)
 createdOf (created.Refused n) = Refused n
 createdOf created.Nothing = Accepted none
@@ -66,6 +73,10 @@ boundaryOf boundary.Nothing = Accepted none
 boundaryOf (boundary.Lsn l) = Accepted (some l)
 
 -- ---- words
+-- the hint recorder afterwards, and the first record of the sector
+abbrev pub sectorWords : SeenSector → List ℕ
+sectorWords s = seenWords (s .recorder) (s .first)
+
 -- where there is no hint recorder, the words are 0: its spacing, the first word, is not
 unfoldable pub createdWords : Option HintRecorder → List ℕ
 createdWords none = oneWord 0

@@ -5,10 +5,10 @@ use Rattle.rules.specs.declared.Confirmation.{Confirmation}
 use Rattle.blocks.specs.Head.{hintRecorderWords}
 use Rattle.index.specs.Index.{Tables}
 use Rattle.hint.specs.Calls.{hintIn}
-use Rattle.hint_recorder.specs.Recorder.{Out, hintRecorderIn, seeIn, flushIn, takeIn}
+use Rattle.hint_recorder.specs.Recorder.{Out, SawOut, hintRecorderIn, seeIn, flushIn, takeIn}
 use Rattle.confirmations.specs.Keeping.{keepIn}
 use Rattle.player.specs.Block.{Called, called, into, inBlock, headIndex, headHintRecorder}
-use Rattle.player_record.specs.Block.{CalledBoth, calledBoth, seenOf, createdOf, createdWords, hintWords, takenInto, keptInto}
+use Rattle.player_record.specs.Block.{CalledBoth, calledBoth, seenOf, sawOf, sectorWords, createdOf, createdWords, hintWords, takenInto, keptInto}
 
 -- the block is the hint recorder's
 unfoldable pub hintRecorderCall : List ℕ → List ℕ → Tables → Called
@@ -29,8 +29,12 @@ calledList n b t = withList (called n b) t
 abbrev pub seenInto : List ℕ → Out → CalledList
 seenInto block o = withList (into hintRecorderWords block (seenOf (o .answer))) (o .list)
 
+-- words 7 to 10 of the block tell the sector's first record
+abbrev pub sawInto : List ℕ → SawOut → CalledList
+sawInto block o = withList (into sectorWords block (sawOf (o .answer))) (o .list)
+
 unfoldable pub seeCall : List ℕ → ℕ → List ℕ → List ℕ → CalledList
-seeCall block lsn sector list = inBlock block (calledList 3 block list) (seenInto block (seeIn (headHintRecorder block) list lsn sector))
+seeCall block lsn sector list = inBlock block (calledList 3 block list) (sawInto block (seeIn (headHintRecorder block) list lsn sector))
 
 unfoldable pub flushCall : List ℕ → List ℕ → CalledList
 flushCall block list = inBlock block (calledList 3 block list) (seenInto block (flushIn (headHintRecorder block) list))

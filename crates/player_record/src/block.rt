@@ -3,11 +3,13 @@ use absorb::Absorbed;
 use blocks::hint_recorder_words;
 use blocks::index_words;
 use blocks::recorder_words;
+use blocks::seen_words;
 use blocks::write_words;
 use confirmations::Kept;
 use hint::HintAnswer;
 use hint::NamedHint;
 use hint_recorder::Created;
+use hint_recorder::Saw;
 use hint_recorder::Seen;
 use hint_recorder::Taken;
 use player::block::bit_word;
@@ -28,7 +30,7 @@ ghost use Rattle.blocks.specs.From.{imageFrom};
 ghost use Rattle.blocks.specs.Head.{recorderWords, hintRecorderWords};
 ghost use Rattle.hint.specs.Calls.{namedOf, answerOf};
 ghost use Rattle.player.specs.Block.{called, into};
-ghost use Rattle.player_record.specs.Block.{kindFrom, numberFrom, frameFrom, recordedOf, seenOf, createdOf, createdWords, hintWords, foundWords, calledBoth, takenInto, keptInto, absorbedInto, boundaryOf, lsnWords, boundaryWords};
+ghost use Rattle.player_record.specs.Block.{kindFrom, numberFrom, frameFrom, recordedOf, seenOf, sawOf, sectorWords, createdOf, createdWords, hintWords, foundWords, calledBoth, takenInto, keptInto, absorbedInto, boundaryOf, lsnWords, boundaryWords};
 
 // ---- a frame under assembly
 // 0 Dst, anything else Dsd; number_from asks whether it is one of the two.
@@ -98,6 +100,22 @@ pub fn put_seen(block: &mut [u8], seen: Seen) -> u32
         Seen::Refused(n) => n,
         Seen::Recorder(r) => {
             write_words(block, hint_recorder_words(r));
+            0
+        }
+    }
+}
+
+// Words 7 to 10 tell the first record of the sector that was seen.
+pub fn put_saw(block: &mut [u8], saw: Saw) -> u32
+    requires { ⌜ 192 ≤ length (now block) ⌝ }
+    ensures { λ r. ⌜ called r (now (block .exit)) ≡ into sectorWords (now (block .entry)) (sawOf saw) ⌝ }
+{
+    match saw {
+        Saw::Refused(n) => n,
+        Saw::Sector(s) => {
+            let r = s.recorder;
+            let first = s.first;
+            write_words(block, seen_words(r, first));
             0
         }
     }

@@ -2,6 +2,7 @@
 use crate::block::put_created;
 use crate::block::put_hint;
 use crate::block::put_kept;
+use crate::block::put_saw;
 use crate::block::put_seen;
 use crate::block::put_taken;
 use blocks::HEAD_BYTES;
@@ -49,7 +50,7 @@ pub extern "C" fn seek_raw_hint_recorder(
     put_created(block, made)
 }
 
-// A sector seen at an LSN.
+// A sector seen at an LSN: words 7 to 10 of the block tell its first record.
 #[no_mangle]
 pub extern "C" fn seek_raw_see(block: &mut [u8], lsn: u64, sector: &[u8], list: &mut [u8]) -> u32
     ensures { λ r. ⌜ calledList r (now (block .exit)) (now (list .exit)) ≡ seeCall (now (block .entry)) lsn (now (sector .entry)) (now (list .entry)) ⌝ }
@@ -58,8 +59,8 @@ pub extern "C" fn seek_raw_see(block: &mut [u8], lsn: u64, sector: &[u8], list: 
         return 3;
     }
     let r = hint_recorder_in(block);
-    let made = hint_recorder::see(r, lsn, sector, list);
-    put_seen(block, made)
+    let saw = hint_recorder::see(r, lsn, sector, list);
+    put_saw(block, saw)
 }
 
 // The tail listed.

@@ -1,4 +1,5 @@
 pub mod Tests
 pub mod Walk
 pub mod Same
+pub mod FirstRecord
 pub mod Examples

@@ -12,6 +12,7 @@ use Rattle.rules.specs.declared.Confirmation.{Confirmation}
 use Rattle.rules.specs.declared.EndState.{EndState}
 use Rattle.rules.specs.declared.Fingerprint.{Fingerprint}
 use Rattle.rules.specs.declared.Fingerprint.the-variants.{Unknown, Checked}
+use Rattle.rules.specs.declared.Absence.the-variants.{NoFrame, Missing}
 use Rattle.rules.specs.declared.First.{First}
 use Rattle.rules.specs.declared.First.the-variants.{Number, Nothing}
 use Rattle.rules.specs.declared.FrameKind.the-variants.{Dst, Dsd}
@@ -140,9 +141,11 @@ unfoldable pub numbersOf : {A : Type 0} → (A → List ℕ) → Answer A → Li
 numbersOf f (Refused n) = n ∷ []
 numbersOf f (Accepted a) = 0 ∷ f a
 
+-- the frame number and its offset; 1 where no frame starts, 2 where bytes are missing
 unfoldable pub firstNumbers : First → List ℕ
-firstNumbers (Number t) = t ∷ []
-firstNumbers Nothing = []
+firstNumbers (Number t) = t .number ∷ t .offset ∷ []
+firstNumbers (Nothing NoFrame) = 1 ∷ []
+firstNumbers (Nothing Missing) = 2 ∷ []
 
 -- 1 and the value where it is known, else 0
 unfoldable pub knownNumbers : Option ℕ → List ℕ
@@ -210,8 +213,8 @@ starred =
     ∷ example (numberOf (new ample (area 1000 1250) 1 100 8 2048) ∷ numberOf (new ample (area 1000 1250) 65536 100 8 2048) ∷ []) (0 ∷ 0 ∷ [])
     ∷ example (numberOf (new ample (area 1000 1250) 0 100 8 2048) ∷ numberOf (new ample (area 1000 1250) 65537 100 8 2048) ∷ []) (2 ∷ 2 ∷ [])
     -- header 0x24, bytes 1, 2, 3 at offset 3: 4,653; 0x20: none
-    ∷ example (firstNumbers (firstRecord (0x24 ∷ 0 ∷ 0 ∷ 1 ∷ 2 ∷ 3 ∷ []))) (4653 ∷ [])
-    ∷ example (firstNumbers (firstRecord (0x20 ∷ 0 ∷ 0 ∷ 1 ∷ 2 ∷ 3 ∷ []))) []
+    ∷ example (firstNumbers (firstRecord (0x24 ∷ 0 ∷ 0 ∷ 1 ∷ 2 ∷ 3 ∷ []))) (4653 ∷ 3 ∷ [])
+    ∷ example (firstNumbers (firstRecord (0x20 ∷ 0 ∷ 0 ∷ 1 ∷ 2 ∷ 3 ∷ []))) (1 ∷ [])
     -- thresholds 0, 0, 75: frame 74 plans checkpoint 1; 75 plans 2
     ∷ example (numbersOf planNumbers (plan ample three 74)) (0 ∷ 1 ∷ 1 ∷ [])
     ∷ example (numbersOf planNumbers (plan ample three 75)) (0 ∷ 1 ∷ 2 ∷ [])

@@ -1,14 +1,16 @@
--- Examples of the hint recorder: see, flush and take.
+-- Examples of first records and of the hint recorder: see, flush and take.
 use Prim.Native.Nat.{ℕ, _/_, _%_}
 use mathlib.Core.List.{List, [], _∷_, _++_}
 use mathlib.Core.Option.{Option, none, some}
+use lib.ListN.{replicate}
 use Rattle.rules.specs.declared.First.the-variants.{Number}
 use Rattle.rules.specs.declared.Hint.{Hint}
-use Rattle.rules.specs.Tests.{bind, numberOf}
+use Rattle.rules.specs.Tests.{Accepted, bind, numberOf}
 use Rattle.rules.specs.Values.{HintRecorder}
 use Rattle.rules.specs.Create.{hintRecorder, emptyIndex}
-use Rattle.rules.specs.Hints.{seenRecord, see, flush, Taken, takeList}
-use Rattle.rules.specs.Examples.{ample, area, hintAt, knownNumbers, hintNumbers, numbersOf, Example, example}
+use Rattle.rules.specs.FirstRecord.{firstRecord, recordNumber}
+use Rattle.rules.specs.Hints.{seenRecord, SeenSector, see, flush, Taken, takeList}
+use Rattle.rules.specs.Examples.{ample, area, hintAt, firstNumbers, knownNumbers, hintNumbers, numbersOf, Example, example}
 
 -- ---- values
 -- a hint recorder of spacing 75: the number listed last, the tail and the list
@@ -45,11 +47,38 @@ unfoldable pub spacingNumbers : Option HintRecorder → List ℕ
 spacingNumbers none = 0 ∷ []
 spacingNumbers (some r) = 1 ∷ r .spacing ∷ seenNumbers r
 
--- with a list that has space for 65,536
+-- with a list that has space for 65,536: the recorder afterwards
 abbrev pub saw : HintRecorder → ℕ → List ℕ → List ℕ
-saw r lsn sector = numbersOf seenNumbers (see 65536 r lsn sector)
+saw r lsn sector = numbersOf (λ (s : SeenSector). seenNumbers (s .recorder)) (see 65536 r lsn sector)
 
--- ---- the table
+-- what the sector says
+abbrev pub told : HintRecorder → ℕ → List ℕ → List ℕ
+told r lsn sector = numbersOf (λ (s : SeenSector). firstNumbers (s .first)) (see 65536 r lsn sector)
+
+-- ---- the tables
+-- f = 1 and k = 7: the three bytes begin at 15
+abbrev pub longHeader : List ℕ → List ℕ
+longHeader times = 0xe4 ∷ (replicate 14 0 ++ times)
+
+-- first records
+unfoldable pub firstRecords : List Example
+firstRecords =
+    example (firstNumbers (firstRecord [])) (2 ∷ [])
+    -- no frame starts there, however short the sector is
+    ∷ example (firstNumbers (firstRecord (0 ∷ []))) (1 ∷ [])
+    ∷ example (firstNumbers (firstRecord (0xe0 ∷ []))) (1 ∷ [])
+    -- a sector that ends with the three bytes is whole
+    ∷ example (firstNumbers (firstRecord (4 ∷ 1 ∷ 2 ∷ []))) (2 ∷ [])
+    ∷ example (firstNumbers (firstRecord (4 ∷ 1 ∷ 2 ∷ 3 ∷ []))) (4653 ∷ 1 ∷ [])
+    ∷ example (firstNumbers (firstRecord (0x24 ∷ 0 ∷ 0 ∷ 1 ∷ 2 ∷ 3 ∷ []))) (4653 ∷ 3 ∷ [])
+    ∷ example (firstNumbers (firstRecord (longHeader (1 ∷ 2 ∷ [])))) (2 ∷ [])
+    ∷ example (firstNumbers (firstRecord (longHeader (1 ∷ 2 ∷ 3 ∷ [])))) (4653 ∷ 15 ∷ [])
+    -- the largest number
+    ∷ example (firstNumbers (firstRecord (4 ∷ 255 ∷ 255 ∷ 255 ∷ []))) (1166880 ∷ 1 ∷ [])
+    -- the number alone
+    ∷ example (knownNumbers (recordNumber []) ++ knownNumbers (recordNumber (0xe0 ∷ [])) ++ knownNumbers (recordNumber (4 ∷ 1 ∷ 2 ∷ 3 ∷ [])))
+    (0 ∷ 0 ∷ 1 ∷ 4653 ∷ []) ∷ []
+
 unfoldable pub hintRecorders : List Example
 hintRecorders =
     -- "Spacing or M of 0: no hint recorder"
@@ -65,20 +94,25 @@ hintRecorders =
     -- "Listing and flushing clear the tail"
     ∷ example (saw tail174 1002 (sectorOf 175)) (0 ∷ 1 ∷ 175 ∷ 0 ∷ 1000 ∷ 100 ∷ 1002 ∷ 175 ∷ [])
     -- "at least last + spacing (saturating)"
-    ∷ example (seenNumbers (seenRecord (seeing (some 4294967290) none []) 1000 (Number 4294967295)))
+    ∷ example (seenNumbers (seenRecord (seeing (some 4294967290) none []) 1000 (Number (record { number = 4294967295; offset = 1 }))))
     (1 ∷ 4294967295 ∷ 0 ∷ 1000 ∷ 4294967295 ∷ [])
     -- "A record whose LSN exceeds 4,294,967,295 is passed over"
     ∷ example (saw after100 4294967295 (sectorOf 175)) (0 ∷ 1 ∷ 175 ∷ 0 ∷ 1000 ∷ 100 ∷ 4294967295 ∷ 175 ∷ [])
     ∷ example (saw tail174 4294967296 (sectorOf 175)) (0 ∷ 1 ∷ 100 ∷ 1 ∷ 1001 ∷ 174 ∷ 1000 ∷ 100 ∷ [])
+    -- its first record is told all the same, and so it is where it becomes the tail
+    ∷ example (told tail174 4294967296 (sectorOf 175)) (0 ∷ 175 ∷ 1 ∷ [])
+    ∷ example (told after100 1001 (sectorOf 174)) (0 ∷ 174 ∷ 1 ∷ [])
     -- "a sector without a frame start leaves the hint recorder unchanged"
     ∷ example (saw tail174 1002 (0x20 ∷ 0 ∷ 0 ∷ 1 ∷ 2 ∷ 3 ∷ [])) (0 ∷ 1 ∷ 100 ∷ 1 ∷ 1001 ∷ 174 ∷ 1000 ∷ 100 ∷ [])
     ∷ example (saw tail174 1002 []) (0 ∷ 1 ∷ 100 ∷ 1 ∷ 1001 ∷ 174 ∷ 1000 ∷ 100 ∷ [])
+    ∷ example (told tail174 1002 (0x20 ∷ 0 ∷ 0 ∷ 1 ∷ 2 ∷ 3 ∷ [])) (0 ∷ 1 ∷ [])
+    ∷ example (told tail174 1002 []) (0 ∷ 2 ∷ [])
     -- "the tail, which flush lists under the same bound"; the number listed last stays, as in the source's flush
     ∷ example (numbersOf seenNumbers (flush 65536 tail174)) (0 ∷ 1 ∷ 100 ∷ 0 ∷ 1000 ∷ 100 ∷ 1001 ∷ 174 ∷ [])
     ∷ example (numbersOf seenNumbers (flush 65536 after100)) (0 ∷ 1 ∷ 100 ∷ 0 ∷ 1000 ∷ 100 ∷ [])
     -- "if none was ever listed, even before a taking": the number listed last outlasts the taking, and so does the tail
     ∷ example (numbersOf takenNumbers (takeList 65536 tail174)) (0 ∷ 1 ∷ 100 ∷ 1 ∷ 1001 ∷ 174 ∷ 1000 ∷ 100 ∷ [])
-    ∷ example (numbersOf seenNumbers (bind (takeList 65536 after100) (λ t. see 65536 (t .recorder) 1001 (sectorOf 174))))
+    ∷ example (numbersOf seenNumbers (bind (takeList 65536 after100) (λ t. bind (see 65536 (t .recorder) 1001 (sectorOf 174)) (λ s. Accepted (s .recorder)))))
     (0 ∷ 1 ∷ 100 ∷ 1 ∷ 1001 ∷ 174 ∷ [])
     -- 3: "a hint recorder's own list 65,536"
     ∷ example

@@ -30,14 +30,21 @@ tailed r h = record { spacing = r .spacing; last = r .last; tail = some h; list 
 
 -- a record is listed while the list has under 65,536; else it becomes the tail
 unfoldable pub seenRecord : HintRecorder → ℕ → First → HintRecorder
-seenRecord r lsn Nothing = r
+seenRecord r lsn (Nothing a) = r
 seenRecord r lsn (Number t) =
     cond (ltb max32 lsn) r
-    (cond (spaced (r .last) (r .spacing) t && ltb (length (r .list)) maxList) (listed r (record { lsn = lsn; number = t }))
-    (tailed r (record { lsn = lsn; number = t })))
+    (cond (spaced (r .last) (r .spacing) (t .number) && ltb (length (r .list)) maxList) (listed r (record { lsn = lsn; number = t .number }))
+    (tailed r (record { lsn = lsn; number = t .number })))
 
-unfoldable pub see : ℕ → HintRecorder → ℕ → List ℕ → Answer HintRecorder
-see n r lsn sector = after (firstNo (hintRecorderFour n r [])) (Accepted (seenRecord r lsn (firstRecord sector)))
+-- what a sector says, and the recorder afterwards
+pub record SeenSector : Type 0 where
+  pub first : First
+  pub recorder : HintRecorder
+
+unfoldable pub see : ℕ → HintRecorder → ℕ → List ℕ → Answer SeenSector
+see n r lsn sector =
+    after (firstNo (hintRecorderFour n r []))
+    (Accepted (record { first = firstRecord sector; recorder = seenRecord r lsn (firstRecord sector) }))
 
 -- the tail is listed under the same bound, and cleared
 unfoldable pub flushedList : Option Hint → List Hint → List Hint

@@ -1,4 +1,5 @@
 pub mod FirstRecord
+pub mod FirstStatements
 pub mod Tests
 pub mod Values
 pub mod Sections

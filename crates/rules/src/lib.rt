@@ -29,10 +29,22 @@ pub const SECTOR_BYTES: usize = 2048;
 // SBSEEKIX, as a number of eight bytes.
 pub const MAGIC: u64 = 6361698709525447251;
 
-// The first record of a sector: a frame number, or none.
+// A frame number, and how far behind the sector's first byte its three bytes begin.
+pub struct TimeBytes {
+    pub number: u32,
+    pub offset: u32,
+}
+
+// Why a sector has no first record: no frame starts in it, or bytes are missing.
+pub enum Absence {
+    NoFrame,
+    Missing,
+}
+
+// The first record of a sector: its time bytes, or why there is none.
 pub enum First {
-    Number(u32),
-    Nothing,
+    Number(TimeBytes),
+    Nothing(Absence),
 }
 
 // What tells areas apart in a file (source: AreaKey): the five numbers that question 26 compares.

@@ -6,10 +6,10 @@ use mathlib.Core.Option.{some}
 use lib.ListN.{length, replicate}
 use Rattle.rules.specs.Tests.{numberOf}
 use Rattle.rules.specs.Values.{HintRecorder, Recorder}
-use Rattle.rules.specs.Hints.{see, flush, question13}
+use Rattle.rules.specs.Hints.{SeenSector, see, flush, question13}
 use Rattle.rules.specs.Record.{recordAt}
 use Rattle.rules.specs.Examples.{ample, hintAt, recording, knownNumbers, partNumbers, numbersOf, Example, example}
-use Rattle.rules.specs.HintRecorderExamples.{seeing, sectorOf, tailNumbers}
+use Rattle.rules.specs.HintRecorderExamples.{seeing, sectorOf, tailNumbers, told}
 use Rattle.rules.specs.RecorderExamples.{frameOf, sector}
 
 -- ---- values
@@ -36,12 +36,17 @@ roomier r =
 unfoldable pub endNumbers : HintRecorder → List ℕ
 endNumbers r = length (r .list) ∷ (knownNumbers (r .last) ++ tailNumbers (r .tail))
 
+-- after a sector is seen at LSN 1002
+abbrev pub endSeen : HintRecorder → List ℕ → List ℕ
+endSeen r sector = numbersOf (λ (s : SeenSector). endNumbers (s .recorder)) (see 65536 r 1002 sector)
+
 -- ---- the table
 unfoldable pub bounds : List Example
 bounds =
     -- see: "while the list has under 65,536; else it becomes the tail"
-    example (numbersOf endNumbers (see 65536 (filledTo 65535) 1002 (sectorOf 175))) (0 ∷ 65536 ∷ 1 ∷ 175 ∷ 0 ∷ [])
-    ∷ example (numbersOf endNumbers (see 65536 (filledTo 65536) 1002 (sectorOf 175))) (0 ∷ 65536 ∷ 1 ∷ 100 ∷ 1 ∷ 1002 ∷ 175 ∷ [])
+    example (endSeen (filledTo 65535) (sectorOf 175)) (0 ∷ 65536 ∷ 1 ∷ 175 ∷ 0 ∷ [])
+    ∷ example (endSeen (filledTo 65536) (sectorOf 175)) (0 ∷ 65536 ∷ 1 ∷ 100 ∷ 1 ∷ 1002 ∷ 175 ∷ [])
+    ∷ example (told (filledTo 65536) 1002 (sectorOf 175)) (0 ∷ 175 ∷ 1 ∷ [])
     -- "the tail, which flush lists under the same bound"
     ∷ example (numbersOf endNumbers (flush 65536 (filledTo 65536))) (0 ∷ 65536 ∷ 1 ∷ 100 ∷ 0 ∷ [])
     -- 4: "A hint recorder lists at most 65,536 hints"

@@ -23,7 +23,7 @@ use Rattle.rules.specs.Sections.{countsOk, checkpointsOk, framesOk, partsOk, re
 use Rattle.rules.specs.Questions.{areaOk, heldOk, scanOk, question1, question2, question3, question4, recorderQuestion1, recorderQuestion2, recorderQuestion3, recorderQuestion4, hintRecorderFour}
 use Rattle.rules.specs.Create.{emptyIndex, new, bindFingerprint, emptyHintRecorder, hintRecorder}
 use Rattle.rules.specs.Record.{Assembling, recorded, recordAt, finish, Absorbed, absorbNumber, absorbedBy, absorbedIndex, absorb, emptied, withMode, isStopped}
-use Rattle.rules.specs.Hints.{Taken, spaced, listed, tailed, seenRecord, see, flushedList, flush, takeList, addHints, keepConfirmation, keepsNothing, question13, question14}
+use Rattle.rules.specs.Hints.{Taken, SeenSector, spaced, listed, tailed, seenRecord, see, flushedList, flush, takeList, addHints, keepConfirmation, keepsNothing, question13, question14}
 use Rattle.rules.specs.Merge.{merge, merged}
 use Rattle.rules.specs.Load.{load, limited, fromBytes}
 use Rattle.rules.proofs.Tests.{choose, given, and-left, and-right, →all, later, asked, asked→, accepted→, accepted-eq, bind→}
@@ -221,19 +221,19 @@ module _ (n : ℕ) (r : HintRecorder) where
 
   seen-few : (lsn : ℕ) (f : First) → length (r .list) ≤ maxList → length (seenRecord r lsn f .list) ≤ maxList
   unfolding seenRecord
-  seen-few lsn Nothing l = l
+  seen-few lsn (Nothing a) l = l
   seen-few lsn (Number t) l =
-      let h : Hint = record { lsn = lsn; number = t } in
+      let h : Hint = record { lsn = lsn; number = t .number } in
       choose (λ (s : HintRecorder). length (s .list) ≤ maxList) (ltb max32 lsn) r _ (λ e. l)
-      (λ e. choose (λ (s : HintRecorder). length (s .list) ≤ maxList) (spaced (r .last) (r .spacing) t && ltb (length (r .list)) maxList) (listed r h) (tailed r h)
-      (λ d. let w = ltb-true (length (r .list)) maxList (and-right (spaced (r .last) (r .spacing) t) (ltb (length (r .list)) maxList) d) in omega (arith, length-snoc (r .list) h))
+      (λ e. choose (λ (s : HintRecorder). length (s .list) ≤ maxList) (spaced (r .last) (r .spacing) (t .number) && ltb (length (r .list)) maxList) (listed r h) (tailed r h)
+      (λ d. let w = ltb-true (length (r .list)) maxList (and-right (spaced (r .last) (r .spacing) (t .number)) (ltb (length (r .list)) maxList) d) in omega (arith, length-snoc (r .list) h))
       (λ d. l))
 
-  seen-valid : (lsn : ℕ) (sector : List ℕ) (s : HintRecorder) → see n r lsn sector ≡ Accepted s → ValidHintRecorder n s
+  seen-valid : (lsn : ℕ) (sector : List ℕ) (s : SeenSector) → see n r lsn sector ≡ Accepted s → ValidHintRecorder n (s .recorder)
   unfolding see
   seen-valid lsn sector s e =
-      let t = accepted→ _ (seenRecord r lsn (firstRecord sector)) s e in let v = hint-asked (t .0) in
-      subst (ValidHintRecorder n) (t .1) (record { three = v .three; four = seen-few lsn (firstRecord sector) (v .four) })
+      let t = accepted→ _ (record { first = firstRecord sector; recorder = seenRecord r lsn (firstRecord sector) }) s e in let v = hint-asked (t .0) in
+      subst (λ (x : SeenSector). ValidHintRecorder n (x .recorder)) (t .1) (record { three = v .three; four = seen-few lsn (firstRecord sector) (v .four) })
 
   flushed-few : (o : Option Hint) → length (r .list) ≤ maxList → length (flushedList o (r .list)) ≤ maxList
   unfolding flushedList

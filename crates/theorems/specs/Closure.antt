@@ -14,7 +14,7 @@ use Rattle.rules.specs.Values.{Index, Recorder, HintRecorder, Lengths, maxList}
 use Rattle.rules.specs.Questions.{recorderQuestion3}
 use Rattle.rules.specs.Create.{new, bindFingerprint, recorder, hintRecorder}
 use Rattle.rules.specs.Record.{Assembling, recordAt, finish, absorb}
-use Rattle.rules.specs.Hints.{Taken, see, flush, takeList, addHints, keepConfirmation}
+use Rattle.rules.specs.Hints.{Taken, SeenSector, see, flush, takeList, addHints, keepConfirmation}
 use Rattle.rules.specs.Merge.{merge}
 use Rattle.rules.specs.Load.{load}
 use Rattle.theorems.specs.Terms.{Valid, ValidRecorder, ValidHintRecorder}
@@ -37,7 +37,7 @@ pub record Closure : Type 0 where
       (l : Lengths) (x : Index) (m : Lengths) (r : Recorder) (image : Option ℕ) (ms : List ℕ) → absorb l x m r image ms .number ≡ 8
       → ValidRecorder m (absorb l x m r image ms .recorder)
   pub hintRecording : (l : Lengths) (x : Index) (r : HintRecorder) → hintRecorder l x ≡ Accepted (some r) → ValidHintRecorder maxList r
-  pub seen : (n : ℕ) (r : HintRecorder) (lsn : ℕ) (sector : List ℕ) (s : HintRecorder) → see n r lsn sector ≡ Accepted s → ValidHintRecorder n s
+  pub seen : (n : ℕ) (r : HintRecorder) (lsn : ℕ) (sector : List ℕ) (s : SeenSector) → see n r lsn sector ≡ Accepted s → ValidHintRecorder n (s .recorder)
   pub flushed : (n : ℕ) (r s : HintRecorder) → flush n r ≡ Accepted s → ValidHintRecorder n s
   pub taken : (n : ℕ) (r : HintRecorder) (t : Taken) → takeList n r ≡ Accepted t → ValidHintRecorder n (t .recorder)
   pub hinted : (l : Lengths) (x y : Index) (list : List Hint) → addHints l x list ≡ Accepted y → Valid l y

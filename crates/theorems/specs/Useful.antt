@@ -59,7 +59,8 @@ pub record RefusesNothing : Type 0 where
       → absorb l x m r image ms ≡ record { number = 0; index = x; recorder = r }
   pub hintRecorders : (l : Lengths) (x : Index) → Valid l x → hintRecorder l x ≡ Accepted (emptyHintRecorder (x .hinting))
   pub sees :
-      (n : ℕ) (r : HintRecorder) (lsn : ℕ) (sector : List ℕ) → ValidHintRecorder n r → see n r lsn sector ≡ Accepted (seenRecord r lsn (firstRecord sector))
+      (n : ℕ) (r : HintRecorder) (lsn : ℕ) (sector : List ℕ) → ValidHintRecorder n r
+      → see n r lsn sector ≡ Accepted (record { first = firstRecord sector; recorder = seenRecord r lsn (firstRecord sector) })
   pub flushes : (n : ℕ) (r : HintRecorder) → ValidHintRecorder n r → numberOf (flush n r) ≡ 0
   pub takes : (n : ℕ) (r : HintRecorder) → ValidHintRecorder n r → numberOf (takeList n r) ≡ 0
   pub addsHints :

@@ -1,5 +1,6 @@
 -- Each return is one answer of the definition.
 use mathlib.Core.Path.{sym, _∙_}
+use native.Mathlib.Omega.{arith}
 use borrow.Author.Needs.{needs}
 use Rattle.first_record.proofs.Record.{empty, frameless, short, whole}
 use Rattle.first_record.proofs.first_record.Statement.{statement}
@@ -19,7 +20,7 @@ returns-3 c =
 returns-4 : tie.Need-returns-4
 returns-4 c =
     let two = c .before .before .before in
-    whole _ (two .before .before .before .if1 .left) (λ e. two .if2 .left (two .before .frames-of .ensures ∙ e)) _ (c .before .before .packets-of .ensures .0) _ (c .before .if3 .left) (c .time-at .ensures)
+    whole _ (two .before .before .before .if1 .left) (λ e. two .if2 .left (two .before .frames-of .ensures ∙ e)) _ (c .before .before .packets-of .ensures .0) _ _ (c .before .if3 .left) (c .time-at .ensures) (omega arith)
 
 pub first-record-spec : {M : Type 1} → statement M
 first-record-spec =
@@ -35,4 +36,7 @@ first-record-spec =
     (λ c. search needs)
     returns-3
     (λ c κs. search needs)
+    (λ c. search needs)
+    (λ c. search needs)
+    (λ c. search needs)
     returns-4)

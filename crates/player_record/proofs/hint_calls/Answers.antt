@@ -11,6 +11,7 @@ use Rattle.index.specs.Index.{Tables}
 use Rattle.hint.specs.declared.HintAnswer.{HintAnswer}
 use Rattle.hint.specs.Calls.{answerOf, hintIn}
 use Rattle.hint_recorder.specs.declared.Created.{Created}
+use Rattle.hint_recorder.specs.declared.Saw.{Saw}
 use Rattle.hint_recorder.specs.declared.Seen.{Seen}
 use Rattle.hint_recorder.specs.declared.Taken.{Taken}
 use Rattle.hint_recorder.specs.Recorder.{hintRecorderIn, seeIn, flushIn, takeIn}
@@ -20,7 +21,7 @@ use Rattle.confirmations.specs.Keeping.{keepIn}
 use Rattle.confirmations.specs.Keeping as keeping
 use Rattle.player.specs.Block.{called, into, headIndex, headHintRecorder}
 use Rattle.player.proofs.block.Blocks.{long-enough}
-use Rattle.player_record.specs.Block.{calledBoth, seenOf, createdOf, createdWords, hintWords, takenInto, keptInto}
+use Rattle.player_record.specs.Block.{calledBoth, seenOf, sawOf, sectorWords, createdOf, createdWords, hintWords, takenInto, keptInto}
 use Rattle.player_record.specs.HintCallsCalls.{calledList, calledKept, hintRecorderCall, seeCall, flushCall, takeCall, keepCall, hintCall}
 
 module _ (b b' : List ℕ) (n : ℕ) (l : 192 ≤ length b) where
@@ -36,14 +37,14 @@ module _ (b b' : List ℕ) (n : ℕ) (l : 192 ≤ length b) where
   hint-done h g x t first end playtime q p e z = long-enough h _ _ g (long-enough b _ _ l (rw (e, z) at p))
 
   module _ (r : HintRecorder) (z : r ≡ headHintRecorder b) (t t' : List ℕ) where
-    module _ (q : Seen) (p : called n b' ≡ into hintRecorderWords b (seenOf q)) where
-      pub see-done : (lsn : ℕ) (sector : List ℕ) → hinting.out q t' ≡ seeIn r t lsn sector → calledList n b' t' ≡ seeCall b lsn sector t
-      unfolding seeCall
-      see-done lsn sector e = long-enough b _ _ l (rw (← z, ← e, p))
+    pub see-done : (q : Saw) → called n b' ≡ into sectorWords b (sawOf q) → (lsn : ℕ) (sector : List ℕ) → hinting.sawOut q t' ≡ seeIn r t lsn sector
+        → calledList n b' t' ≡ seeCall b lsn sector t
+    unfolding seeCall
+    see-done q p lsn sector e = long-enough b _ _ l (rw (← z, ← e, p))
 
-      pub flush-done : hinting.out q t' ≡ flushIn r t → calledList n b' t' ≡ flushCall b t
-      unfolding flushCall
-      flush-done e = long-enough b _ _ l (rw (← z, ← e, p))
+    pub flush-done : (q : Seen) → called n b' ≡ into hintRecorderWords b (seenOf q) → hinting.out q t' ≡ flushIn r t → calledList n b' t' ≡ flushCall b t
+    unfolding flushCall
+    flush-done q p e = long-enough b _ _ l (rw (← z, ← e, p))
 
   -- ---- two blocks
   module _ (a a' : List ℕ) (k : 192 ≤ length a) where

@@ -11,11 +11,11 @@ returns c = too-short _ _ _ (c .if1 .taken)
 
 returns-2 : tie.Need-returns-2
 returns-2 c =
-    let put : tie.After-put-seen = search in
+    let put : tie.After-put-saw = search in
     let call : tie.After-see = search in
     let own : tie.After-hint-recorder-in = search in
     let test : tie.Else1 = search in
-    see-done _ _ _ (test .if1 .left) _ (own .hint-recorder-in .ensures) _ _ _ (put .put-seen .ensures) _ _ (call .see .ensures)
+    see-done _ _ _ (test .if1 .left) _ (own .hint-recorder-in .ensures) _ _ _ (put .put-saw .ensures) _ _ (call .see .ensures)
 
 pub seek-raw-see-spec : {M : Type 1} → statement M
 seek-raw-see-spec =
