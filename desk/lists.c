@@ -97,7 +97,7 @@ static uint32_t see_all(const Disc *d, unsigned n, seek_list *l, seek_hint_recor
     uint32_t no = seek_hint_recorder_of(l, h, &made);
     for (j = 0; j < n && no == 0; j++) {
         read_sector(d, lsn_of(d, j), sector);
-        no = seek_see(h, lsn_of(d, j), sector, SECTOR);
+        no = seek_see(h, lsn_of(d, j), sector, SECTOR, NULL);
     }
     if (no == 0)
         no = seek_flush(h);

@@ -43,7 +43,7 @@ static int read_disc(seek_recorder *r, seek_hint_recorder *h)
         read_sector(lsn, sector);
         if ((lsn - START) % INTERVAL == 0 && !record(r, lsn, sector, bytes))
             return 0;
-        if (!accepted("see", seek_see(h, lsn, sector, SECTOR)))
+        if (!accepted("see", seek_see(h, lsn, sector, SECTOR, NULL)))
             return 0;
     }
     return accepted("finish", seek_finish(r, END - START, 0)) && accepted("flush", seek_flush(h));

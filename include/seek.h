@@ -783,10 +783,31 @@ static inline uint32_t seek_hint_recorder_of(const seek_list *l, seek_hint_recor
     return n;
 }
 
-/* Shows it a sector that was read. */
-static inline uint32_t seek_see(seek_hint_recorder *h, uint64_t lsn, const uint8_t *sector, size_t length)
+/* The first record of a sector: its frame number and where its three time bytes lie, or why there is none. */
+enum { SEEK_NO_FRAME = 1, SEEK_BYTES_MISSING };
+typedef struct {
+    int found;
+    uint64_t number;      /* the frame number */
+    uint64_t offset;      /* of the first of its three bytes, from the sector's first byte: odd, 1 to 15 */
+    int why;              /* where found is 0: SEEK_NO_FRAME, no frame starts in the sector; SEEK_BYTES_MISSING, it is empty or ends before the three bytes do */
+} seek_first;
+
+static inline void seek_first_from_(const uint8_t *block, unsigned at, int told, seek_first *first)
 {
-    return seek_raw_see(h->block, SEEK_BLOCK, lsn, sector, length, SEEK_LENT_(h->list));
+    first->found = told && seek_word(block, at) != 0;
+    first->number = told ? seek_word(block, at + 1) : 0;
+    first->offset = told ? seek_word(block, at + 2) : 0;
+    first->why = told ? SEEK_CAST_(int, seek_word(block, at + 3)) : 0;
+}
+
+/* Shows it a sector that was read, and tells the sector's first record, also where the hint recorder passes it over; first may be NULL. Where the call refuses,
+ * first is all 0. */
+static inline uint32_t seek_see(seek_hint_recorder *h, uint64_t lsn, const uint8_t *sector, size_t length, seek_first *first)
+{
+    uint32_t n = seek_raw_see(h->block, SEEK_BLOCK, lsn, sector, length, SEEK_LENT_(h->list));
+    if (first != SEEK_NULL_)
+        seek_first_from_(h->block, 7, n == 0, first);
+    return n;
 }
 
 /* Lists the last frame start that was seen and not listed. */
@@ -931,14 +952,20 @@ static inline uint64_t seek_disc_save(const seek_list *l, const seek_list *other
 }
 
 /* ---- sectors and bytes */
-/* The frame number of a sector's first record; *found is 0 where no frame starts there or bytes are missing. */
-static inline uint32_t seek_first_record(const uint8_t *sector, size_t length, int *found, uint64_t *number)
+/* The first record of a sector. */
+static inline uint32_t seek_first_record(const uint8_t *sector, size_t length, seek_first *first)
 {
     uint8_t answer[SEEK_BLOCK] = {0};
     uint32_t n = seek_raw_first_record(sector, length, answer, SEEK_BLOCK);
-    *found = seek_word(answer, 0) != 0;
-    *number = seek_word(answer, 1);
+    seek_first_from_(answer, 0, n == 0, first);
     return n;
+}
+
+/* Why a sector has no first record, in words. */
+static inline const char *seek_first_text(int why)
+{
+    static const char *const text[] = {"none", "no frame starts there", "bytes are missing"};
+    return why < 1 || why > 2 ? text[0] : text[why];
 }
 
 /* 64-bit FNV-1a. */

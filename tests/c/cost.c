@@ -26,7 +26,7 @@ static void do_sum(void) { seek_sum(sector, sizeof sector); }
 static void do_sum32(void) { seek_sum32(sector, sizeof sector); }
 static void do_fold32(void) { uint32_t f; seek_fold32(0xbf9cf968, 24, &f); }
 static void do_fold64(void) { uint64_t f; seek_fold64(0x85944171f73967e8, 48, &f); }
-static void do_first(void) { int f; uint64_t n; seek_first_record(sector, sizeof sector, &f, &n); }
+static void do_first(void) { seek_first f; seek_first_record(sector, sizeof sector, &f); }
 static void do_sizes(void) { seek_table_sizes s; seek_sizes(&area, INTERVAL, 1048576, 2048, &s); }
 static void do_file_area(void) { seek_area a; seek_file_area(file, length, &a); }
 static void do_file_sizes(void) { seek_table_sizes s; seek_file_sizes(&area, file, length, UINT64_MAX, &s); }
@@ -50,7 +50,7 @@ static void do_boundary(void) { uint64_t n; seek_boundary(&list, 5, &n); }
 static void do_finish(void) { seek_finish(&recorder, 0, 0); }
 static void do_absorb(void) { seek_absorb(&list, &kept, NULL, NULL, 0); }
 static void do_hint_recorder(void) { int m; seek_hint_recorder_of(&list, &hinter, &m); }
-static void do_see(void) { seek_see(&hinter, 5, sector, sizeof sector); }
+static void do_see(void) { seek_see(&hinter, 5, sector, sizeof sector, NULL); }
 static void do_flush(void) { seek_flush(&hinter); }
 static void do_take(void) { size_t n; seek_take(&hinter, &n); }
 static void do_contents(void) { seek_contents c; seek_disc_contents(disc, disc_length, &c); }

@@ -52,7 +52,7 @@ static int read_disc(seek_recorder *r, seek_hint_recorder *h)
             if (!accepted("record", seek_record(r, lsn, (uint32_t)(lsn - START), 0, lsn == START ? NULL : &f, sector, SECTOR)))
                 return 0;
         }
-        if (!accepted("see", seek_see(h, lsn, sector, SECTOR)))
+        if (!accepted("see", seek_see(h, lsn, sector, SECTOR, NULL)))
             return 0;
     }
     return !seek_due(r, &due) && accepted("finish", seek_finish(r, END - START, 0)) && accepted("flush", seek_flush(h));

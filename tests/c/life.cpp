@@ -88,7 +88,7 @@ void record(const std::string &name)
             const seek_frame f = {lsn - 40, number, SEEK_DST, 3, bytes.data(), bytes.size()};
             accept("record", seek_record(&r.recorder, lsn, number, 0, lsn == start ? nullptr : &f, sector.data(), sector.size()));
         }
-        accept("see", seek_see(&h.recorder, lsn, sector.data(), sector.size()));
+        accept("see", seek_see(&h.recorder, lsn, sector.data(), sector.size(), nullptr));
     }
     accept("finish", seek_finish(&r.recorder, end - start, 0));
     accept("flush", seek_flush(&h.recorder));

@@ -1,5 +1,5 @@
 /* What seek.h tells of a list by number, and what it makes of lists that are absent, sizes of 0, areas of zeros, NULL with length 0, a recorder's block given as a
- * list's head, and a frame of no kind. Answers status 1 at the first wrong answer. */
+ * list's head, and a frame of no kind; where the time bytes of a sector lie. Answers status 1 at the first wrong answer. */
 #include <stdio.h>
 #include <stdlib.h>
 
@@ -84,6 +84,77 @@ static void reading(void)
     seek_close(&l);
 }
 
+static int is_first(const seek_first *f, int found, uint64_t number, uint64_t offset, int why)
+{
+    return f->found == found && f->number == number && f->offset == offset && f->why == why;
+}
+
+/* A sector that begins with this header byte, the time bytes 1, 2, 3 where its packets end, and is so long. */
+static int tells(uint8_t header, size_t length, int found, uint64_t offset, int why)
+{
+    static uint8_t shown[2049];
+    seek_first f;
+    unsigned at = 1 + 2 * (unsigned)(header >> 5), i;
+    memset(shown, 0, sizeof shown);
+    shown[0] = header;
+    for (i = 0; i < 3; i++)
+        shown[at + i] = (uint8_t)(i + 1);
+    return seek_first_record(shown, length, &f) == 0 && is_first(&f, found, found ? 4653 : 0, offset, why);
+}
+
+/* Where the time bytes lie, or why there are none; what see passes through; words 7 to 10 of a hint recorder's block. */
+static void first_records(void)
+{
+    static const size_t lengths[] = {3, 4, 17, 18, 2047, 2048, 2049};
+    static uint8_t shown[2048] = {0x24, 0, 0, 1, 2, 3}, block[SEEK_BLOCK], answer[SEEK_BLOCK - 1];
+    const seek_area area = {0, 2, 1000, 1399, 1550, 1000, 1400};
+    seek_list l;
+    seek_hint_recorder h, g;
+    seek_first f;
+    size_t i;
+    int made;
+    for (i = 0; i < sizeof lengths / sizeof *lengths; i++) {
+        size_t n = lengths[i];
+        HOLDS(n < 4 ? tells(0x04, n, 0, 0, SEEK_BYTES_MISSING) : tells(0x04, n, 1, 1, 0));
+        HOLDS(n < 18 ? tells(0xe4, n, 0, 0, SEEK_BYTES_MISSING) : tells(0xe4, n, 1, 15, 0));
+        HOLDS(tells(0xe3, n, 0, 0, SEEK_NO_FRAME));
+    }
+    HOLDS(tells(0x04, 0, 0, 0, SEEK_BYTES_MISSING) && tells(0, 0, 0, 0, SEEK_BYTES_MISSING) && tells(0, 1, 0, 0, SEEK_NO_FRAME));
+    HOLDS(tells(0xe0, 1, 0, 0, SEEK_NO_FRAME) && tells(0x04, 1, 0, 0, SEEK_BYTES_MISSING) && tells(0x24, 6, 1, 3, 0) && tells(0x1c, 4, 1, 1, 0));
+    HOLDS(strcmp(seek_first_text(SEEK_NO_FRAME), "no frame starts there") == 0 && strcmp(seek_first_text(SEEK_BYTES_MISSING), "bytes are missing") == 0);
+    HOLDS(strcmp(seek_first_text(0), "none") == 0 && strcmp(seek_first_text(3), "none") == 0 && strcmp(seek_first_text(-1), "none") == 0);
+
+    /* a block of 191 bytes: 3, and nothing is told */
+    HOLDS(seek_raw_first_record(shown, sizeof shown, answer, sizeof answer) == SEEK_NO_ROOM && seek_word(answer, 0) == 0 && seek_word(answer, 3) == 0);
+
+    HOLDS(seek_begin(&area, 50, 4096, 75, 2048, &l) == 0 && seek_begin_hint_recorder(&l, &h, &made) == 0 && made);
+    HOLDS(seek_raw_see(h.block, SEEK_BLOCK - 1, 1000, shown, sizeof shown, h.list.at, h.list.length) == SEEK_NO_ROOM && seek_word(h.block, 7) == 0);
+    HOLDS(seek_see(&h, 1000, shown, sizeof shown, &f) == 0 && is_first(&f, 1, 4653, 3, 0) && seek_seen_count(&h) == 1);
+    shown[5] = 4; /* not spaced: the tail */
+    HOLDS(seek_see(&h, 1001, shown, sizeof shown, &f) == 0 && is_first(&f, 1, 4654, 3, 0) && seek_seen_count(&h) == 1 && seek_word(h.block, 5) == 4654);
+    shown[5] = 5; /* passed over: an LSN above 32 bits */
+    HOLDS(seek_see(&h, UINT64_C(4294967296), shown, sizeof shown, &f) == 0 && is_first(&f, 1, 4655, 3, 0) && seek_word(h.block, 5) == 4654);
+    HOLDS(seek_see(&h, 1002, shown, 1, &f) == 0 && is_first(&f, 0, 0, 0, SEEK_BYTES_MISSING) && seek_word(h.block, 5) == 4654);
+    HOLDS(seek_see(&h, 1002, NULL, 0, &f) == 0 && is_first(&f, 0, 0, 0, SEEK_BYTES_MISSING));
+    shown[0] = 0x20;
+    HOLDS(seek_see(&h, 1002, shown, sizeof shown, &f) == 0 && is_first(&f, 0, 0, 0, SEEK_NO_FRAME) && seek_word(h.block, 10) == SEEK_NO_FRAME);
+
+    /* what words 7 to 10 are has no effect, and flush writes 0 there */
+    g = h;
+    memset(g.block + 8 * 7, 0xff, 8 * 4);
+    shown[0] = 0x24;
+    memcpy(block, g.block, sizeof block);
+    g.list.length = 8; /* refused: all is 0, and the block is as it was */
+    HOLDS(seek_see(&g, 1003, shown, sizeof shown, &f) == SEEK_NO_ROOM && is_first(&f, 0, 0, 0, 0) && memcmp(block, g.block, sizeof block) == 0);
+    g.list.length = h.list.length;
+    HOLDS(seek_see(&g, 1003, shown, sizeof shown, &f) == 0 && is_first(&f, 1, 4655, 3, 0));
+    HOLDS(seek_see(&h, 1003, shown, sizeof shown, NULL) == 0 && memcmp(g.block, h.block, sizeof block) == 0);
+    memset(g.block + 8 * 7, 0xff, 8 * 4);
+    HOLDS(seek_flush(&g) == 0 && seek_seen_count(&g) == 2 && seek_word(g.block, 7) == 0 && seek_word(g.block, 10) == 0);
+    seek_close_hint_recorder(&h);
+    seek_close(&l);
+}
+
 /* Lists without memory, sizes of 0, areas of zeros, NULL with length 0. */
 static void nothing(void)
 {
@@ -101,20 +172,21 @@ static void nothing(void)
     uint8_t disc[SAMPLE_LONGEST + 28], *bytes;
     uint64_t number;
     size_t n = sample_file(file, 5, 0, 0), length;
-    int present[2], made, found;
+    int present[2], made;
+    seek_first first;
     HOLDS(seek_carve(&l, &zero, NULL, 0) && l.store.at == NULL && l.hints.length == 0 && seek_carve_recorder(&r, &zero, NULL, 0));
     HOLDS(seek_plan(&none, 0, &j) == SEEK_NO_NUMBERS && j.where == SEEK_AT_START && seek_part(&none, &j) == NULL && seek_frontier(&none) == 0);
     HOLDS(seek_saved_length(&none) == SEEK_NO_NUMBERS && seek_refused(seek_save(&none, NULL, 0)) && seek_fingerprint(&none, 1) == SEEK_NO_NUMBERS);
     HOLDS(seek_merge(&none, &l) == SEEK_NO_NUMBERS && seek_adds(&none, &l, &b) == SEEK_NO_NUMBERS && seek_hint(&none, 0, 0, 0, &h) == SEEK_NO_NUMBERS);
     HOLDS(seek_add_hints(&none, NULL, 0) == SEEK_NO_NUMBERS && seek_recorder_of(&none, 0, &r) == SEEK_NO_NUMBERS);
-    HOLDS(seek_hint_recorder_of(&none, &hr, &made) == SEEK_NO_NUMBERS && !made && seek_see(&hr, 0, NULL, 0) == SEEK_NO_ROOM);
+    HOLDS(seek_hint_recorder_of(&none, &hr, &made) == SEEK_NO_NUMBERS && !made && seek_see(&hr, 0, NULL, 0, NULL) == SEEK_NO_ROOM);
     HOLDS(seek_flush(&hr) == SEEK_NO_ROOM && seek_take(&hr, &length) == SEEK_NO_ROOM && length == 0);
     HOLDS(seek_record(&r, 0, 0, 0, NULL, NULL, 0) == SEEK_NO_NUMBERS && seek_finish(&r, 0, 0) == SEEK_NO_NUMBERS && !seek_due(&r, &number));
     HOLDS(seek_absorb(&none, &r, NULL, NULL, 0) == SEEK_NO_NUMBERS && seek_keep_confirmation(&none, 0, 0, 0, &made) == SEEK_NO_NUMBERS);
     HOLDS(seek_file_area(NULL, 0, &area) == SEEK_NO_FILE_SHORT && seek_load(&l, &empty, NULL, 0, 0) == SEEK_NO_FILE_SHORT);
     HOLDS(seek_file_sizes(&empty, NULL, 0, 0, &s[0]) == SEEK_NO_FILE_SHORT && seek_total(&s[0]) == 0 && seek_new(&l, &empty, 1, 0, 0, 0) == SEEK_NO_ROOM);
     HOLDS(seek_disc_contents(NULL, 0, &c) == SEEK_NO_DISC && seek_disc_load(NULL, NULL, NULL, NULL, NULL, 0, 0, present) == SEEK_NO_DISC);
-    HOLDS(seek_first_record(NULL, 0, &found, &number) == 0 && !found && seek_sum(NULL, 0) == UINT64_C(0xcbf29ce484222325));
+    HOLDS(seek_first_record(NULL, 0, &first) == 0 && is_first(&first, 0, 0, 0, SEEK_BYTES_MISSING) && seek_sum(NULL, 0) == UINT64_C(0xcbf29ce484222325));
     HOLDS(seek_saved(&none, &bytes, &length) == SEEK_NO_NUMBERS && bytes == NULL && seek_open("", NULL, 0, &l) == SEEK_NO_READ);
     seek_close(&none); /* an absent list has nothing to give back */
 
@@ -147,6 +219,7 @@ int main(void)
     HOLDS(seek_version() == SEEK_VERSION && !seek_refused(88) && seek_refused(87) && SEEK_DST == 0 && SEEK_DSD == 1);
     records();
     reading();
+    first_records();
     nothing();
     return 0;
 }

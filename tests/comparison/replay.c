@@ -700,6 +700,22 @@ static void do_first_record(void)
     end_line();
 }
 
+static void say_first(const seek_first *f)
+{
+    say((uint64_t)f->found), say(f->number), say(f->offset), say((uint64_t)f->why);
+}
+
+/* Where its time bytes lie, or why there are none. */
+static void do_first_bytes(void)
+{
+    seek_first f;
+    size_t n;
+    const uint8_t *sector = bytes(&n);
+    if (answer(seek_first_record(sector, n, &f)))
+        say_first(&f);
+    end_line();
+}
+
 static void do_hint_recorder(void)
 {
     int p = at_place(), made;
@@ -716,7 +732,7 @@ static void see(uint64_t lsn, const uint8_t *sector, size_t length)
 {
     if (has_hints) {
         keep_hints(WRITTEN);
-        answer(seek_see(&hints, lsn, sector, length));
+        answer(seek_see(&hints, lsn, sector, length, NULL));
         end_line();
     } else
         none();
@@ -745,6 +761,25 @@ static void do_see_bytes(void)
     see(lsn, sector, n);
 }
 
+/* What was passed through. */
+static void do_see_first(void)
+{
+    uint64_t lsn = number();
+    size_t n;
+    const uint8_t *sector = bytes(&n);
+    seek_first f;
+    if (has_hints) {
+        keep_hints(WRITTEN);
+        if (answer(seek_see(&hints, lsn, sector, n, &f)))
+            say_first(&f);
+        else if (f.found || f.number || f.offset || f.why)
+            changed = 1;
+        end_line();
+    } else
+        none();
+    show_hints();
+}
+
 static uint8_t at_most_255(uint64_t v) { return v < 255 ? (uint8_t)v : 255; }
 
 /* A sector that begins with a frame of this number. */
@@ -765,7 +800,7 @@ static void do_see_many(void)
         keep_hints(WRITTEN);
         for (i = 0; i < count && n == 0; i++, lsn += step, t = (t + rise) % 1166881) {
             put_number(sector, t);
-            n = seek_see(&hints, lsn, sector, SECTOR);
+            n = seek_see(&hints, lsn, sector, SECTOR, NULL);
         }
         answer(n);
         end_line();
@@ -814,7 +849,7 @@ static const struct {
              {"confirm", do_confirm}, {"hint", do_hint}, {"recorder", do_recorder}, {"record", do_record}, {"finish", do_finish},
              {"absorb", do_absorb}, {"first_record", do_first_record}, {"hint_recorder", do_hint_recorder}, {"see", do_see},
              {"see_bytes", do_see_bytes}, {"see_many", do_see_many}, {"flush", do_flush}, {"take", do_take},
-             {"plan_rule", do_plan_rule}, {"hint_rule", do_hint_rule}};
+             {"plan_rule", do_plan_rule}, {"hint_rule", do_hint_rule}, {"first_bytes", do_first_bytes}, {"see_first", do_see_first}};
 
 static void run_line(char *line)
 {

@@ -349,7 +349,7 @@ static void begin_hint_recorder(const seek_list *l)
     make(SEEN, "seen", SEEK_HINT_LIST);
     h.list.at = real[SEEN];
     h.list.length = SEEK_HINT_LIST;
-    if (seek_hint_recorder_of(l, &h, &made) || !made || seek_see(&h, 1100, real[SECTOR], 2048) || seek_see(&h, 1101, real[SECTOR], 2048))
+    if (seek_hint_recorder_of(l, &h, &made) || !made || seek_see(&h, 1100, real[SECTOR], 2048, NULL) || seek_see(&h, 1101, real[SECTOR], 2048, NULL))
         exit(2);
     make(HINTER, "hint recorder", SEEK_BLOCK);
     memcpy(real[HINTER], h.block, SEEK_BLOCK);

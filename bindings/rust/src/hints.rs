@@ -2,7 +2,7 @@
 
 use crate::error::{Error, answer};
 use crate::raw::{self, BLOCK};
-use crate::{List, word, zeros};
+use crate::{First, List, word, zeros};
 use std::fmt;
 
 /// The bytes of a hint recorder's list: 65,536 hints.
@@ -75,11 +75,12 @@ pub struct HintRecorder {
 }
 
 impl HintRecorder {
-    /// Shows it a sector that was read.
-    pub fn see(&mut self, lsn: u64, sector: &[u8]) -> Result<(), Error> {
+    /// Shows it a sector that was read, and tells the sector's first record, also where it is passed over.
+    pub fn see(&mut self, lsn: u64, sector: &[u8]) -> Result<First, Error> {
         let (b, l) = (&mut self.block, &mut self.list);
         // Safety: each pointer is that of a slice of the length behind it, and no two overlap.
-        answer(unsafe { raw::seek_raw_see(b.as_mut_ptr(), BLOCK, lsn, sector.as_ptr(), sector.len(), l.as_mut_ptr(), l.len()) })
+        answer(unsafe { raw::seek_raw_see(b.as_mut_ptr(), BLOCK, lsn, sector.as_ptr(), sector.len(), l.as_mut_ptr(), l.len()) })?;
+        Ok(First::from_block(b, 7))
     }
 
     /// Lists the last frame start that was seen and not listed.

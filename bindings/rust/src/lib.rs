@@ -233,12 +233,47 @@ pub fn sum(bytes: &[u8]) -> u64 {
     unsafe { raw::seek_raw_sum(bytes.as_ptr(), bytes.len()) }
 }
 
-/// The frame number of a sector's first record.
-pub fn first_record(sector: &[u8]) -> Option<u32> {
+/// The first record of a sector, or why there is none.
+#[derive(Clone, Copy, Debug, PartialEq, Eq)]
+pub enum First {
+    /// A frame starts in the sector.
+    Record {
+        /// Its number.
+        number: u32,
+        /// Where its three time bytes begin in the sector: odd, 1 to 15.
+        offset: u32,
+    },
+    /// No frame starts in the sector.
+    NoFrame,
+    /// The sector is empty or ends before the three bytes do.
+    Missing,
+}
+
+impl First {
+    /// What the four words of a block from `at` on tell.
+    fn from_block(b: &[u8; BLOCK], at: usize) -> First {
+        match (word(b, at), word(b, at + 3)) {
+            (0, 1) => First::NoFrame,
+            (0, _) => First::Missing,
+            _ => First::Record { number: word(b, at + 1) as u32, offset: word(b, at + 2) as u32 },
+        }
+    }
+
+    /// Its frame number, if there is one.
+    pub fn number(self) -> Option<u32> {
+        match self {
+            First::Record { number, .. } => Some(number),
+            First::NoFrame | First::Missing => None,
+        }
+    }
+}
+
+/// The first record of a sector.
+pub fn first_record(sector: &[u8]) -> First {
     let mut block = [0; BLOCK];
     // Safety: pointers and lengths are those of two slices, and the block overlaps nothing.
     unsafe { raw::seek_raw_first_record(sector.as_ptr(), sector.len(), block.as_mut_ptr(), BLOCK) };
-    (word(&block, 0) != 0).then(|| word(&block, 1) as u32)
+    First::from_block(&block, 0)
 }
 
 impl Area {

@@ -1,7 +1,7 @@
 //! A list's life through the wrapper.
 
 use seek::{
-    Area, Brings, Checkpoint, Confirmation, Error, Frame, Held, Hint, HintEnd, HintStart, Hinted, Lacking, List, Plan, PlanRule, contents, first_record,
+    Area, Brings, Checkpoint, Confirmation, Error, First, Frame, Held, Hint, HintEnd, HintStart, Hinted, Lacking, List, Plan, PlanRule, contents, first_record,
     load_disc, save_disc, sum, version,
 };
 
@@ -40,9 +40,12 @@ fn file(n: u32) -> Vec<u8> {
 fn sums_and_sectors() {
     assert_eq!(sum(b""), 0xcbf2_9ce4_8422_2325);
     assert_eq!(sum(b"foobar"), 0x8594_4171_f739_67e8);
-    assert_eq!(first_record(&[0x24, 0, 0, 1, 2, 3]), Some(4653));
-    assert_eq!(first_record(&[0x20, 0, 0, 1, 2, 3]), None);
-    assert_eq!(first_record(&[]), None);
+    assert_eq!(first_record(&[0x24, 0, 0, 1, 2, 3]), First::Record { number: 4653, offset: 3 });
+    assert_eq!(first_record(&[0x24, 0, 0, 1, 2, 3]).number(), Some(4653));
+    assert_eq!(first_record(&[0x20, 0, 0, 1, 2, 3]), First::NoFrame);
+    assert_eq!(first_record(&[0xe0]), First::NoFrame);
+    assert_eq!(first_record(&[4, 1, 2]), First::Missing);
+    assert_eq!(first_record(&[]), First::Missing);
 }
 
 #[test]
@@ -174,8 +177,12 @@ fn hints_and_confirmations() {
     let mut list = List::new(area(), 50, 0, 75, 2048).unwrap();
     let mut h = list.hint_recorder().unwrap().unwrap();
     for n in [100, 174, 175, 99] {
-        h.see(1000 + u64::from(n), &sector(n)).unwrap();
+        assert_eq!(h.see(1000 + u64::from(n), &sector(n)), Ok(First::Record { number: n, offset: 3 }));
     }
+    // Passed over, and told all the same.
+    assert_eq!(h.see(1 << 32, &sector(300)), Ok(First::Record { number: 300, offset: 3 }));
+    assert_eq!(h.see(1300, &[0xe0]), Ok(First::NoFrame));
+    assert_eq!(h.see(1300, &[]), Ok(First::Missing));
     h.flush().unwrap();
     let taken = h.take().unwrap();
     assert_eq!(taken, [100, 175, 99].map(|n| Hint { lsn: 1000 + n, number: n }));
