@@ -389,6 +389,37 @@ const NAMES: [(&str, &[&str]); 2] = [
     ),
 ];
 
+/// What sectors of kind sectors tell, alone and to a hint recorder.
+const FIRST: [&str; 7] = [
+    "a number",
+    "a number, in the last three bytes",
+    "bytes missing",
+    "bytes missing, no header byte",
+    "bytes missing, one",
+    "no frame",
+    "no frame, and too short for one",
+];
+const SEEN_FIRST: [&str; 6] = [
+    "an LSN above 32 bits",
+    "listed, a lower number",
+    "listed, the first",
+    "listed, the spacing reached",
+    "the tail",
+    "the tail, list full",
+];
+
+/// What never occurred of what scripts of kind sectors are made for, and how many sectors of the table.
+fn missing_sectors(stats: &Stats) -> Vec<String> {
+    let told = FIRST.iter().flat_map(|w| [("first_bytes", *w), ("see_first", *w)]);
+    let all = told.chain(SEEN_FIRST.iter().map(|w| ("see_first", *w)));
+    let never = all.filter(|b| !stats.branches.contains_key(b)).map(|(call, what)| format!("{call}: {what}"));
+    let refused = [3, 4].into_iter().filter(|n| !stats.answers.contains_key(&("see_first".to_string(), *n)));
+    let table = 256 * (generate::sectors::TABLE + 1);
+    let lacks = (stats.sectors.len() < table)
+        .then(|| format!("{} of the table's {table} sectors", table - stats.sectors.len()));
+    never.chain(refused.map(|n| format!("see_first: {n}"))).chain(lacks).collect()
+}
+
 /// What lines of kind lent are to lend and edit, as the oracle counts it.
 fn lent_names() -> Vec<String> {
     let mut out = Vec::new();
@@ -427,6 +458,9 @@ fn missing_names(stats: &Stats, a: &Arguments) -> Vec<String> {
     }
     if a.kinds.contains(&generate::Kind::Lent) {
         out.extend(lent_names().into_iter().filter(|n| !stats.lent.contains_key(n)));
+    }
+    if a.kinds.contains(&generate::Kind::Sectors) {
+        out.extend(missing_sectors(stats));
     }
     if a.kinds.contains(&generate::Kind::Names) {
         let all = NAMES.iter().flat_map(|(call, list)| list.iter().map(move |what| (*call, *what)));

@@ -29,6 +29,8 @@ pub enum Kind {
     Lent,
     /// The rules that `plan` and `hint` name: `plan_rule`, `hint_rule`.
     Names,
+    /// Where the time bytes of sectors lie: `first_bytes`, `see_first`.
+    Sectors,
 }
 
 pub fn kinds(names: &str) -> Option<Vec<Kind>> {
@@ -44,6 +46,7 @@ pub fn kinds(names: &str) -> Option<Vec<Kind>> {
             "large" => Some(vec![Kind::Large]),
             "lent" => Some(vec![Kind::Lent]),
             "names" => Some(vec![Kind::Names]),
+            "sectors" => Some(vec![Kind::Sectors]),
             "all" => {
                 Some(vec![Kind::Load, Kind::Load, Kind::Merge, Kind::Calls, Kind::Seams, Kind::Hints, Kind::Unrelated])
             }
@@ -86,6 +89,7 @@ macro_rules! say {
 
 mod lent;
 mod names;
+pub mod sectors;
 
 /// Appends script `number`; answers how many files it loads. `small` keeps files short.
 pub fn script(kind: Kind, number: u32, seed: u64, small: bool, out: &mut Vec<u8>) -> u64 {
@@ -102,6 +106,7 @@ pub fn script(kind: Kind, number: u32, seed: u64, small: bool, out: &mut Vec<u8>
         Kind::Large => large(&mut s, &mut rng),
         Kind::Lent => lent::lent(&mut s, &mut rng),
         Kind::Names => names::names(&mut s, &mut rng),
+        Kind::Sectors => sectors::sectors(&mut s, &mut rng, number),
     }
     s.loads
 }

@@ -10,6 +10,7 @@ mod generate;
 mod lent;
 mod rng;
 mod script;
+mod sectors;
 mod stubs;
 mod text;
 include!(concat!(env!("OUT_DIR"), "/modules.rs"));
@@ -34,7 +35,7 @@ oracle sources                           which texts of the original were built:
 oracle differences PAPER SCRIPT          runs the rows of docs/DIFFERENCES.md; PAPER is that text, SCRIPT names each row too
 oracle diff COUNT|SECONDSs REPLAY [options]  runs fresh scripts through both, until the first difference
 oracle disc COUNT|SECONDSs PROGRAM [options] runs fresh disc files through the model and PROGRAM (tests/models/disc), until the first difference
-options: --seed N  --kinds load,merge,calls,seams,hints,unrelated,large,lent,names|all  --scripts N  --files N  --small  --only CALL,CALL,..
+options: --seed N  --kinds load,merge,calls,seams,hints,unrelated,large,lent,names,sectors|all  --scripts N  --files N  --small  --only CALL,CALL,..
          --notes (counts by kind of damage)  --counts FILE (diff: tables of the counts)  --unchecked (no answer need occur)
          --shrink SECONDS (30: how long a script that shows a difference is made smaller)
 ";

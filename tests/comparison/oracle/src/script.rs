@@ -1,12 +1,14 @@
 //! Runs a script of calls on the original and writes the answers. tests/README.md fixes the text
 //! of both.
 
-use std::collections::BTreeMap;
+use std::collections::{BTreeMap, BTreeSet};
 
 use crate::audio::{AreaCursor, AreaKey, FrameKind, Warning};
 use crate::error::{Error, Slot};
+use crate::generate;
 use crate::image::SECTOR_SIZE;
 use crate::lent::{self, Nos, Raw};
+use crate::sectors;
 use crate::seek::access::{self, Twelve};
 use crate::seek::{AreaIndex, Assembling, HintRecorder, IndexOptions, Recorder, first_record};
 use crate::text::{Sum, parse_hex, parse_number, put, put_hex, put_sum, sum_of};
@@ -169,6 +171,8 @@ pub struct Stats {
     pub lent: BTreeMap<String, u64>,
     /// Accepted calls by what is large about their list afterwards.
     pub large: BTreeMap<String, u64>,
+    /// Sectors by length and header byte, of the lengths of the table.
+    pub sectors: BTreeSet<(usize, u8)>,
     pub loads: u64,
 }
 
@@ -927,6 +931,15 @@ impl Oracle {
                 }
                 Some(Number(0, values))
             }
+            b"first_bytes" => {
+                let bytes = w.hex()?;
+                Some(Number(0, self.first_bytes("first_bytes", &bytes)))
+            }
+            b"see_first" => {
+                let (lsn, bytes) = (w.u64()?, w.hex()?);
+                *hint_recorder = true;
+                self.see_first(lsn, &bytes)
+            }
             b"hint_recorder" => {
                 let p = w.place()?;
                 *hint_recorder = true;
@@ -1239,6 +1252,45 @@ impl Oracle {
         hr.see(lsn, &sector);
         self.branch(call, branch);
         Some(accepted())
+    }
+
+    /// What a sector's first record tells, by the model; its number is the original's.
+    fn first_bytes(&mut self, call: &'static str, bytes: &[u8]) -> Vec<u8> {
+        let (told, name) = sectors::first_bytes(bytes);
+        let number = (told[0] == 1).then_some(told[1]);
+        assert_eq!(first_record(bytes).map(u64::from), number, "the model's number is not the original's");
+        if self.count {
+            self.branch(call, [name]);
+            if call == "first_bytes" && bytes.len() <= generate::sectors::TABLE {
+                // An empty sector has no header byte: it stands for all.
+                let headers = bytes.first().map_or(0..=255, |h| *h..=*h);
+                self.stats.sectors.extend(headers.map(|h| (bytes.len(), h)));
+            }
+        }
+        let mut values = Vec::new();
+        told.iter().for_each(|v| put(&mut values, *v));
+        values
+    }
+
+    /// `see_bytes`, and what was passed through.
+    fn see_first(&mut self, lsn: u64, bytes: &[u8]) -> Option<Answer> {
+        if self.hints.is_none() {
+            return Some(Nothing);
+        }
+        if let Some(no) = self.refused("see_first", &[Hints]) {
+            return Some(no);
+        }
+        let values = self.first_bytes("see_first", bytes);
+        let Some(hr) = &mut self.hints else { return Some(Nothing) };
+        if first_record(bytes).is_some() {
+            let mut sector = [0u8; SECTOR_SIZE];
+            let n = bytes.len().min(SECTOR_SIZE);
+            sector[..n].copy_from_slice(&bytes[..n]);
+            let branch = self.count.then(|| access::see_branch(hr, lsn, &sector));
+            hr.see(lsn, &sector);
+            self.branch("see_first", branch);
+        }
+        Some(Number(0, values))
     }
 
     /// Sectors of rising LSNs and numbers, one after the other.

@@ -5,7 +5,7 @@ use super::*;
 use crate::lent::{BLOCK, HEAD, HINT_BLOCK, RECORDS, SEEN, WIDTHS, needs, rooms};
 
 /// What a call asks 1 to 4 of: a list, a recorder, the hint recorder, or the tables of a list that is to be made.
-enum Asked<'a> {
+pub enum Asked<'a> {
     List(usize, &'a List),
     Recorder(usize, &'a List),
     Hints,
@@ -133,7 +133,7 @@ fn edit_recorder(s: &mut Script<'_>, rng: &mut Rng, p: usize, l: &List) {
 }
 
 /// What is lent and edited of an object.
-fn trouble(s: &mut Script<'_>, rng: &mut Rng, asked: &Asked<'_>) {
+pub fn trouble(s: &mut Script<'_>, rng: &mut Rng, asked: &Asked<'_>) {
     let (lends, edits) =
         *rng.pick(&[(true, false), (true, false), (false, true), (false, true), (true, true), (false, false)]);
     match asked {
