@@ -1,26 +1,36 @@
 -- What is written into a head is read from it again. Assumes nothing.
-use mathlib.Core.Path.{_≡_, refl, ap, _∙_}
+use mathlib.Core.Path.{_≡_, refl, sym, ap, _∙_}
+use mathlib.Core.Bool.{true}
 use mathlib.Core.List.{List, [], _∷_}
-use Prim.Native.Nat.{ℕ, _%_, _<_}
+use Prim.Native.Nat.{ℕ, _+_, _%_, _<_, _≤_}
 use native.Mathlib.Omega.{arith}
-use lib.ListN.{length}
-use Rattle.field.proofs.Format.{Each, none, one, numbers, records-bytes}
+use lib.ListN.{length, length-append}
+use lib.Dec.{leb}
+use borrow.Author.Tests.{le-leb}
+use Rattle.field.specs.Number.{sameBytes}
+use Rattle.field.proofs.Bytes.{same-refl, same-true}
+use Rattle.field.proofs.Format.{Each, none, one, numbers, records-bytes, bytesOf-length}
+use Rattle.rules.specs.declared.AreaIndex.{AreaIndex}
 use Rattle.rules.specs.declared.End.{End}
 use Rattle.rules.specs.declared.End.the-variants.{Open, Closed}
 use Rattle.rules.specs.declared.Fingerprint.{Fingerprint}
 use Rattle.rules.specs.declared.Fingerprint.the-variants.{Unknown, Held, Checked}
+use Rattle.rules.specs.declared.HintRecorder.{HintRecorder}
 use Rattle.rules.specs.declared.ImageId.{ImageId}
 use Rattle.rules.specs.declared.ImageId.the-variants.{Anonymous, Id}
 use Rattle.rules.specs.declared.LastListed.{LastListed}
 use Rattle.rules.specs.declared.LastListed.the-variants.{Never, Number}
 use Rattle.rules.specs.declared.Mode.{Mode}
 use Rattle.rules.specs.declared.Mode.the-variants.{Running, Finished, Stopped}
+use Rattle.rules.specs.declared.Recorder.{Recorder}
 use Rattle.rules.specs.declared.Tail.{Tail}
 use Rattle.rules.specs.declared.Tail.the-variants as tail
 use Rattle.rules.specs.File.{over}
-use Rattle.blocks.specs.From.{areaFrom, endFrom, fingerprintFrom, imageFrom, modeFrom, lastFrom, tailFrom, indexFrom, recorderFrom, hintRecorderFrom}
-use Rattle.blocks.specs.Head.{wordsIn, blockOf, endWords, fingerprintWords, imageWords, modeWords, lastWords, tailWords, indexWords, recorderWords, hintRecorderArray}
-use Rattle.blocks.specs.RoundTrip.{Fits8, Fits32, Fits64, IndexBack, RecorderBack, HintRecorderBack}
+use Rattle.rules.proofs.Tests.{and-right}
+use Rattle.blocks.specs.From.{at, areaFrom, endFrom, fingerprintFrom, imageFrom, modeFrom, lastFrom, tailFrom, indexFrom, recorderFrom, hintRecorderFrom}
+use Rattle.blocks.specs.IsHead.{isHead, withFree}
+use Rattle.blocks.specs.Head.{wordsIn, blockOf, endWords, fingerprintWords, imageWords, modeWords, lastWords, tailWords, indexWords, recorderWords, hintRecorderArray, hintRecorderWords}
+use Rattle.blocks.specs.RoundTrip.{Fits8, Fits32, Fits64, IndexFits, RecorderFits, HintRecorderFits, IndexBack, RecorderBack, HintRecorderBack, IndexIsHead, RecorderIsHead, HintRecorderIsHead, NoneFree, HeadWords}
 
 words-back : (ws b : List ℕ) → Each Fits64 ws → wordsIn (length ws) (over (blockOf ws) b) ≡ ws
 words-back ws b f = records-bytes (numbers 8) _ f
@@ -106,14 +116,18 @@ tail-back tail.Empty g h = refl
 tail-back (tail.Hint k) g h = rw (low32 (k .lsn) g, low32 (k .number) h)
 
 -- ---- heads
-pub index-back : IndexBack
-unfolding indexFrom indexWords areaFrom
-index-back x b f =
+-- the words of an index are words, and what is read from them is it
+index-words : (x : AreaIndex) → IndexFits x → Each Fits64 (indexWords x)
+unfolding indexWords
+index-words x f =
     let a = f .area in
-    let s : Each Fits64 (indexWords x) =
-    one (wide8 (a .slot)) (one (wide8 (a .channels)) (one (wide32 (a .keyStart)) (one (wide32 (a .keyEnd)) (one (a .sectors) (one (a .start) (one (a .end) (one (wide32 (f .interval)) (one (f .budget) (one (wide32 (f .spacing)) (one (wide32 (f .most)) (one (wide32 (f .checkpoints)) (one (wide32 (f .frames)) (one (wide32 (f .parts)) (one (wide32 (f .malformed)) (one (wide32 (f .hints)) (one (wide32 (f .confirmed)) (one (mark-fits (x .ending)) (one (wide32 (f .threshold)) (one (f .counted) (one (print-fits (x .fingerprint)) (one (f .fingerprint) (one (image-fits (x .image)) (one (f .image) (none)))))))))))))))))))))))) in
+    one (wide8 (a .slot)) (one (wide8 (a .channels)) (one (wide32 (a .keyStart)) (one (wide32 (a .keyEnd)) (one (a .sectors) (one (a .start) (one (a .end) (one (wide32 (f .interval)) (one (f .budget) (one (wide32 (f .spacing)) (one (wide32 (f .most)) (one (wide32 (f .checkpoints)) (one (wide32 (f .frames)) (one (wide32 (f .parts)) (one (wide32 (f .malformed)) (one (wide32 (f .hints)) (one (wide32 (f .confirmed)) (one (mark-fits (x .ending)) (one (wide32 (f .threshold)) (one (f .counted) (one (print-fits (x .fingerprint)) (one (f .fingerprint) (one (image-fits (x .image)) (one (f .image) (none))))))))))))))))))))))))
+
+index-same : (x : AreaIndex) → IndexFits x → indexFrom (indexWords x) ≡ x
+unfolding indexFrom indexWords areaFrom
+index-same x f =
+    let a = f .area in
     rw (
-      words-back (indexWords x) b s,
       low8 _ (a .slot),
       low8 _ (a .channels),
       low32 _ (a .keyStart),
@@ -132,14 +146,22 @@ index-back x b f =
       image-back (x .image),
     )
 
-pub recorder-back : RecorderBack
-unfolding recorderFrom recorderWords areaFrom
-recorder-back r b f =
+pub index-back : IndexBack
+unfolding indexWords
+index-back x b f = ap indexFrom (words-back (indexWords x) b (index-words x f)) ∙ index-same x f
+
+-- the words of a recorder are words, and what is read from them is it
+recorder-words : (r : Recorder) → RecorderFits r → Each Fits64 (recorderWords r)
+unfolding recorderWords
+recorder-words r f =
     let a = f .area in
-    let s : Each Fits64 (recorderWords r) =
-    one (wide8 (a .slot)) (one (wide8 (a .channels)) (one (wide32 (a .keyStart)) (one (wide32 (a .keyEnd)) (one (a .sectors) (one (a .start) (one (a .end) (one (wide32 (f .interval)) (one (f .budget) (one (wide32 (f .first)) (one (f .from) (one (wide32 (f .checkpoints)) (one (wide32 (f .frames)) (one (wide32 (f .parts)) (one (mode-fits (r .mode)) (one (wide32 (f .threshold)) (one (f .counted) (one (zero) (one (zero) (one (zero) (one (zero) (one (zero) (one (zero) (one (zero) (none)))))))))))))))))))))))) in
+    one (wide8 (a .slot)) (one (wide8 (a .channels)) (one (wide32 (a .keyStart)) (one (wide32 (a .keyEnd)) (one (a .sectors) (one (a .start) (one (a .end) (one (wide32 (f .interval)) (one (f .budget) (one (wide32 (f .first)) (one (f .from) (one (wide32 (f .checkpoints)) (one (wide32 (f .frames)) (one (wide32 (f .parts)) (one (mode-fits (r .mode)) (one (wide32 (f .threshold)) (one (f .counted) (one (zero) (one (zero) (one (zero) (one (zero) (one (zero) (one (zero) (one (zero) (none))))))))))))))))))))))))
+
+recorder-same : (r : Recorder) → RecorderFits r → recorderFrom (recorderWords r) ≡ r
+unfolding recorderFrom recorderWords areaFrom
+recorder-same r f =
+    let a = f .area in
     rw (
-      words-back (recorderWords r) b s,
       low8 _ (a .slot),
       low8 _ (a .channels),
       low32 _ (a .keyStart),
@@ -151,6 +173,33 @@ recorder-back r b f =
       low32 _ (f .parts),
       mode-back (r .mode) (f .threshold),
     )
+
+pub recorder-back : RecorderBack
+unfolding recorderWords
+recorder-back r b f = ap recorderFrom (words-back (recorderWords r) b (recorder-words r f)) ∙ recorder-same r f
+
+-- the words of a hint recorder, whatever its free words are, are words, and what is read from them is it
+free-words : (r : HintRecorder) (free : List ℕ) → HintRecorderFits r → ((k : ℕ) → Fits64 (at free k)) → Each Fits64 (withFree free (hintRecorderWords r))
+unfolding withFree hintRecorderWords hintRecorderArray
+free-words r free f g =
+    one (wide32 (f .spacing)) (one (last-fits (r .last)) (one (wide32 (f .last)) (one (tail-fits (r .tail)) (one (wide32 (f .lsn)) (one (wide32 (f .number)) (one (wide32 (f .count)) (one (g 7) (one (g 8) (one (g 9) (one (g 10) (one (zero) (one (zero) (one (zero) (one (zero) (one (zero) (one (zero) (one (zero) (one (zero) (one (zero) (one (zero) (one (zero) (one (zero) (one (zero) (none))))))))))))))))))))))))
+
+free-same : (r : HintRecorder) (free : List ℕ) → HintRecorderFits r → hintRecorderFrom (withFree free (hintRecorderWords r)) ≡ r
+unfolding hintRecorderFrom withFree hintRecorderWords hintRecorderArray
+free-same r free f =
+    rw (
+      low32 _ (f .spacing),
+      last-back (r .last) (f .last),
+      tail-back (r .tail) (f .lsn) (f .number),
+      low32 _ (f .count),
+    )
+
+pub none-free : NoneFree
+unfolding withFree hintRecorderWords hintRecorderArray
+none-free r = refl
+
+none-fits : (k : ℕ) → Fits64 (at [] k)
+none-fits k = zero
 
 pub hint-recorder-back : HintRecorderBack
 unfolding hintRecorderFrom hintRecorderArray
@@ -164,3 +213,41 @@ hint-recorder-back r f b g h =
       tail-back (r .tail) (g .lsn) (g .number),
       low32 _ (g .count),
     )
+
+-- ---- what is written over a block is a head
+pub words-head : (again : List ℕ → List ℕ) (ws b : List ℕ) → length ws ≡ 24 → Each Fits64 ws → again ws ≡ ws → 192 ≤ length b → isHead again (over (blockOf ws) b) ≡ true
+unfolding isHead
+words-head again ws b n f e h =
+    let k : length (blockOf ws) ≡ 192 = bytesOf-length (numbers 8) ws ∙ rw n in
+    let l : 192 ≤ length (over (blockOf ws) b) = rw (length-append, k) (omega arith) in
+    let w : wordsIn 24 (over (blockOf ws) b) ≡ ws = rw n at (words-back ws b f) in
+    rw (le-leb 192 (length (over (blockOf ws) b)) l, w, e) (same-refl ws)
+
+pub index-is-head : IndexIsHead
+unfolding indexWords
+index-is-head x b f h = words-head _ (indexWords x) b refl (index-words x f) (ap indexWords (index-same x f)) h
+
+pub recorder-is-head : RecorderIsHead
+unfolding recorderWords
+recorder-is-head r b f h = words-head _ (recorderWords r) b refl (recorder-words r f) (ap recorderWords (recorder-same r f)) h
+
+-- written again, free words are as they were
+free-again : (r : HintRecorder) (free : List ℕ) → let ws = withFree free (hintRecorderWords r) in withFree ws (hintRecorderWords r) ≡ ws
+unfolding withFree hintRecorderWords hintRecorderArray
+free-again r free = refl
+
+free-length : (r : HintRecorder) (free : List ℕ) → length (withFree free (hintRecorderWords r)) ≡ 24
+unfolding withFree hintRecorderWords hintRecorderArray
+free-length r free = refl
+
+pub hint-recorder-is-head : HintRecorderIsHead
+hint-recorder-is-head r free b f g h =
+    let ws = withFree free (hintRecorderWords r) in
+    words-head _ ws b (free-length r free) (free-words r free f g)
+    (ap (λ (x : HintRecorder). withFree ws (hintRecorderWords x)) (free-same r free f) ∙ free-again r free) h
+
+-- the words of a head are what is read from them, written again
+pub head-words : HeadWords
+unfolding isHead
+head-words again b e =
+    sym (same-true (wordsIn 24 b) (again (wordsIn 24 b)) (and-right (leb 192 (length b)) (sameBytes (wordsIn 24 b) (again (wordsIn 24 b))) e))

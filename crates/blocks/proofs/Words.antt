@@ -7,13 +7,18 @@ use native.Mathlib.Numerals.{add-one}
 use native.Mathlib.Omega.{arith}
 use lib.ListN.{length, getD, take, drop, set}
 use lib.Seq.{sets, sets-eq, take-suc, take-length, length-take-le, drop-length, length-sets}
-use Rattle.field.specs.Number.{encode, decode, numberAt, put}
+use mathlib.Core.Bool.{Bool, true, false}
+use lib.Dec.{leb}
+use borrow.Author.Tests.{le-leb, lt-leb, leb-true}
+use Rattle.field.specs.Number.{encode, decode, numberAt, put, sameBytes}
 use Rattle.field.specs.Records.{bytesOf}
 use Rattle.field.proofs.Bytes.{copied-more, sets-more}
 use Rattle.field.proofs.Number.{put-sets, length-put}
 use Rattle.field.proofs.Format.{numbers, bytesOf-append, bytesOf-one, bytesOf-length}
 use Rattle.field.proofs.Records.{records-at, records-length}
 use Rattle.rules.specs.File.{over}
+use Rattle.rules.proofs.Tests.{and-left}
+use Rattle.blocks.specs.IsHead.{isHead}
 use Rattle.blocks.specs.Head.{wordsIn, blockOf}
 
 -- the first i of n words of b read, over the words z
@@ -75,3 +80,19 @@ put-all {b} {ws} {out} {i} p h =
     let l : length (blockOf ws) ≡ length ws * 8 = bytesOf-length (numbers 8) ws in
     p .bytes ∙ ap (λ (k : ℕ). sets b 0 (blockOf (take k ws))) q ∙ ap (λ (x : List ℕ). sets b 0 (blockOf x)) (take-length ws)
     ∙ sets-eq (blockOf ws) b 0 (omega (arith, l, p .room)) ∙ ap (λ (k : ℕ). blockOf ws ++ drop k b) (zero-add (length (blockOf ws)))
+
+-- ---- is a block a head?
+module _ (again : List ℕ → List ℕ) (b : List ℕ) where
+  pub no-block : length b < 192 → false ≡ isHead again b
+  unfolding isHead
+  no-block h = rw (lt-leb 192 (length b) h)
+
+  -- its words ws, and vs, what is read from them written again
+  pub some-block : (r : Bool) (ws vs : List ℕ) → 192 ≤ length b → r ≡ sameBytes ws vs → ws ≡ wordsIn 24 b → vs ≡ again ws → r ≡ isHead again b
+  unfolding isHead
+  some-block r ws vs h e w g = rw (le-leb 192 (length b) h, e, g, w)
+
+  -- a head has 192 bytes
+  pub head-long : isHead again b ≡ true → 192 ≤ length b
+  unfolding isHead
+  head-long e = leb-true 192 (length b) (and-left (leb 192 (length b)) _ e)

@@ -1,3 +1,5 @@
 pub mod From
 pub mod Head
+pub mod HeadExamples
+pub mod IsHead
 pub mod RoundTrip

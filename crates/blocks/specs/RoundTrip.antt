@@ -1,14 +1,17 @@
 -- Decode of encode is the identity: what is proved of heads.
 use mathlib.Core.Path.{_≡_}
-use mathlib.Core.List.{List}
-use Prim.Native.Nat.{ℕ, _<_}
+use mathlib.Core.Bool.{true}
+use mathlib.Core.List.{List, []}
+use lib.ListN.{length}
+use Prim.Native.Nat.{ℕ, _<_, _≤_}
 use Rattle.rules.specs.declared.Area.{Area}
 use Rattle.rules.specs.declared.AreaIndex.{AreaIndex}
 use Rattle.rules.specs.declared.HintRecorder.{HintRecorder}
 use Rattle.rules.specs.declared.Recorder.{Recorder}
 use Rattle.rules.specs.File.{over}
-use Rattle.blocks.specs.From.{indexFrom, recorderFrom, hintRecorderFrom}
-use Rattle.blocks.specs.Head.{wordsIn, blockOf, endWords, fingerprintWords, imageWords, modeWords, lastWords, tailWords, indexWords, recorderWords, hintRecorderArray}
+use Rattle.blocks.specs.From.{at, indexFrom, recorderFrom, hintRecorderFrom}
+use Rattle.blocks.specs.IsHead.{isHead, withFree, isIndex, isRecorder, isHintRecorder}
+use Rattle.blocks.specs.Head.{wordsIn, blockOf, endWords, fingerprintWords, imageWords, modeWords, lastWords, tailWords, indexWords, recorderWords, hintRecorderArray, hintRecorderWords}
 use Rattle.blocks.specs.declared.Told.{Told}
 
 -- numbers have the widths of their types
@@ -83,3 +86,24 @@ RecorderBack = (r : Recorder) (b : List ℕ) → RecorderFits r → recorderFrom
 abbrev pub HintRecorderBack : Type 0
 HintRecorderBack =
     (r : HintRecorder) (f : Told) (b : List ℕ) → HintRecorderFits r → ToldFits f → hintRecorderFrom (wordsIn 24 (over (blockOf (hintRecorderArray r f)) b)) ≡ r
+
+-- what is written over a block of 192 bytes is a head
+abbrev pub IndexIsHead : Type 0
+IndexIsHead = (x : AreaIndex) (b : List ℕ) → IndexFits x → 192 ≤ length b → isIndex (over (blockOf (indexWords x)) b) ≡ true
+
+abbrev pub RecorderIsHead : Type 0
+RecorderIsHead = (r : Recorder) (b : List ℕ) → RecorderFits r → 192 ≤ length b → isRecorder (over (blockOf (recorderWords r)) b) ≡ true
+
+-- of a hint recorder whatever stands in its free words
+abbrev pub HintRecorderIsHead : Type 0
+HintRecorderIsHead =
+    (r : HintRecorder) (free b : List ℕ) → HintRecorderFits r → ((k : ℕ) → Fits64 (at free k)) → 192 ≤ length b
+    → isHintRecorder (over (blockOf (withFree free (hintRecorderWords r))) b) ≡ true
+
+-- and its free words are 0 where none are written
+abbrev pub NoneFree : Type 0
+NoneFree = (r : HintRecorder) → withFree [] (hintRecorderWords r) ≡ hintRecorderWords r
+
+-- nothing of a head is cut off: what is read from its words is written as them
+abbrev pub HeadWords : Type 0
+HeadWords = (again : List ℕ → List ℕ) (b : List ℕ) → isHead again b ≡ true → again (wordsIn 24 b) ≡ wordsIn 24 b

@@ -1,4 +1,9 @@
-// The numbers of an index, a recorder and a hint recorder, read from the 24 words of a head.
+// The numbers of an index, a recorder and a hint recorder, read from the 24 words of a head; and whether a block is a head.
+use crate::HEAD_BYTES;
+use crate::hint_recorder_words;
+use crate::index_words;
+use crate::read_words;
+use crate::recorder_words;
 use rules::Area;
 use rules::AreaIndex;
 use rules::AreaKey;
@@ -14,6 +19,8 @@ use rules::Recorder;
 use rules::Tail;
 ghost use mathlib.Core.Path.{_≡_};
 ghost use Rattle.blocks.specs.From.{endFrom, fingerprintFrom, imageFrom, modeFrom, lastFrom, tailFrom, areaFrom, indexFrom, recorderFrom, hintRecorderFrom};
+ghost use Rattle.blocks.specs.IsHead.{withFree, isIndex, isRecorder, isHintRecorder};
+ghost use Rattle.field.specs.Number.{sameBytes};
 
 // ---- what may be unknown; what a field is too narrow for is cut off
 // A flag of 0 is unknown, anything else known.
@@ -152,4 +159,61 @@ pub fn hint_recorder_from(w: [u64; 24]) -> HintRecorder
         tail: tail_from(w[3], w[4], w[5]),
         count: (w[6] % 4294967296) as u32,
     }
+}
+
+// ---- is a block a head? What is read from it, written again, is its words.
+fn same_words(a: [u64; 24], b: [u64; 24]) -> bool
+    ensures { λ r. ⌜ r ≡ sameBytes a b ⌝ }
+{
+    let mut i = 0;
+    while i < 24 {
+        if a[i] != b[i] {
+            return false;
+        }
+        i += 1;
+    }
+    true
+}
+
+pub fn is_index(head: &[u8]) -> bool
+    ensures { λ r. ⌜ r ≡ isIndex (now (head .entry)) ⌝ }
+{
+    if head.len() < HEAD_BYTES {
+        return false;
+    }
+    let words = read_words(head);
+    same_words(words, index_words(index_from(words)))
+}
+
+pub fn is_recorder(head: &[u8]) -> bool
+    ensures { λ r. ⌜ r ≡ isRecorder (now (head .entry)) ⌝ }
+{
+    if head.len() < HEAD_BYTES {
+        return false;
+    }
+    let words = read_words(head);
+    same_words(words, recorder_words(recorder_from(words)))
+}
+
+// Words 7 to 10 of a hint recorder are free: they are taken as they are.
+fn with_free(words: [u64; 24], again: [u64; 24]) -> [u64; 24]
+    ensures { λ r. ⌜ r ≡ withFree words again ⌝ }
+{
+    let mut r = again;
+    r[7] = words[7];
+    r[8] = words[8];
+    r[9] = words[9];
+    r[10] = words[10];
+    r
+}
+
+pub fn is_hint_recorder(head: &[u8]) -> bool
+    ensures { λ r. ⌜ r ≡ isHintRecorder (now (head .entry)) ⌝ }
+{
+    if head.len() < HEAD_BYTES {
+        return false;
+    }
+    let words = read_words(head);
+    let again = hint_recorder_words(hint_recorder_from(words));
+    same_words(words, with_free(words, again))
 }

@@ -1,0 +1,16 @@
+-- The definitions give what the examples of heads should be. Assumes nothing.
+use mathlib.Core.Path.{refl}
+use Rattle.field.specs.Number.{encode, decode, sameBytes}
+use Rattle.field.specs.Records.{records, bytesOf}
+use Rattle.blocks.specs.From.{endFrom, fingerprintFrom, imageFrom, modeFrom, lastFrom, tailFrom, areaFrom, indexFrom, recorderFrom, hintRecorderFrom}
+use Rattle.blocks.specs.Head.{endWords, fingerprintWords, imageWords, modeWords, lastWords, tailWords, indexWords, recorderWords, hintRecorderWords}
+use Rattle.blocks.specs.IsHead.{isHead, withFree}
+use Rattle.blocks.specs.HeadExamples.{Hold, lists, recorders}
+
+lists-hold : Hold lists
+unfolding isHead sameBytes records bytesOf encode decode indexFrom areaFrom endFrom fingerprintFrom imageFrom indexWords endWords fingerprintWords imageWords
+lists-hold = refl
+
+recorders-hold : Hold recorders
+unfolding isHead sameBytes records bytesOf encode decode recorderFrom areaFrom modeFrom recorderWords modeWords hintRecorderFrom lastFrom tailFrom hintRecorderWords lastWords tailWords withFree
+recorders-hold = refl

@@ -1,0 +1,24 @@
+use mathlib.Core.Path.{ap, _∙_}
+use Rattle.rules.specs.declared.HintRecorder.{HintRecorder}
+use Rattle.blocks.specs.Head.{hintRecorderWords}
+use Rattle.blocks.specs.IsHead.{withFree}
+use Rattle.blocks.proofs.Words.{no-block, some-block}
+use borrow.Author.Needs.{needs}
+use Rattle.blocks.proofs.read.is_hint_recorder.Statement.{statement}
+use Rattle.blocks.proofs.read.is_hint_recorder.Tie as tie
+
+returns : tie.Need-returns
+returns c = no-block _ _ (c .if1 .taken)
+
+returns-2 : tie.Need-returns-2
+returns-2 c =
+    let test : tie.Else1 = search in
+    let words : tie.After-read-words = search in
+    let from : tie.After-hint-recorder-from = search in
+    let again : tie.After-hint-recorder-words = search in
+    let free : tie.After-with-free = search in
+    some-block _ _ _ _ _ (test .if1 .left) (c .same-words .ensures) (words .read-words .ensures)
+    (rw (again .hint-recorder-words .ensures, from .hint-recorder-from .ensures) at (free .with-free .ensures))
+
+pub is-hint-recorder-spec : {M : Type 1} → statement M
+is-hint-recorder-spec = tie.close (tie.spec returns (λ c κs. search needs) (λ c κs. search needs) (λ c κs. search needs) (λ c κs. search needs) (λ c κs. search needs) returns-2)
