@@ -1,5 +1,6 @@
--- What each call answers where its blocks are long enough, from what the calls in it ensure. Assumes nothing.
+-- What each call answers where its blocks are heads or long enough, from what the calls in it ensure. Assumes nothing.
 use mathlib.Core.Path.{_≡_}
+use mathlib.Core.Bool.{true}
 use mathlib.Core.List.{List}
 use Prim.Native.Nat.{ℕ, _≤_}
 use lib.ListN.{length}
@@ -9,6 +10,7 @@ use Rattle.rules.specs.declared.First.{First}
 use Rattle.rules.specs.FirstRecord.{firstRecord}
 use Rattle.rules.specs.Tests.{Accepted}
 use Rattle.blocks.specs.Head.{indexWords}
+use Rattle.blocks.specs.IsHead.{isIndex}
 use Rattle.index.specs.Index.{Tables, out}
 use Rattle.index.specs.declared.Made.{Made}
 use Rattle.index.specs.Calls.{madeOf, newIn, boundIn}
@@ -26,7 +28,7 @@ use Rattle.sizes.specs.declared.Sized.{Sized}
 use Rattle.sizes.specs.Sizes.{sizedOf, newSizes, fileSizes, fileAreaOf, fileArea, fileLength}
 use Rattle.player.specs.Block.{called, into, headIndex, planWords, firstWords, sizeWords, areaWords, bringsWords, savedNumber}
 use Rattle.player.specs.Calls.{calledOver, outInto, firstCall, sizesCall, fileAreaCall, fileSizesCall, newCall, loadCall, fingerprintCall, planCall, lengthCall, saveCall, mergeCall, addsCall, addHintsCall}
-use Rattle.player.proofs.block.Blocks.{long-enough}
+use Rattle.player.proofs.block.Blocks.{long-enough, is-head}
 
 -- ---- the block is the answer's
 module _ (b b' : List ℕ) (n : ℕ) (l : 192 ≤ length b) where
@@ -49,50 +51,51 @@ module _ (b b' : List ℕ) (n : ℕ) (l : 192 ≤ length b) where
   unfolding fileSizesCall
   file-sizes-done a x file limit r p e z = long-enough b _ _ l (rw (e, z) at p)
 
-  pub plan-done : (h : List ℕ) → 192 ≤ length h → (x : AreaIndex) (t : Tables) (frame : ℕ) (r : Planned)
+  pub plan-done : (h : List ℕ) → isIndex h ≡ true → (x : AreaIndex) (t : Tables) (frame : ℕ) (r : Planned)
       → called n b' ≡ into planWords b (plannedOf r) → plannedOf r ≡ planIn x t frame → x ≡ headIndex h → called n b' ≡ planCall h frame b t
   unfolding planCall
-  plan-done h g x t frame r p e z = long-enough h _ _ g (long-enough b _ _ l (rw (e, z) at p))
+  plan-done h g x t frame r p e z = is-head _ _ _ g (long-enough b _ _ l (rw (e, z) at p))
 
-  -- ---- the block is the head
+  -- ---- the block is the head, which is only written
   pub new-done : (a x : Area) (k budget spacing most : ℕ) (t : Tables) (r : Made) → called n b' ≡ into indexWords b (madeOf r)
       → madeOf r ≡ newIn t x k budget spacing most → x ≡ a → called n b' ≡ newCall b a k budget spacing most t
   unfolding newCall
   new-done a x k budget spacing most t r p e z = long-enough b _ _ l (rw (e, z) at p)
-
-  pub fingerprint-done : (x : AreaIndex) (v : ℕ) (t : Tables) (r : Made) → called n b' ≡ into indexWords b (madeOf r)
-      → madeOf r ≡ boundIn x t v → x ≡ headIndex b → called n b' ≡ fingerprintCall b v t
-  unfolding fingerprintCall
-  fingerprint-done x v t r p e z = long-enough b _ _ l (rw (e, z) at p)
 
   pub load-done : (a x : Area) (file : List ℕ) (limit : ℕ) (t t' : Tables) (r : Made) → called n b' ≡ into indexWords b (madeOf r)
       → out r t' ≡ loadIn x file limit t → x ≡ a → calledOver n b' t' ≡ loadCall b a file limit t
   unfolding loadCall
   load-done a x file limit t t' r p e z = long-enough b _ _ l (rw (← z, ← e, p))
 
+  -- ---- two lists
+  pub adds-done : (g : List ℕ) → isIndex g ≡ true → (x y : AreaIndex) → y ≡ headIndex g → (t u : Tables) (h : List ℕ) → isIndex h ≡ true → (r : Added)
+      → called n b' ≡ into bringsWords b (addsOf r) → addsOf r ≡ addsIn x t y u → x ≡ headIndex h → called n b' ≡ addsCall h g b t u
+  unfolding addsCall
+  adds-done g m x y w t u h k r p e z = is-head _ _ _ k (is-head _ _ _ m (long-enough b _ _ l (rw (← z, ← w, ← e) p)))
+
+-- ---- the block is the head, read and written
+module _ (b b' : List ℕ) (n : ℕ) (l : isIndex b ≡ true) where
+  pub fingerprint-done : (x : AreaIndex) (v : ℕ) (t : Tables) (r : Made) → called n b' ≡ into indexWords b (madeOf r)
+      → madeOf r ≡ boundIn x t v → x ≡ headIndex b → called n b' ≡ fingerprintCall b v t
+  unfolding fingerprintCall
+  fingerprint-done x v t r p e z = is-head _ _ _ l (rw (e, z) at p)
+
   pub add-hints-done : (x : AreaIndex) (list : List ℕ) (t t' : Tables) (r : Made) → called n b' ≡ into indexWords b (madeOf r)
       → out r t' ≡ addHintsIn x t list → x ≡ headIndex b → calledOver n b' t' ≡ addHintsCall b list t
   unfolding addHintsCall
-  add-hints-done x list t t' r p e z = long-enough b _ _ l (rw (← z, ← e, p))
+  add-hints-done x list t t' r p e z = is-head _ _ _ l (rw (← z, ← e, p))
 
-  -- ---- two lists
-  module _ (g : List ℕ) (m : 192 ≤ length g) (x y : AreaIndex) (w : y ≡ headIndex g) (t u : Tables) where
-    pub merge-done : (t' : Tables) (r : Made) → called n b' ≡ into indexWords b (madeOf r) → out r t' ≡ mergeIn x t y u → x ≡ headIndex b
-        → calledOver n b' t' ≡ mergeCall b g t u
-    unfolding mergeCall
-    merge-done t' r p e z = long-enough b _ _ l (long-enough g _ _ m (rw (← z, ← w, ← e, p)))
-
-    pub adds-done : (h : List ℕ) → 192 ≤ length h → (r : Added) → called n b' ≡ into bringsWords b (addsOf r) → addsOf r ≡ addsIn x t y u
-        → x ≡ headIndex h → called n b' ≡ addsCall h g b t u
-    unfolding addsCall
-    adds-done h k r p e z = long-enough h _ _ k (long-enough g _ _ m (long-enough b _ _ l (rw (← z, ← w, ← e) p)))
+  pub merge-done : (g : List ℕ) → isIndex g ≡ true → (x y : AreaIndex) → y ≡ headIndex g → (t u t' : Tables) (r : Made)
+      → called n b' ≡ into indexWords b (madeOf r) → out r t' ≡ mergeIn x t y u → x ≡ headIndex b → calledOver n b' t' ≡ mergeCall b g t u
+  unfolding mergeCall
+  merge-done g m x y w t u t' r p e z = is-head _ _ _ l (is-head _ _ _ m (rw (← z, ← w, ← e, p)))
 
 -- ---- no block is written
-module _ (h : List ℕ) (l : 192 ≤ length h) (x : AreaIndex) (z : x ≡ headIndex h) (t : Tables) where
+module _ (h : List ℕ) (l : isIndex h ≡ true) (x : AreaIndex) (z : x ≡ headIndex h) (t : Tables) where
   pub length-done : (n : ℕ) → n ≡ fileLength x t → n ≡ lengthCall h t
   unfolding lengthCall
-  length-done n e = long-enough h _ _ l (rw z at e)
+  length-done n e = is-head _ _ _ l (rw z at e)
 
   pub save-done : (n : ℕ) (o o' : List ℕ) (r : Saved) → made r o' ≡ saveIn x t o → n ≡ savedNumber r → called n o' ≡ saveCall h t o
   unfolding saveCall
-  save-done n o o' r e q = long-enough h _ _ l (rw (← z, ← e, q))
+  save-done n o o' r e q = is-head _ _ _ l (rw (← z, ← e, q))

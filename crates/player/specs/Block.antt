@@ -1,9 +1,7 @@
 -- Answers as a number and a block of 192 bytes, 24 words.
 use Prim.Native.Nat.{ℕ}
-use mathlib.Core.Bool.{cond}
+use mathlib.Core.Bool.{Bool, cond}
 use mathlib.Core.List.{List, [], _∷_}
-use lib.Dec.{leb}
-use lib.ListN.{length}
 use Rattle.rules.specs.declared.Area.{Area}
 use Rattle.rules.specs.declared.AreaIndex.{AreaIndex}
 use Rattle.rules.specs.declared.Assembly.{Assembly}
@@ -20,6 +18,7 @@ use Rattle.adds.specs.declared.Brings.{Brings}
 use Rattle.blocks.specs.From.{indexFrom, recorderFrom, hintRecorderFrom}
 use Rattle.blocks.specs.declared.Told.{Told}
 use Rattle.blocks.specs.Head.{wordsIn, blockOf, firstTold}
+use Rattle.blocks.specs.IsHead.{isBlock}
 use Rattle.save.specs.declared.Saved.{Saved}
 use Rattle.save.specs.declared.Saved.the-variants as saved
 use Rattle.save.specs.Save.{SaveOut}
@@ -39,9 +38,13 @@ unfoldable pub into : {A : Type 0} → (A → List ℕ) → List ℕ → Answer 
 into words b (Refused n) = called n b
 into words b (Accepted x) = called 0 (over (blockOf (words x)) b)
 
--- 3 where a block is too short, asked before anything else
+-- 3 where a block is not what the call asks of it, asked before anything else
+unfoldable pub inHead : {A : Type 0} → Bool → A → A → A
+inHead ok none r = cond ok r none
+
+-- where a block that is only written is too short
 unfoldable pub inBlock : {A : Type 0} → List ℕ → A → A → A
-inBlock b short r = cond (leb 192 (length b)) r short
+inBlock b short r = inHead (isBlock b) short r
 
 -- ---- from blocks
 unfoldable pub headIndex : List ℕ → AreaIndex

@@ -5,6 +5,7 @@ use Rattle.rules.specs.declared.Area.{Area}
 use Rattle.rules.specs.FirstRecord.{firstRecord}
 use Rattle.rules.specs.Tests.{Accepted}
 use Rattle.blocks.specs.Head.{indexWords}
+use Rattle.blocks.specs.IsHead.{isIndex}
 use Rattle.index.specs.Index.{Tables, Out}
 use Rattle.index.specs.Calls.{madeOf, newIn, boundIn}
 use Rattle.plan.specs.Calls.{planIn}
@@ -14,7 +15,7 @@ use Rattle.adds.specs.Brings.{addsIn}
 use Rattle.add_hints.specs.Added.{addHintsIn}
 use Rattle.save.specs.Save.{saveIn}
 use Rattle.sizes.specs.Sizes.{newSizes, fileSizes, fileArea, fileLength}
-use Rattle.player.specs.Block.{Called, called, into, inBlock, headIndex, planWords, firstWords, sizeWords, areaWords, bringsWords, savedInto}
+use Rattle.player.specs.Block.{Called, called, into, inBlock, inHead, headIndex, planWords, firstWords, sizeWords, areaWords, bringsWords, savedInto}
 
 -- ---- sectors and sizes; the block is the answer's
 unfoldable pub firstCall : List ℕ → List ℕ → Called
@@ -51,32 +52,32 @@ unfoldable pub loadCall : List ℕ → Area → List ℕ → ℕ → Tables → 
 loadCall head a file limit t = inBlock head (calledOver 3 head t) (outInto head (loadIn a file limit t))
 
 unfoldable pub fingerprintCall : List ℕ → ℕ → Tables → Called
-fingerprintCall head v t = inBlock head (called 3 head) (into indexWords head (boundIn (headIndex head) t v))
+fingerprintCall head v t = inHead (isIndex head) (called 3 head) (into indexWords head (boundIn (headIndex head) t v))
 
 -- the block is the answer's
 unfoldable pub planCall : List ℕ → ℕ → List ℕ → Tables → Called
 planCall head frame answer t =
-    inBlock head (called 3 answer) (inBlock answer (called 3 answer) (into planWords answer (planIn (headIndex head) t frame)))
+    inHead (isIndex head) (called 3 answer) (inBlock answer (called 3 answer) (into planWords answer (planIn (headIndex head) t frame)))
 
 -- the length, or the refusal number
 unfoldable pub lengthCall : List ℕ → Tables → ℕ
-lengthCall head t = inBlock head 3 (fileLength (headIndex head) t)
+lengthCall head t = inHead (isIndex head) 3 (fileLength (headIndex head) t)
 
 -- with the output as block
 unfoldable pub saveCall : List ℕ → Tables → List ℕ → Called
-saveCall head t out = inBlock head (called 3 out) (savedInto (saveIn (headIndex head) t out))
+saveCall head t out = inHead (isIndex head) (called 3 out) (savedInto (saveIn (headIndex head) t out))
 
 -- ---- two lists
 unfoldable pub mergeCall : List ℕ → List ℕ → Tables → Tables → CalledOver
 mergeCall head other t u =
-    inBlock head (calledOver 3 head t) (inBlock other (calledOver 3 head t) (outInto head (mergeIn (headIndex head) t (headIndex other) u)))
+    inHead (isIndex head) (calledOver 3 head t) (inHead (isIndex other) (calledOver 3 head t) (outInto head (mergeIn (headIndex head) t (headIndex other) u)))
 
 -- the block is the answer's
 unfoldable pub addsCall : List ℕ → List ℕ → List ℕ → Tables → Tables → Called
 addsCall head other answer t u =
-    inBlock head (called 3 answer)
-    (inBlock other (called 3 answer) (inBlock answer (called 3 answer) (into bringsWords answer (addsIn (headIndex head) t (headIndex other) u))))
+    inHead (isIndex head) (called 3 answer)
+    (inHead (isIndex other) (called 3 answer) (inBlock answer (called 3 answer) (into bringsWords answer (addsIn (headIndex head) t (headIndex other) u))))
 
 -- ---- hints
 unfoldable pub addHintsCall : List ℕ → List ℕ → Tables → CalledOver
-addHintsCall head list t = inBlock head (calledOver 3 head t) (outInto head (addHintsIn (headIndex head) t list))
+addHintsCall head list t = inHead (isIndex head) (calledOver 3 head t) (outInto head (addHintsIn (headIndex head) t list))

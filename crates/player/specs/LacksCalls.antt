@@ -3,9 +3,10 @@ use Prim.Native.Nat.{ℕ}
 use mathlib.Core.List.{List, [], _∷_}
 use Rattle.rules.specs.File.{bit}
 use Rattle.rules_lacks.specs.declared.Lacks.{Lacks}
+use Rattle.blocks.specs.IsHead.{isIndex}
 use Rattle.index.specs.Index.{Tables}
 use Rattle.lacks.specs.Lacks.{lacksIn}
-use Rattle.player.specs.Block.{Called, called, into, inBlock, headIndex}
+use Rattle.player.specs.Block.{Called, called, into, inBlock, inHead, headIndex}
 
 -- how many of each thing are lacking; 1 for each of what there is once at most
 unfoldable pub lacksWords : Lacks → List ℕ
@@ -16,5 +17,5 @@ lacksWords l =
 -- the block is the answer's
 unfoldable pub lacksCall : List ℕ → List ℕ → List ℕ → Tables → Tables → Called
 lacksCall head other answer t u =
-    inBlock head (called 3 answer)
-    (inBlock other (called 3 answer) (inBlock answer (called 3 answer) (into lacksWords answer (lacksIn (headIndex head) t (headIndex other) u))))
+    inHead (isIndex head) (called 3 answer)
+    (inHead (isIndex other) (called 3 answer) (inBlock answer (called 3 answer) (into lacksWords answer (lacksIn (headIndex head) t (headIndex other) u))))

@@ -2,6 +2,7 @@
 use crate::block::bit_word;
 use crate::block::index_in;
 use blocks::HEAD_BYTES;
+use blocks::read::is_index;
 use blocks::write_words;
 use lacks::Lacked;
 use rules_lacks::Lacks;
@@ -86,10 +87,10 @@ pub extern "C" fn seek_raw_lacks(
 ) -> u32
     ensures { λ r. ⌜ called r (now (answer .exit)) ≡ lacksCall (now (head .entry)) (now (other .entry)) (now (answer .entry)) (tables (now (checkpoints .entry)) (now (frames .entry)) (now (store .entry)) (now (parts .entry)) (now (malformed .entry)) (now (hints .entry)) (now (confirmed .entry))) (tables (now («other_checkpoints» .entry)) (now («other_frames» .entry)) (now («other_store» .entry)) (now («other_parts» .entry)) (now («other_malformed» .entry)) (now («other_hints» .entry)) (now («other_confirmed» .entry))) ⌝ }
 {
-    if head.len() < HEAD_BYTES {
+    if !is_index(head) {
         return 3;
     }
-    if other.len() < HEAD_BYTES {
+    if !is_index(other) {
         return 3;
     }
     if answer.len() < HEAD_BYTES {

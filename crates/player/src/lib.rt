@@ -13,6 +13,7 @@ use crate::block::put_plan;
 use crate::block::put_sizes;
 use crate::block::saved_number;
 use blocks::HEAD_BYTES;
+use blocks::read::is_index;
 ghost use mathlib.Core.Path.{_≡_};
 ghost use Rattle.fnv.specs.Fnv.{fnv64};
 ghost use Rattle.index.specs.Index.{tables};
@@ -204,7 +205,7 @@ pub extern "C" fn seek_raw_fingerprint(
 ) -> u32
     ensures { λ r. ⌜ called r (now (head .exit)) ≡ fingerprintCall (now (head .entry)) value (tables (now (checkpoints .entry)) (now (frames .entry)) (now (store .entry)) (now (parts .entry)) (now (malformed .entry)) (now (hints .entry)) (now (confirmed .entry))) ⌝ }
 {
-    if head.len() < HEAD_BYTES {
+    if !is_index(head) {
         return 3;
     }
     let x = index_in(head);
@@ -238,7 +239,7 @@ pub extern "C" fn seek_raw_plan(
 ) -> u32
     ensures { λ r. ⌜ called r (now (answer .exit)) ≡ planCall (now (head .entry)) frame (now (answer .entry)) (tables (now (checkpoints .entry)) (now (frames .entry)) (now (store .entry)) (now (parts .entry)) (now (malformed .entry)) (now (hints .entry)) (now (confirmed .entry))) ⌝ }
 {
-    if head.len() < HEAD_BYTES {
+    if !is_index(head) {
         return 3;
     }
     if answer.len() < HEAD_BYTES {
@@ -273,7 +274,7 @@ pub extern "C" fn seek_raw_saved_length(
 ) -> u64
     ensures { λ r. ⌜ r ≡ lengthCall (now (head .entry)) (tables (now (checkpoints .entry)) (now (frames .entry)) (now (store .entry)) (now (parts .entry)) (now (malformed .entry)) (now (hints .entry)) (now (confirmed .entry))) ⌝ }
 {
-    if head.len() < HEAD_BYTES {
+    if !is_index(head) {
         return 3;
     }
     let x = index_in(head);
@@ -304,7 +305,7 @@ pub extern "C" fn seek_raw_save(
 ) -> u64
     ensures { λ r. ⌜ called r (now (out .exit)) ≡ saveCall (now (head .entry)) (tables (now (checkpoints .entry)) (now (frames .entry)) (now (store .entry)) (now (parts .entry)) (now (malformed .entry)) (now (hints .entry)) (now (confirmed .entry))) (now (out .entry)) ⌝ }
 {
-    if head.len() < HEAD_BYTES {
+    if !is_index(head) {
         return 3;
     }
     let x = index_in(head);
@@ -344,10 +345,10 @@ pub extern "C" fn seek_raw_merge(
 ) -> u32
     ensures { λ r. ⌜ calledOver r (now (head .exit)) (tables (now (checkpoints .exit)) (now (frames .exit)) (now (store .exit)) (now (parts .exit)) (now (malformed .exit)) (now (hints .exit)) (now (confirmed .exit))) ≡ mergeCall (now (head .entry)) (now (other .entry)) (tables (now (checkpoints .entry)) (now (frames .entry)) (now (store .entry)) (now (parts .entry)) (now (malformed .entry)) (now (hints .entry)) (now (confirmed .entry))) (tables (now («other_checkpoints» .entry)) (now («other_frames» .entry)) (now («other_store» .entry)) (now («other_parts» .entry)) (now («other_malformed» .entry)) (now («other_hints» .entry)) (now («other_confirmed» .entry))) ⌝ }
 {
-    if head.len() < HEAD_BYTES {
+    if !is_index(head) {
         return 3;
     }
-    if other.len() < HEAD_BYTES {
+    if !is_index(other) {
         return 3;
     }
     let x = index_in(head);
@@ -396,10 +397,10 @@ pub extern "C" fn seek_raw_adds(
 ) -> u32
     ensures { λ r. ⌜ called r (now (answer .exit)) ≡ addsCall (now (head .entry)) (now (other .entry)) (now (answer .entry)) (tables (now (checkpoints .entry)) (now (frames .entry)) (now (store .entry)) (now (parts .entry)) (now (malformed .entry)) (now (hints .entry)) (now (confirmed .entry))) (tables (now («other_checkpoints» .entry)) (now («other_frames» .entry)) (now («other_store» .entry)) (now («other_parts» .entry)) (now («other_malformed» .entry)) (now («other_hints» .entry)) (now («other_confirmed» .entry))) ⌝ }
 {
-    if head.len() < HEAD_BYTES {
+    if !is_index(head) {
         return 3;
     }
-    if other.len() < HEAD_BYTES {
+    if !is_index(other) {
         return 3;
     }
     if answer.len() < HEAD_BYTES {
@@ -443,7 +444,7 @@ pub extern "C" fn seek_raw_add_hints(
 ) -> u32
     ensures { λ r. ⌜ calledOver r (now (head .exit)) (tables (now (checkpoints .entry)) (now (frames .entry)) (now (store .entry)) (now (parts .entry)) (now (malformed .entry)) (now (hints .exit)) (now (confirmed .entry))) ≡ addHintsCall (now (head .entry)) (now (list .entry)) (tables (now (checkpoints .entry)) (now (frames .entry)) (now (store .entry)) (now (parts .entry)) (now (malformed .entry)) (now (hints .entry)) (now (confirmed .entry))) ⌝ }
 {
-    if head.len() < HEAD_BYTES {
+    if !is_index(head) {
         return 3;
     }
     let x = index_in(head);

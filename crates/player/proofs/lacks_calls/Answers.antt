@@ -1,17 +1,19 @@
--- What the call answers where its blocks are long enough, from what the calls in it ensure. Assumes nothing.
+-- What the call answers where its blocks are heads and long enough, from what the calls in it ensure. Assumes nothing.
 use mathlib.Core.Path.{_≡_}
+use mathlib.Core.Bool.{true}
 use mathlib.Core.List.{List}
 use Prim.Native.Nat.{ℕ, _≤_}
 use lib.ListN.{length}
 use Rattle.rules.specs.declared.AreaIndex.{AreaIndex}
+use Rattle.blocks.specs.IsHead.{isIndex}
 use Rattle.index.specs.Index.{Tables}
 use Rattle.lacks.specs.Lacks.{lackedOf, lacksIn}
 use Rattle.lacks.specs.declared.Lacked.{Lacked}
 use Rattle.player.specs.Block.{called, into, headIndex}
 use Rattle.player.specs.LacksCalls.{lacksWords, lacksCall}
-use Rattle.player.proofs.block.Blocks.{long-enough}
+use Rattle.player.proofs.block.Blocks.{long-enough, is-head}
 
-pub lacks-done : (b b' : List ℕ) (n : ℕ) → 192 ≤ length b → (g : List ℕ) → 192 ≤ length g → (x y : AreaIndex) → y ≡ headIndex g → (t u : Tables) (h : List ℕ) → 192 ≤ length h
+pub lacks-done : (b b' : List ℕ) (n : ℕ) → 192 ≤ length b → (g : List ℕ) → isIndex g ≡ true → (x y : AreaIndex) → y ≡ headIndex g → (t u : Tables) (h : List ℕ) → isIndex h ≡ true
     → (r : Lacked) → called n b' ≡ into lacksWords b (lackedOf r) → lackedOf r ≡ lacksIn x t y u → x ≡ headIndex h → called n b' ≡ lacksCall h g b t u
 unfolding lacksCall
-lacks-done b b' n l g m x y w t u h k r p e z = long-enough h _ _ k (long-enough g _ _ m (long-enough b _ _ l (rw (← z, ← w, ← e) p)))
+lacks-done b b' n l g m x y w t u h k r p e z = is-head _ _ _ k (is-head _ _ _ m (long-enough b _ _ l (rw (← z, ← w, ← e) p)))

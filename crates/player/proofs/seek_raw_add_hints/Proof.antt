@@ -1,5 +1,6 @@
+use mathlib.Core.Path.{refl}
 use Rattle.player.specs.Calls.{addHintsCall}
-use Rattle.player.proofs.block.Blocks.{too-short}
+use Rattle.player.proofs.block.Blocks.{no-head, known, known-long}
 use Rattle.player.proofs.Answers.{add-hints-done}
 use borrow.Author.Needs.{needs}
 use Rattle.player.proofs.seek_raw_add_hints.Statement.{statement}
@@ -7,7 +8,7 @@ use Rattle.player.proofs.seek_raw_add_hints.Tie as tie
 
 returns : tie.Need-returns
 unfolding addHintsCall
-returns c = too-short _ _ _ (c .if1 .taken)
+returns c = no-head _ _ _ (c .before .is-index .ensures) (c .if1 .taken)
 
 returns-2 : tie.Need-returns-2
 returns-2 c =
@@ -15,16 +16,18 @@ returns-2 c =
     let call : tie.After-add-hints = search in
     let own : tie.After-index-in = search in
     let test : tie.Else1 = search in
-    add-hints-done _ _ _ (test .if1 .left) _ _ _ _ _ (put .put-made .ensures) (call .add-hints .ensures) (own .index-in .ensures)
+    add-hints-done _ _ _ (known (test .before .is-index .ensures) (test .if1 .left)) _ _ _ _ _ (put .put-made .ensures) (call .add-hints .ensures) (own .index-in .ensures)
 
 pub seek-raw-add-hints-spec : {M : Type 1} → statement M
 seek-raw-add-hints-spec =
     tie.close
     (tie.spec
+    (λ c κs. search needs)
+    (λ c. refl)
     returns
+    (λ c κs. let test : tie.Else1 = search in known-long _ _ (test .before .is-index .ensures) (test .if1 .left))
     (λ c κs. search needs)
-    (λ c κs. search needs)
-    (λ c κs. search needs)
+    (λ c κs. let test : tie.Else1 = search in search (needs, known-long _ _ (test .before .is-index .ensures) (test .if1 .left)))
     (λ c. search needs)
     (λ c. search needs)
     returns-2)

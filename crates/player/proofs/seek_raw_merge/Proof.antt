@@ -1,6 +1,7 @@
+use mathlib.Core.Path.{refl}
 use Rattle.index.specs.Index.{Tables, tables}
 use Rattle.player.specs.Calls.{mergeCall}
-use Rattle.player.proofs.block.Blocks.{too-short, long-enough}
+use Rattle.player.proofs.block.Blocks.{no-head, is-head, known, known-long}
 use Rattle.player.proofs.Answers.{merge-done}
 use borrow.Author.Needs.{needs}
 use Rattle.player.proofs.seek_raw_merge.Statement.{statement}
@@ -20,13 +21,13 @@ others s =
 
 returns : tie.Need-returns
 unfolding mergeCall
-returns c = too-short _ _ _ (c .if1 .taken)
+returns c = no-head _ _ _ (c .before .is-index .ensures) (c .if1 .taken)
 
 returns-2 : tie.Need-returns-2
 unfolding mergeCall
 returns-2 c =
     let test : tie.Else1 = search in
-    long-enough _ _ _ (test .if1 .left) (too-short _ _ _ (c .if2 .taken))
+    is-head _ _ _ (known (test .before .is-index .ensures) (test .if1 .left)) (no-head _ _ _ (c .before .is-index2 .ensures) (c .if2 .taken))
 
 returns-3 : tie.Need-returns-3
 returns-3 c =
@@ -36,8 +37,8 @@ returns-3 c =
     let own : tie.After-index-in = search in
     let test2 : tie.Else2 = search in
     let test : tie.Else1 = search in
-    let start : tie.Start = test .before .before .before .before .before .before .before .before .before .before .before .before .before .before .before .before .before in
-    merge-done (start .args .head .now) _ _ (test .if1 .left) (start .args .other .now) (test2 .if2 .left) (own .index-in .result)
+    let start : tie.Start = test .before .before .before .before .before .before .before .before .before .before .before .before .before .before .before .before .before .before .before in
+    merge-done (start .args .head .now) _ _ (known (test .before .is-index .ensures) (test .if1 .left)) (start .args .other .now) (known (test2 .before .is-index2 .ensures) (test2 .if2 .left)) (own .index-in .result)
     (other .index-in2 .result) (other .index-in2 .ensures) (lent start) (others start) _ (call .merge .result) (put .put-made .ensures)
     (call .merge .ensures) (own .index-in .ensures)
 
@@ -45,12 +46,16 @@ pub seek-raw-merge-spec : {M : Type 1} → statement M
 seek-raw-merge-spec =
     tie.close
     (tie.spec
+    (λ c κs. search needs)
+    (λ c. refl)
     returns
+    (λ c κs. search needs)
+    (λ c. refl)
     returns-2
+    (λ c κs. let test : tie.Else1 = search in known-long _ _ (test .before .is-index .ensures) (test .if1 .left))
+    (λ c κs. let test : tie.Else2 = search in known-long _ _ (test .before .is-index2 .ensures) (test .if2 .left))
     (λ c κs. search needs)
-    (λ c κs. search needs)
-    (λ c κs. search needs)
-    (λ c κs. search needs)
+    (λ c κs. let test : tie.Else1 = search in search (needs, known-long _ _ (test .before .is-index .ensures) (test .if1 .left)))
     (λ c. let lent : tie.After-head = search in lent .head .given)
     (λ c. let lent : tie.After-checkpoints = search in lent .checkpoints .given)
     (λ c. let lent : tie.After-frames = search in lent .frames .given)

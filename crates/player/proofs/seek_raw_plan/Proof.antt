@@ -1,5 +1,5 @@
 use Rattle.player.specs.Calls.{planCall}
-use Rattle.player.proofs.block.Blocks.{too-short, long-enough}
+use Rattle.player.proofs.block.Blocks.{too-short, no-head, is-head, known, known-long}
 use Rattle.player.proofs.Answers.{plan-done}
 use borrow.Author.Needs.{needs}
 use Rattle.player.proofs.seek_raw_plan.Statement.{statement}
@@ -7,13 +7,13 @@ use Rattle.player.proofs.seek_raw_plan.Tie as tie
 
 returns : tie.Need-returns
 unfolding planCall
-returns c = too-short _ _ _ (c .if1 .taken)
+returns c = no-head _ _ _ (c .before .is-index .ensures) (c .if1 .taken)
 
 returns-2 : tie.Need-returns-2
 unfolding planCall
 returns-2 c =
     let test : tie.Else1 = search in
-    long-enough _ _ _ (test .if1 .left) (too-short _ _ _ (c .if2 .taken))
+    is-head _ _ _ (known (test .before .is-index .ensures) (test .if1 .left)) (too-short _ _ _ (c .if2 .taken))
 
 returns-3 : tie.Need-returns-3
 returns-3 c =
@@ -22,15 +22,16 @@ returns-3 c =
     let own : tie.After-index-in = search in
     let call : tie.After-plan = search in
     let put : tie.After-put-plan = search in
-    plan-done _ _ _ (test2 .if2 .left) _ (test .if1 .left) _ _ _ _ (put .put-plan .ensures) (call .plan .ensures) (own .index-in .ensures)
+    plan-done _ _ _ (test2 .if2 .left) _ (known (test .before .is-index .ensures) (test .if1 .left)) _ _ _ _ (put .put-plan .ensures) (call .plan .ensures) (own .index-in .ensures)
 
 pub seek-raw-plan-spec : {M : Type 1} → statement M
 seek-raw-plan-spec =
     tie.close
     (tie.spec
+    (λ c κs. search needs)
     returns
     returns-2
-    (λ c κs. search needs)
+    (λ c κs. let test : tie.Else1 = search in known-long _ _ (test .before .is-index .ensures) (test .if1 .left))
     (λ c κs. search needs)
     (λ c κs. search needs)
     (λ c. search needs)
