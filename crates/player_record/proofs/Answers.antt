@@ -1,5 +1,6 @@
--- What each call answers where its blocks are long enough, from what the calls in it ensure. Assumes nothing.
+-- What each call answers where its blocks are heads or long enough, from what the calls in it ensure. Assumes nothing.
 use mathlib.Core.Path.{_≡_}
+use mathlib.Core.Bool.{true}
 use mathlib.Core.List.{List}
 use Prim.Native.Nat.{ℕ, _≤_}
 use lib.ListN.{length}
@@ -8,6 +9,7 @@ use Rattle.rules.specs.declared.EndState.{EndState}
 use Rattle.rules.specs.declared.ImageId.{ImageId}
 use Rattle.rules.specs.declared.Recorder.{Recorder}
 use Rattle.rules.specs.declared.UnderAssembly.{UnderAssembly}
+use Rattle.blocks.specs.IsHead.{isIndex, isRecorder}
 use Rattle.index.specs.Index.{Tables}
 use Rattle.recorder.specs.declared.Recorded.{Recorded}
 use Rattle.recorder.specs.Recorder.{RecorderTables, startedIn, finishedIn}
@@ -18,38 +20,38 @@ use Rattle.absorb.specs.declared.Absorbed.{Absorbed}
 use Rattle.absorb.specs.Absorb.{out, absorbIn}
 use Rattle.player_record.specs.Block.{calledBoth, absorbedInto, boundaryOf, boundaryWords}
 use Rattle.player.specs.Block.{called, into, headIndex, headRecorder}
-use Rattle.player.proofs.block.Blocks.{long-enough}
+use Rattle.player.proofs.block.Blocks.{long-enough, is-head}
 use Rattle.player_record.specs.Calls.{calledFour, recordedInto, recorderCall, recordCall, finishCall, dueCall, boundaryCall, calledAbsorbed, absorbCall}
 
-module _ (b b' : List ℕ) (n : ℕ) (l : 192 ≤ length b) (q : Recorded) (p : called n b' ≡ recordedInto b q) where
-  pub recorder-done : (h : List ℕ) → 192 ≤ length h → (x : AreaIndex) (t : Tables) (from : ℕ) → q ≡ startedIn x t from → x ≡ headIndex h
+module _ (b b' : List ℕ) (n : ℕ) (q : Recorded) (p : called n b' ≡ recordedInto b q) where
+  pub recorder-done : 192 ≤ length b → (h : List ℕ) → isIndex h ≡ true → (x : AreaIndex) (t : Tables) (from : ℕ) → q ≡ startedIn x t from → x ≡ headIndex h
       → called n b' ≡ recorderCall h from b t
   unfolding recorderCall
-  recorder-done h g x t from e z = long-enough h _ _ g (long-enough b _ _ l (rw (e, z) at p))
+  recorder-done l h g x t from e z = is-head _ _ _ g (long-enough b _ _ l (rw (e, z) at p))
 
-  pub finish-done : (r : Recorder) (t : RecorderTables) (s : EndState) → q ≡ finishedIn r t s → r ≡ headRecorder b → called n b' ≡ finishCall b s t
+  pub finish-done : isRecorder b ≡ true → (r : Recorder) (t : RecorderTables) (s : EndState) → q ≡ finishedIn r t s → r ≡ headRecorder b → called n b' ≡ finishCall b s t
   unfolding finishCall
-  finish-done r t s e z = long-enough b _ _ l (rw (e, z) at p)
+  finish-done l r t s e z = is-head _ _ _ l (rw (e, z) at p)
 
-  pub record-done : (r : Recorder) (t t' : RecorderTables) (lsn threshold malformed : ℕ) (f g : UnderAssembly) (bytes sector : List ℕ)
+  pub record-done : isRecorder b ≡ true → (r : Recorder) (t t' : RecorderTables) (lsn threshold malformed : ℕ) (f g : UnderAssembly) (bytes sector : List ℕ)
       → recorderOut q t' ≡ recordIn r t lsn threshold malformed f bytes sector → r ≡ headRecorder b → f ≡ g
       → calledFour n b' t' ≡ recordCall b lsn threshold malformed g bytes sector t
   unfolding recordCall
-  record-done r t t' lsn threshold malformed f g bytes sector e z w = long-enough b _ _ l (rw (← z, ← w, ← e, p))
+  record-done l r t t' lsn threshold malformed f g bytes sector e z w = is-head _ _ _ l (rw (← z, ← w, ← e, p))
 
 -- ---- boundaries
-module _ (b a a' : List ℕ) (n : ℕ) (g : 192 ≤ length b) (l : 192 ≤ length a) (q : Boundary) (p : called n a' ≡ into boundaryWords a (boundaryOf q)) where
-  pub due-done : (r : Recorder) → q ≡ dueAt r → r ≡ headRecorder b → called n a' ≡ dueCall b a
+module _ (b a a' : List ℕ) (n : ℕ) (l : 192 ≤ length a) (q : Boundary) (p : called n a' ≡ into boundaryWords a (boundaryOf q)) where
+  pub due-done : isRecorder b ≡ true → (r : Recorder) → q ≡ dueAt r → r ≡ headRecorder b → called n a' ≡ dueCall b a
   unfolding dueCall
-  due-done r e z = long-enough b _ _ g (long-enough a _ _ l (rw (e, z) at p))
+  due-done g r e z = is-head _ _ _ g (long-enough a _ _ l (rw (e, z) at p))
 
-  pub boundary-done : (x : AreaIndex) (j : ℕ) → q ≡ checkpointAt x j → x ≡ headIndex b → called n a' ≡ boundaryCall b j a
+  pub boundary-done : isIndex b ≡ true → (x : AreaIndex) (j : ℕ) → q ≡ checkpointAt x j → x ≡ headIndex b → called n a' ≡ boundaryCall b j a
   unfolding boundaryCall
-  boundary-done x j e z = long-enough b _ _ g (long-enough a _ _ l (rw (e, z) at p))
+  boundary-done g x j e z = is-head _ _ _ g (long-enough a _ _ l (rw (e, z) at p))
 
 -- ---- a list and a recorder
-module _ (h h' b b' : List ℕ) (n : ℕ) (g : 192 ≤ length h) (l : 192 ≤ length b) (x : AreaIndex) (r : Recorder) (t : Tables) (u : RecorderTables) where
+module _ (h h' b b' : List ℕ) (n : ℕ) (g : isIndex h ≡ true) (l : isRecorder b ≡ true) (x : AreaIndex) (r : Recorder) (t : Tables) (u : RecorderTables) where
   pub absorb-done : (t' : Tables) (i j : ImageId) (given : List ℕ) (q : Absorbed) → calledBoth n h' b' ≡ absorbedInto h b q
       → out q t' ≡ absorbIn x t i given r u → x ≡ headIndex h → r ≡ headRecorder b → i ≡ j → calledAbsorbed n h' b' t' ≡ absorbCall h b j given t u
   unfolding absorbCall
-  absorb-done t' i j given q p e z y w = long-enough h _ _ g (long-enough b _ _ l (rw (← z, ← y, ← w, ← e, p)))
+  absorb-done t' i j given q p e z y w = is-head _ _ _ g (is-head _ _ _ l (rw (← z, ← y, ← w, ← e, p)))

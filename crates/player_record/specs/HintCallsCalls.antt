@@ -3,17 +3,18 @@ use Prim.Native.Nat.{ℕ}
 use mathlib.Core.List.{List}
 use Rattle.rules.specs.declared.Confirmation.{Confirmation}
 use Rattle.blocks.specs.Head.{hintRecorderWords}
+use Rattle.blocks.specs.IsHead.{isIndex, isHintRecorder}
 use Rattle.index.specs.Index.{Tables}
 use Rattle.hint.specs.Calls.{hintIn}
 use Rattle.hint_recorder.specs.Recorder.{Out, SawOut, hintRecorderIn, seeIn, flushIn, takeIn}
 use Rattle.confirmations.specs.Keeping.{keepIn}
-use Rattle.player.specs.Block.{Called, called, into, inBlock, headIndex, headHintRecorder}
+use Rattle.player.specs.Block.{Called, called, into, inBlock, inHead, headIndex, headHintRecorder}
 use Rattle.player_record.specs.Block.{CalledBoth, calledBoth, seenOf, sawOf, sectorWords, createdOf, createdWords, hintWords, takenInto, keptInto}
 
 -- the block is the hint recorder's
 unfoldable pub hintRecorderCall : List ℕ → List ℕ → Tables → Called
 hintRecorderCall head block t =
-    inBlock head (called 3 block) (inBlock block (called 3 block) (into createdWords block (createdOf (hintRecorderIn (headIndex head) t))))
+    inHead (isIndex head) (called 3 block) (inBlock block (called 3 block) (into createdWords block (createdOf (hintRecorderIn (headIndex head) t))))
 
 -- with the hint recorder's list
 pub record CalledList : Type 0 where
@@ -34,14 +35,14 @@ abbrev pub sawInto : List ℕ → SawOut → CalledList
 sawInto block o = withList (into sectorWords block (sawOf (o .answer))) (o .list)
 
 unfoldable pub seeCall : List ℕ → ℕ → List ℕ → List ℕ → CalledList
-seeCall block lsn sector list = inBlock block (calledList 3 block list) (sawInto block (seeIn (headHintRecorder block) list lsn sector))
+seeCall block lsn sector list = inHead (isHintRecorder block) (calledList 3 block list) (sawInto block (seeIn (headHintRecorder block) list lsn sector))
 
 unfoldable pub flushCall : List ℕ → List ℕ → CalledList
-flushCall block list = inBlock block (calledList 3 block list) (seenInto block (flushIn (headHintRecorder block) list))
+flushCall block list = inHead (isHintRecorder block) (calledList 3 block list) (seenInto block (flushIn (headHintRecorder block) list))
 
 unfoldable pub takeCall : List ℕ → List ℕ → List ℕ → CalledBoth
 takeCall block answer list =
-    inBlock block (calledBoth 3 block answer)
+    inHead (isHintRecorder block) (calledBoth 3 block answer)
     (inBlock answer (calledBoth 3 block answer) (takenInto block answer (takeIn (headHintRecorder block) list)))
 
 -- with the tables
@@ -58,11 +59,11 @@ calledKept n b a t = withTables (calledBoth n b a) t
 unfoldable pub keepCall : List ℕ → Confirmation → List ℕ → Tables → CalledKept
 keepCall head c answer t =
     let o = keepIn (headIndex head) t c in
-    inBlock head (calledKept 3 head answer t)
+    inHead (isIndex head) (calledKept 3 head answer t)
     (inBlock answer (calledKept 3 head answer t) (withTables (keptInto head answer (o .answer)) (o .tables)))
 
 -- the block is the answer's
 unfoldable pub hintCall : List ℕ → ℕ → ℕ → ℕ → List ℕ → Tables → Called
 hintCall head first end playtime answer t =
-    inBlock head (called 3 answer)
+    inHead (isIndex head) (called 3 answer)
     (inBlock answer (called 3 answer) (into hintWords answer (hintIn (headIndex head) t first end playtime)))

@@ -6,6 +6,8 @@ use crate::block::put_saw;
 use crate::block::put_seen;
 use crate::block::put_taken;
 use blocks::HEAD_BYTES;
+use blocks::read::is_hint_recorder;
+use blocks::read::is_index;
 use player::block::hint_recorder_in;
 use player::block::index_in;
 ghost use mathlib.Core.Path.{_≡_};
@@ -30,7 +32,7 @@ pub extern "C" fn seek_raw_hint_recorder(
 ) -> u32
     ensures { λ r. ⌜ called r (now (block .exit)) ≡ hintRecorderCall (now (head .entry)) (now (block .entry)) (tables (now (checkpoints .entry)) (now (frames .entry)) (now (store .entry)) (now (parts .entry)) (now (malformed .entry)) (now (hints .entry)) (now (confirmed .entry))) ⌝ }
 {
-    if head.len() < HEAD_BYTES {
+    if !is_index(head) {
         return 3;
     }
     if block.len() < HEAD_BYTES {
@@ -55,7 +57,7 @@ pub extern "C" fn seek_raw_hint_recorder(
 pub extern "C" fn seek_raw_see(block: &mut [u8], lsn: u64, sector: &[u8], list: &mut [u8]) -> u32
     ensures { λ r. ⌜ calledList r (now (block .exit)) (now (list .exit)) ≡ seeCall (now (block .entry)) lsn (now (sector .entry)) (now (list .entry)) ⌝ }
 {
-    if block.len() < HEAD_BYTES {
+    if !is_hint_recorder(block) {
         return 3;
     }
     let r = hint_recorder_in(block);
@@ -68,7 +70,7 @@ pub extern "C" fn seek_raw_see(block: &mut [u8], lsn: u64, sector: &[u8], list: 
 pub extern "C" fn seek_raw_flush(block: &mut [u8], list: &mut [u8]) -> u32
     ensures { λ r. ⌜ calledList r (now (block .exit)) (now (list .exit)) ≡ flushCall (now (block .entry)) (now (list .entry)) ⌝ }
 {
-    if block.len() < HEAD_BYTES {
+    if !is_hint_recorder(block) {
         return 3;
     }
     let r = hint_recorder_in(block);
@@ -81,7 +83,7 @@ pub extern "C" fn seek_raw_flush(block: &mut [u8], list: &mut [u8]) -> u32
 pub extern "C" fn seek_raw_take(block: &mut [u8], answer: &mut [u8], list: &[u8]) -> u32
     ensures { λ r. ⌜ calledBoth r (now (block .exit)) (now (answer .exit)) ≡ takeCall (now (block .entry)) (now (answer .entry)) (now (list .entry)) ⌝ }
 {
-    if block.len() < HEAD_BYTES {
+    if !is_hint_recorder(block) {
         return 3;
     }
     if answer.len() < HEAD_BYTES {
@@ -110,7 +112,7 @@ pub extern "C" fn seek_raw_keep_confirmation(
 ) -> u32
     ensures { λ r. ⌜ calledKept r (now (head .exit)) (now (answer .exit)) (tables (now (checkpoints .entry)) (now (frames .entry)) (now (store .entry)) (now (parts .entry)) (now (malformed .entry)) (now (hints .entry)) (now (confirmed .exit))) ≡ keepCall (now (head .entry)) (given lsn threshold digest) (now (answer .entry)) (tables (now (checkpoints .entry)) (now (frames .entry)) (now (store .entry)) (now (parts .entry)) (now (malformed .entry)) (now (hints .entry)) (now (confirmed .entry))) ⌝ }
 {
-    if head.len() < HEAD_BYTES {
+    if !is_index(head) {
         return 3;
     }
     if answer.len() < HEAD_BYTES {
@@ -151,7 +153,7 @@ pub extern "C" fn seek_raw_hint(
 ) -> u32
     ensures { λ r. ⌜ called r (now (answer .exit)) ≡ hintCall (now (head .entry)) first end playtime (now (answer .entry)) (tables (now (checkpoints .entry)) (now (frames .entry)) (now (store .entry)) (now (parts .entry)) (now (malformed .entry)) (now (hints .entry)) (now (confirmed .entry))) ⌝ }
 {
-    if head.len() < HEAD_BYTES {
+    if !is_index(head) {
         return 3;
     }
     if answer.len() < HEAD_BYTES {

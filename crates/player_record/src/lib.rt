@@ -8,6 +8,8 @@ use crate::block::put_absorbed;
 use crate::block::put_boundary;
 use crate::block::put_recorded;
 use blocks::HEAD_BYTES;
+use blocks::read::is_index;
+use blocks::read::is_recorder;
 use player::block::index_in;
 use player::block::recorder_in;
 use rules::EndState;
@@ -35,7 +37,7 @@ pub extern "C" fn seek_raw_recorder(
 ) -> u32
     ensures { λ r. ⌜ called r (now (block .exit)) ≡ recorderCall (now (head .entry)) from (now (block .entry)) (tables (now (checkpoints .entry)) (now (frames .entry)) (now (store .entry)) (now (parts .entry)) (now (malformed .entry)) (now (hints .entry)) (now (confirmed .entry))) ⌝ }
 {
-    if head.len() < HEAD_BYTES {
+    if !is_index(head) {
         return 3;
     }
     if block.len() < HEAD_BYTES {
@@ -77,7 +79,7 @@ pub extern "C" fn seek_raw_record(
 ) -> u32
     ensures { λ r. ⌜ calledFour r (now (block .exit)) (recorderTables (now (checkpoints .exit)) (now (frames .exit)) (now (store .exit)) (now (parts .exit))) ≡ recordCall (now (block .entry)) lsn threshold malformed (frameFrom mark start number kind remaining) (now (bytes .entry)) (now (sector .entry)) (recorderTables (now (checkpoints .entry)) (now (frames .entry)) (now (store .entry)) (now (parts .entry))) ⌝ }
 {
-    if block.len() < HEAD_BYTES {
+    if !is_recorder(block) {
         return 3;
     }
     let r = recorder_in(block);
@@ -111,7 +113,7 @@ pub extern "C" fn seek_raw_finish(
 ) -> u32
     ensures { λ r. ⌜ called r (now (block .exit)) ≡ finishCall (now (block .entry)) (endState threshold malformed) (recorderTables (now (checkpoints .entry)) (now (frames .entry)) (now (store .entry)) (now (parts .entry))) ⌝ }
 {
-    if block.len() < HEAD_BYTES {
+    if !is_recorder(block) {
         return 3;
     }
     let r = recorder_in(block);
@@ -128,7 +130,7 @@ pub extern "C" fn seek_raw_finish(
 pub extern "C" fn seek_raw_due(block: &[u8], answer: &mut [u8]) -> u32
     ensures { λ r. ⌜ called r (now (answer .exit)) ≡ dueCall (now (block .entry)) (now (answer .entry)) ⌝ }
 {
-    if block.len() < HEAD_BYTES {
+    if !is_recorder(block) {
         return 3;
     }
     if answer.len() < HEAD_BYTES {
@@ -144,7 +146,7 @@ pub extern "C" fn seek_raw_due(block: &[u8], answer: &mut [u8]) -> u32
 pub extern "C" fn seek_raw_boundary(head: &[u8], number: u32, answer: &mut [u8]) -> u32
     ensures { λ r. ⌜ called r (now (answer .exit)) ≡ boundaryCall (now (head .entry)) number (now (answer .entry)) ⌝ }
 {
-    if head.len() < HEAD_BYTES {
+    if !is_index(head) {
         return 3;
     }
     if answer.len() < HEAD_BYTES {
@@ -185,10 +187,10 @@ pub extern "C" fn seek_raw_absorb(
 ) -> u32
     ensures { λ r. ⌜ calledAbsorbed r (now (head .exit)) (now (block .exit)) (tables (now (checkpoints .exit)) (now (frames .exit)) (now (store .exit)) (now (parts .exit)) (now (malformed .exit)) (now (hints .entry)) (now (confirmed .entry))) ≡ absorbCall (now (head .entry)) (now (block .entry)) (imageFrom mark image) (now (given .entry)) (tables (now (checkpoints .entry)) (now (frames .entry)) (now (store .entry)) (now (parts .entry)) (now (malformed .entry)) (now (hints .entry)) (now (confirmed .entry))) (recorderTables (now («new_checkpoints» .entry)) (now («new_frames» .entry)) (now («new_store» .entry)) (now («new_parts» .entry))) ⌝ }
 {
-    if head.len() < HEAD_BYTES {
+    if !is_index(head) {
         return 3;
     }
-    if block.len() < HEAD_BYTES {
+    if !is_recorder(block) {
         return 3;
     }
     let x = index_in(head);

@@ -1,5 +1,6 @@
--- What each call answers where its blocks are long enough, from what the calls in it ensure. Assumes nothing.
+-- What each call answers where its blocks are heads or long enough, from what the calls in it ensure. Assumes nothing.
 use mathlib.Core.Path.{_≡_}
+use mathlib.Core.Bool.{true}
 use mathlib.Core.List.{List}
 use Prim.Native.Nat.{ℕ, _≤_}
 use lib.ListN.{length}
@@ -7,6 +8,7 @@ use Rattle.rules.specs.declared.AreaIndex.{AreaIndex}
 use Rattle.rules.specs.declared.Confirmation.{Confirmation}
 use Rattle.rules.specs.declared.HintRecorder.{HintRecorder}
 use Rattle.blocks.specs.Head.{hintRecorderWords}
+use Rattle.blocks.specs.IsHead.{isIndex, isHintRecorder}
 use Rattle.index.specs.Index.{Tables}
 use Rattle.hint.specs.declared.HintAnswer.{HintAnswer}
 use Rattle.hint.specs.Calls.{answerOf, hintIn}
@@ -20,40 +22,41 @@ use Rattle.confirmations.specs.declared.Kept.{Kept}
 use Rattle.confirmations.specs.Keeping.{keepIn}
 use Rattle.confirmations.specs.Keeping as keeping
 use Rattle.player.specs.Block.{called, into, headIndex, headHintRecorder}
-use Rattle.player.proofs.block.Blocks.{long-enough}
+use Rattle.player.proofs.block.Blocks.{long-enough, is-head}
 use Rattle.player_record.specs.Block.{calledBoth, seenOf, sawOf, sectorWords, createdOf, createdWords, hintWords, takenInto, keptInto}
 use Rattle.player_record.specs.HintCallsCalls.{calledList, calledKept, hintRecorderCall, seeCall, flushCall, takeCall, keepCall, hintCall}
 
-module _ (b b' : List ℕ) (n : ℕ) (l : 192 ≤ length b) where
-  pub created-done : (h : List ℕ) → 192 ≤ length h → (x : AreaIndex) (t : Tables) (q : Created) → called n b' ≡ into createdWords b (createdOf q)
-      → q ≡ hintRecorderIn x t → x ≡ headIndex h → called n b' ≡ hintRecorderCall h b t
+-- ---- a block that is only written, and a list's head
+module _ (b b' : List ℕ) (n : ℕ) (l : 192 ≤ length b) (h : List ℕ) (g : isIndex h ≡ true) (x : AreaIndex) (t : Tables) where
+  pub created-done : (q : Created) → called n b' ≡ into createdWords b (createdOf q) → q ≡ hintRecorderIn x t → x ≡ headIndex h
+      → called n b' ≡ hintRecorderCall h b t
   unfolding hintRecorderCall
-  created-done h g x t q p e z = long-enough h _ _ g (long-enough b _ _ l (rw (e, z) at p))
+  created-done q p e z = is-head _ _ _ g (long-enough b _ _ l (rw (e, z) at p))
 
-  pub hint-done : (h : List ℕ) → 192 ≤ length h → (x : AreaIndex) (t : Tables) (first end playtime : ℕ) (q : HintAnswer)
-      → called n b' ≡ into hintWords b (answerOf q) → answerOf q ≡ hintIn x t first end playtime → x ≡ headIndex h
-      → called n b' ≡ hintCall h first end playtime b t
+  pub hint-done : (first end playtime : ℕ) (q : HintAnswer) → called n b' ≡ into hintWords b (answerOf q) → answerOf q ≡ hintIn x t first end playtime
+      → x ≡ headIndex h → called n b' ≡ hintCall h first end playtime b t
   unfolding hintCall
-  hint-done h g x t first end playtime q p e z = long-enough h _ _ g (long-enough b _ _ l (rw (e, z) at p))
+  hint-done first end playtime q p e z = is-head _ _ _ g (long-enough b _ _ l (rw (e, z) at p))
 
-  module _ (r : HintRecorder) (z : r ≡ headHintRecorder b) (t t' : List ℕ) where
+-- ---- a hint recorder's block
+module _ (b b' : List ℕ) (n : ℕ) (l : isHintRecorder b ≡ true) (r : HintRecorder) (z : r ≡ headHintRecorder b) where
+  module _ (t t' : List ℕ) where
     pub see-done : (q : Saw) → called n b' ≡ into sectorWords b (sawOf q) → (lsn : ℕ) (sector : List ℕ) → hinting.sawOut q t' ≡ seeIn r t lsn sector
         → calledList n b' t' ≡ seeCall b lsn sector t
     unfolding seeCall
-    see-done q p lsn sector e = long-enough b _ _ l (rw (← z, ← e, p))
+    see-done q p lsn sector e = is-head _ _ _ l (rw (← z, ← e, p))
 
     pub flush-done : (q : Seen) → called n b' ≡ into hintRecorderWords b (seenOf q) → hinting.out q t' ≡ flushIn r t → calledList n b' t' ≡ flushCall b t
     unfolding flushCall
-    flush-done q p e = long-enough b _ _ l (rw (← z, ← e, p))
+    flush-done q p e = is-head _ _ _ l (rw (← z, ← e, p))
 
-  -- ---- two blocks
-  module _ (a a' : List ℕ) (k : 192 ≤ length a) where
-    pub take-done : (r : HintRecorder) (t : List ℕ) (q : Taken) → calledBoth n b' a' ≡ takenInto b a q → q ≡ takeIn r t → r ≡ headHintRecorder b
-        → calledBoth n b' a' ≡ takeCall b a t
-    unfolding takeCall
-    take-done r t q p e z = long-enough b _ _ l (long-enough a _ _ k (rw (e, z) at p))
+  pub take-done : (a a' : List ℕ) → 192 ≤ length a → (t : List ℕ) (q : Taken) → calledBoth n b' a' ≡ takenInto b a q → q ≡ takeIn r t
+      → calledBoth n b' a' ≡ takeCall b a t
+  unfolding takeCall
+  take-done a a' k t q p e = is-head _ _ _ l (long-enough a _ _ k (rw (e, z) at p))
 
-    pub keep-done : (x : AreaIndex) (t t' : Tables) (c : Confirmation) (q : Kept) → calledBoth n b' a' ≡ keptInto b a q
-        → keeping.out q t' ≡ keepIn x t c → x ≡ headIndex b → calledKept n b' a' t' ≡ keepCall b c a t
-    unfolding keepCall
-    keep-done x t t' c q p e z = long-enough b _ _ l (long-enough a _ _ k (rw (← z, ← e, p)))
+-- ---- a list's head that is written, and an answer
+pub keep-done : (b b' : List ℕ) (n : ℕ) → isIndex b ≡ true → (a a' : List ℕ) → 192 ≤ length a → (x : AreaIndex) (t t' : Tables) (c : Confirmation) (q : Kept)
+    → calledBoth n b' a' ≡ keptInto b a q → keeping.out q t' ≡ keepIn x t c → x ≡ headIndex b → calledKept n b' a' t' ≡ keepCall b c a t
+unfolding keepCall
+keep-done b b' n l a a' k x t t' c q p e z = is-head _ _ _ l (long-enough a _ _ k (rw (← z, ← e, p)))

@@ -1,5 +1,6 @@
+use mathlib.Core.Path.{refl}
 use Rattle.player_record.specs.Calls.{absorbCall}
-use Rattle.player.proofs.block.Blocks.{too-short, long-enough}
+use Rattle.player.proofs.block.Blocks.{no-head, is-head, known, known-long}
 use Rattle.player_record.proofs.Answers.{absorb-done}
 use borrow.Author.Needs.{needs}
 use Rattle.player_record.proofs.seek_raw_absorb.Statement.{statement}
@@ -26,20 +27,20 @@ test-before test2 = search
 
 returns : tie.Need-returns
 unfolding absorbCall
-returns c = too-short _ _ _ (c .if1 .taken)
+returns c = no-head _ _ _ (c .before .is-index .ensures) (c .if1 .taken)
 
 returns-2 : tie.Need-returns-2
 unfolding absorbCall
 returns-2 c =
     let test : tie.Else1 = search in
-    long-enough _ _ _ (test .if1 .left) (too-short _ _ _ (c .if2 .taken))
+    is-head _ _ _ (known (test .before .is-index .ensures) (test .if1 .left)) (no-head _ _ _ (c .before .is-recorder .ensures) (c .if2 .taken))
 
 put-absorbed-requires : tie.Need-put-absorbed-requires
 put-absorbed-requires c κs =
     let call : tie.After-absorb = search in
     let test2 = test2-before (own-before (recorder-before (id-before call))) in
     let test = test-before test2 in
-    search (needs, test .if1 .left, test2 .if2 .left)
+    search (needs, known-long _ _ (test .before .is-index .ensures) (test .if1 .left), known-long _ _ (test2 .before .is-recorder .ensures) (test2 .if2 .left))
 
 returns-3 : tie.Need-returns-3
 returns-3 c =
@@ -50,17 +51,22 @@ returns-3 c =
     let own = own-before recorder in
     let test2 = test2-before own in
     let test = test-before test2 in
-    absorb-done _ _ _ _ _ (test .if1 .left) (test2 .if2 .left) _ _ _ _ _ _ _ _ _ (put .put-absorbed .ensures) (call .absorb .ensures)
+    absorb-done _ _ _ _ _ (known (test .before .is-index .ensures) (test .if1 .left)) (known (test2 .before .is-recorder .ensures) (test2 .if2 .left)) _ _ _ _ _ _ _ _ _ (put .put-absorbed .ensures) (call .absorb .ensures)
     (own .index-in .ensures) (recorder .recorder-in .ensures) (id .image-given .ensures)
 
 pub seek-raw-absorb-spec : {M : Type 1} → statement M
 seek-raw-absorb-spec =
     tie.close
     (tie.spec
+    (λ c κs. search needs)
+    (λ c. refl)
     returns
+    (λ c κs. search needs)
+    (λ c. refl)
+    (λ c. refl)
     returns-2
-    (λ c κs. search needs)
-    (λ c κs. search needs)
+    (λ c κs. let test : tie.Else1 = search in known-long _ _ (test .before .is-index .ensures) (test .if1 .left))
+    (λ c κs. let test : tie.Else2 = search in known-long _ _ (test .before .is-recorder .ensures) (test .if2 .left))
     (λ c κs. search needs)
     (λ c κs. search needs)
     put-absorbed-requires

@@ -1,5 +1,6 @@
+use mathlib.Core.Path.{refl}
 use Rattle.player_record.specs.HintCallsCalls.{keepCall}
-use Rattle.player.proofs.block.Blocks.{too-short, long-enough}
+use Rattle.player.proofs.block.Blocks.{too-short, no-head, is-head, known, known-long}
 use Rattle.player_record.proofs.hint_calls.Answers.{keep-done}
 use borrow.Author.Needs.{needs}
 use Rattle.player_record.proofs.hint_calls.seek_raw_keep_confirmation.Statement.{statement}
@@ -7,13 +8,13 @@ use Rattle.player_record.proofs.hint_calls.seek_raw_keep_confirmation.T
 
 returns : tie.Need-returns
 unfolding keepCall
-returns c = too-short _ _ _ (c .if1 .taken)
+returns c = no-head _ _ _ (c .before .is-index .ensures) (c .if1 .taken)
 
 returns-2 : tie.Need-returns-2
 unfolding keepCall
 returns-2 c =
     let test : tie.Else1 = search in
-    long-enough _ _ _ (test .if1 .left) (too-short _ _ _ (c .if2 .taken))
+    is-head _ _ _ (known (test .before .is-index .ensures) (test .if1 .left)) (too-short _ _ _ (c .if2 .taken))
 
 returns-3 : tie.Need-returns-3
 returns-3 c =
@@ -22,18 +23,21 @@ returns-3 c =
     let own : tie.After-index-in = search in
     let test2 : tie.Else2 = search in
     let test : tie.Else1 = search in
-    keep-done _ _ _ (test .if1 .left) _ _ (test2 .if2 .left) _ _ _ _ _ (put .put-kept .ensures) (call .keep-confirmation .ensures)
+    keep-done _ _ _ (known (test .before .is-index .ensures) (test .if1 .left)) _ _ (test2 .if2 .left) _ _ _ _ _ (put .put-kept .ensures) (call .keep-confirmation .ensures)
     (own .index-in .ensures)
 
 pub seek-raw-keep-confirmation-spec : {M : Type 1} → statement M
 seek-raw-keep-confirmation-spec =
     tie.close
     (tie.spec
+    (λ c κs. search needs)
+    (λ c. refl)
     returns
+    (λ c. refl)
     returns-2
+    (λ c κs. let test : tie.Else1 = search in known-long _ _ (test .before .is-index .ensures) (test .if1 .left))
     (λ c κs. search needs)
-    (λ c κs. search needs)
-    (λ c κs. search needs)
+    (λ c κs. let test : tie.Else1 = search in search (needs, known-long _ _ (test .before .is-index .ensures) (test .if1 .left)))
     (λ c. search needs)
     (λ c. search needs)
     (λ c. search needs)
