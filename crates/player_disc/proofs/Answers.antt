@@ -1,15 +1,17 @@
--- What each call answers where its blocks are long enough, from what the calls in it ensure. Assumes nothing.
+-- What each call answers where its blocks are heads or long enough, from what the calls in it ensure. Assumes nothing.
 use mathlib.Core.Path.{_≡_}
+use mathlib.Core.Bool.{true}
 use mathlib.Core.List.{List}
 use Prim.Native.Nat.{ℕ, _≤_}
 use lib.ListN.{length}
 use Rattle.rules.specs.declared.Area.{Area}
 use Rattle.rules.specs.declared.AreaIndex.{AreaIndex}
+use Rattle.blocks.specs.IsHead.{isIndex}
 use Rattle.index.specs.Index.{Tables}
 use Rattle.save.specs.Save.{made}
 use Rattle.save.specs.declared.Saved.{Saved}
 use Rattle.player.specs.Block.{called, into, headIndex, savedNumber}
-use Rattle.player.proofs.block.Blocks.{long-enough}
+use Rattle.player.proofs.block.Blocks.{long-enough, is-head}
 use Rattle.disc_load.specs.declared.contents.Contents.{Contents}
 use Rattle.disc_load.specs.Contents.{contentsIn}
 use Rattle.disc_load.specs.declared.Loaded.{Loaded}
@@ -40,20 +42,20 @@ module _ (h g b h' g' b' : List ℕ) (n : ℕ) (l : 192 ≤ length h) (k : 192 �
   load-done r p e z w = long-enough h _ _ l (long-enough g _ _ k (long-enough b _ _ m (rw (← z, ← w, ← e, p))))
 
 -- ---- no block is written
-module _ (h : List ℕ) (l : 192 ≤ length h) (x : AreaIndex) (z : x ≡ headIndex h) (t : Tables) where
+module _ (h : List ℕ) (l : isIndex h ≡ true) (x : AreaIndex) (z : x ≡ headIndex h) (t : Tables) where
   pub length-done : (n : ℕ) → n ≡ oneLength x t → n ≡ discLengthCall h t
   unfolding discLengthCall
-  length-done n e = long-enough h _ _ l (rw z at e)
+  length-done n e = is-head _ _ _ l (rw z at e)
 
   pub save-done : (n : ℕ) (o o' : List ℕ) (r : Saved) → made r o' ≡ saveOneIn x t o → n ≡ savedNumber r → called n o' ≡ discSaveCall h t o
   unfolding discSaveCall
-  save-done n o o' r e q = long-enough h _ _ l (rw (← z, ← e, q))
+  save-done n o o' r e q = is-head _ _ _ l (rw (← z, ← e, q))
 
-  module _ (g : List ℕ) (k : 192 ≤ length g) (y : AreaIndex) (w : y ≡ headIndex g) (u : Tables) where
+  module _ (g : List ℕ) (k : isIndex g ≡ true) (y : AreaIndex) (w : y ≡ headIndex g) (u : Tables) where
     pub length-both-done : (n : ℕ) → n ≡ bothLength x t y u → n ≡ discLengthBothCall h g t u
     unfolding discLengthBothCall
-    length-both-done n e = long-enough h _ _ l (long-enough g _ _ k (rw (z, w) at e))
+    length-both-done n e = is-head _ _ _ l (is-head _ _ _ k (rw (z, w) at e))
 
     pub both-done : (n : ℕ) (o o' : List ℕ) (r : Saved) → made r o' ≡ saveBothIn x t y u o → n ≡ savedNumber r → called n o' ≡ discSaveBothCall h g t u o
     unfolding discSaveBothCall
-    both-done n o o' r e q = long-enough h _ _ l (long-enough g _ _ k (rw (← z, ← w, ← e, q)))
+    both-done n o o' r e q = is-head _ _ _ l (is-head _ _ _ k (rw (← z, ← w, ← e, q)))

@@ -2,8 +2,9 @@
 use Prim.Native.Nat.{ℕ}
 use mathlib.Core.List.{List}
 use Rattle.rules.specs.declared.Area.{Area}
+use Rattle.blocks.specs.IsHead.{isIndex}
 use Rattle.index.specs.Index.{Tables}
-use Rattle.player.specs.Block.{Called, called, into, inBlock, headIndex, savedInto}
+use Rattle.player.specs.Block.{Called, called, into, inBlock, inHead, headIndex, savedInto}
 use Rattle.disc_load.specs.Contents.{contentsIn}
 use Rattle.disc_load.specs.Calls.{DiscOut, loadDiscIn}
 use Rattle.disc_save.specs.Calls.{saveOneIn, saveBothIn}
@@ -20,18 +21,18 @@ discSizesCall answer a0 a1 file limit = inBlock answer (called 3 answer) (into d
 
 -- ---- the length, or the refusal number
 unfoldable pub discLengthCall : List ℕ → Tables → ℕ
-discLengthCall head t = inBlock head 3 (oneLength (headIndex head) t)
+discLengthCall head t = inHead (isIndex head) 3 (oneLength (headIndex head) t)
 
 unfoldable pub discLengthBothCall : List ℕ → List ℕ → Tables → Tables → ℕ
-discLengthBothCall head other t u = inBlock head 3 (inBlock other 3 (bothLength (headIndex head) t (headIndex other) u))
+discLengthBothCall head other t u = inHead (isIndex head) 3 (inHead (isIndex other) 3 (bothLength (headIndex head) t (headIndex other) u))
 
 -- with the output as block
 unfoldable pub discSaveCall : List ℕ → Tables → List ℕ → Called
-discSaveCall head t out = inBlock head (called 3 out) (savedInto (saveOneIn (headIndex head) t out))
+discSaveCall head t out = inHead (isIndex head) (called 3 out) (savedInto (saveOneIn (headIndex head) t out))
 
 unfoldable pub discSaveBothCall : List ℕ → List ℕ → Tables → Tables → List ℕ → Called
 discSaveBothCall head other t u out =
-    inBlock head (called 3 out) (inBlock other (called 3 out) (savedInto (saveBothIn (headIndex head) t (headIndex other) u out)))
+    inHead (isIndex head) (called 3 out) (inHead (isIndex other) (called 3 out) (savedInto (saveBothIn (headIndex head) t (headIndex other) u out)))
 
 -- ---- loading: the heads of both slots, the answer, and the tables of both slots
 pub record CalledDisc : Type 0 where

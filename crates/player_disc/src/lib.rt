@@ -5,6 +5,7 @@ use crate::block::put_contents;
 use crate::block::put_disc_sizes;
 use crate::block::put_loaded;
 use blocks::HEAD_BYTES;
+use blocks::read::is_index;
 use player::block::area_from;
 use player::block::index_in;
 use player::block::saved_number;
@@ -179,7 +180,7 @@ pub extern "C" fn seek_raw_disc_saved_length(
 ) -> u64
     ensures { λ r. ⌜ r ≡ discLengthCall (now (head .entry)) (tables (now (checkpoints .entry)) (now (frames .entry)) (now (store .entry)) (now (parts .entry)) (now (malformed .entry)) (now (hints .entry)) (now (confirmed .entry))) ⌝ }
 {
-    if head.len() < HEAD_BYTES {
+    if !is_index(head) {
         return 3;
     }
     let x = index_in(head);
@@ -217,10 +218,10 @@ pub extern "C" fn seek_raw_disc_saved_length_both(
 ) -> u64
     ensures { λ r. ⌜ r ≡ discLengthBothCall (now (head .entry)) (now (other .entry)) (tables (now (checkpoints .entry)) (now (frames .entry)) (now (store .entry)) (now (parts .entry)) (now (malformed .entry)) (now (hints .entry)) (now (confirmed .entry))) (tables (now («other_checkpoints» .entry)) (now («other_frames» .entry)) (now («other_store» .entry)) (now («other_parts» .entry)) (now («other_malformed» .entry)) (now («other_hints» .entry)) (now («other_confirmed» .entry))) ⌝ }
 {
-    if head.len() < HEAD_BYTES {
+    if !is_index(head) {
         return 3;
     }
-    if other.len() < HEAD_BYTES {
+    if !is_index(other) {
         return 3;
     }
     let x = index_in(head);
@@ -260,7 +261,7 @@ pub extern "C" fn seek_raw_disc_save(
 ) -> u64
     ensures { λ r. ⌜ called r (now (out .exit)) ≡ discSaveCall (now (head .entry)) (tables (now (checkpoints .entry)) (now (frames .entry)) (now (store .entry)) (now (parts .entry)) (now (malformed .entry)) (now (hints .entry)) (now (confirmed .entry))) (now (out .entry)) ⌝ }
 {
-    if head.len() < HEAD_BYTES {
+    if !is_index(head) {
         return 3;
     }
     let x = index_in(head);
@@ -301,10 +302,10 @@ pub extern "C" fn seek_raw_disc_save_both(
 ) -> u64
     ensures { λ r. ⌜ called r (now (out .exit)) ≡ discSaveBothCall (now (head .entry)) (now (other .entry)) (tables (now (checkpoints .entry)) (now (frames .entry)) (now (store .entry)) (now (parts .entry)) (now (malformed .entry)) (now (hints .entry)) (now (confirmed .entry))) (tables (now («other_checkpoints» .entry)) (now («other_frames» .entry)) (now («other_store» .entry)) (now («other_parts» .entry)) (now («other_malformed» .entry)) (now («other_hints» .entry)) (now («other_confirmed» .entry))) (now (out .entry)) ⌝ }
 {
-    if head.len() < HEAD_BYTES {
+    if !is_index(head) {
         return 3;
     }
-    if other.len() < HEAD_BYTES {
+    if !is_index(other) {
         return 3;
     }
     let x = index_in(head);
