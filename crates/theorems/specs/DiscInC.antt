@@ -13,6 +13,7 @@ use Rattle.rules.specs.File.{over, saved}
 use Rattle.rules.specs.Load.{load}
 use Rattle.rules_disc.specs.Disc.{slotArea, contentsOk, discBytes}
 use Rattle.blocks.specs.Head.{blockOf}
+use Rattle.blocks.specs.IsHead.{isIndex}
 use Rattle.index.specs.Index.{Tables, roomOf, indexIn}
 use Rattle.player.specs.Block.{called, headIndex, two}
 use Rattle.player_disc.specs.Calls.{CalledDisc, discSaveCall, discSaveBothCall, discLoadCall}
@@ -22,12 +23,12 @@ use Rattle.theorems.specs.Demand1InC.{long}
 
 -- lists that pass 1 to 4 in their tables, of different slots, whose entries fit four bytes, are saved into every output that is long enough, whichever is given first: the number is the file's length
 pub record DiscSaveAcceptsInC : Type 0 where
-  pub both : (head other : List ℕ) (t u : Tables) (old : List ℕ) → long (head ∷ other ∷ []) ≡ true → ValidIn (headIndex head) t → ValidIn (headIndex other) u
+  pub both : (head other : List ℕ) (t u : Tables) (old : List ℕ) → isIndex head ≡ true → isIndex other ≡ true → ValidIn (headIndex head) t → ValidIn (headIndex other) u
       → headIndex head .area .key .slot ≡ 0 → headIndex other .area .key .slot ≡ 1
       → let i = indexIn (headIndex head) t in let j = indexIn (headIndex other) u in let b = discBytes (i ∷ j ∷ []) in
       28 + length (saved i) ≤ max32 → length (saved j) ≤ max32 → 28 + length (saved i) + length (saved j) ≤ length old
       → (discSaveBothCall head other t u old ≡ called (length b) (over b old)) × (discSaveBothCall other head u t old ≡ called (length b) (over b old))
-  pub one : (head : List ℕ) (t : Tables) (old : List ℕ) → long (head ∷ []) ≡ true → ValidIn (headIndex head) t
+  pub one : (head : List ℕ) (t : Tables) (old : List ℕ) → isIndex head ≡ true → ValidIn (headIndex head) t
       → let i = indexIn (headIndex head) t in let b = discBytes (i ∷ []) in
       length (saved i) ≤ max32 → 16 + length (saved i) ≤ length old → discSaveCall head t old ≡ called (length b) (over b old)
 

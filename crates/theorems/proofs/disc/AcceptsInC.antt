@@ -4,7 +4,6 @@ use mathlib.Core.Bool.{true, _&&_}
 use mathlib.Core.List.{List, [], _∷_}
 use mathlib.Core.Option.{none, some}
 use Prim.Native.Nat.{ℕ}
-use lib.Dec.{leb}
 use lib.ListN.{length}
 use Rattle.field.specs.Records.{Bytes}
 use Rattle.rules.specs.declared.Area.{Area}
@@ -17,10 +16,11 @@ use Rattle.rules.specs.Sizes.{knownSized}
 use Rattle.rules.proofs.Tests.{and-left, and-right}
 use Rattle.rules_disc.specs.Disc.{entriesIn, entryOf}
 use Rattle.blocks.specs.Head.{blockOf, indexWords}
+use Rattle.blocks.specs.IsHead.{isBlock}
 use Rattle.blocks.proofs.RoundTrip.{index-back}
 use Rattle.index.specs.Index.{Tables, roomOf, indexIn, numbersFrom, tablesFrom}
 use Rattle.index.proofs.Standing.{stands}
-use Rattle.player.specs.Block.{called, headIndex, inBlock, savedNumber}
+use Rattle.player.specs.Block.{called, headIndex, inBlock, inHead, savedNumber}
 use Rattle.disc_load.specs.Calls.{listedFrom, tablesWith, discOutOf, loadDiscIn}
 use Rattle.player_disc.specs.Block.{listedInto, loadedInto}
 use Rattle.player_disc.specs.Calls.{discSaveCall, discSaveBothCall, discLoadCall}
@@ -31,22 +31,18 @@ use Rattle.theorems.proofs.Closure.{load→}
 use Rattle.theorems.proofs.disc.Accepts.{disc-load-accepts}
 use Rattle.theorems.proofs.disc.AcceptsInTables.{body-bytes, load-savable, disc-save-accepts-in}
 
--- each of two and of three blocks is long enough
-one-long : (b : List ℕ) → long (b ∷ []) ≡ true → leb 192 (length b) ≡ true
-one-long b e = and-left (leb 192 (length b)) true e
-
-two-long : (b c : List ℕ) → long (b ∷ c ∷ []) ≡ true → (leb 192 (length b) ≡ true) × (leb 192 (length c) ≡ true)
-two-long b c e = (and-left (leb 192 (length b)) _ e, one-long c (and-right (leb 192 (length b)) _ e))
+-- each of two blocks is long enough
+two-long : (b c : List ℕ) → long (b ∷ c ∷ []) ≡ true → (isBlock b ≡ true) × (isBlock c ≡ true)
+two-long b c e = (and-left (isBlock b) _ e, and-left (isBlock c) true (and-right (isBlock b) _ e))
 
 pub disc-save-accepts-in-c : DiscSaveAcceptsInC
-unfolding discSaveBothCall discSaveCall inBlock savedNumber
+unfolding discSaveBothCall discSaveCall inHead savedNumber
 disc-save-accepts-in-c =
     record {
-      both = λ head other t u old l v w s r f g h.
+      both = λ head other t u old l m v w s r f g h.
           let e = disc-save-accepts-in .both (headIndex head) (headIndex other) t u old v w s r f g h in
-          let n = two-long head other l in
-          (rw (n .0, n .1, e .0) refl, rw (n .1, n .0, e .1) refl);
-      one = λ head t old l v f h. rw (one-long head l, disc-save-accepts-in .one (headIndex head) t old v f h) refl;
+          (rw (l, m, e .0) refl, rw (m, l, e .1) refl);
+      one = λ head t old l v f h. rw (l, disc-save-accepts-in .one (headIndex head) t old v f h) refl;
     }
 
 -- the head that a load writes is read as the list's numbers
@@ -65,12 +61,12 @@ list-back l a c limit x head t g e =
     ap (λ (n : AreaIndex). indexIn n (tablesFrom x t)) (head-back l a c limit x head g e) ∙ stands x t (load-savable l a c limit x g e)
 
 pub disc-load-accepts-in-c : DiscLoadAcceptsInC
-unfolding discLoadCall inBlock loadDiscIn discOutOf listedFrom tablesWith loadedInto listedInto
+unfolding discLoadCall inBlock inHead loadDiscIn discOutOf listedFrom tablesWith loadedInto listedInto
 disc-load-accepts-in-c =
     record {
       both = λ head other answer a0 a1 b limit t u c d x y l g s r k e f h i.
-          let n = and-left (leb 192 (length head)) _ l in
-          let m = two-long other answer (and-right (leb 192 (length head)) _ l) in
+          let n = and-left (isBlock head) _ l in
+          let m = two-long other answer (and-right (isBlock head) _ l) in
           rw (n, m .0, m .1, disc-load-accepts .both (roomOf t) (roomOf u) a0 a1 b limit c d x y s r k e f h i)
           record {
             accepted = refl;
@@ -79,8 +75,8 @@ disc-load-accepts-in-c =
             list1 = list-back (roomOf u) a1 d limit y other u (body-bytes b (entryOf 1 (entriesIn b)) d g h) i;
           };
       first = λ head other answer a0 a1 b limit t u c x l g s r k e f h.
-          let n = and-left (leb 192 (length head)) _ l in
-          let m = two-long other answer (and-right (leb 192 (length head)) _ l) in
+          let n = and-left (isBlock head) _ l in
+          let m = two-long other answer (and-right (isBlock head) _ l) in
           rw (n, m .0, m .1, disc-load-accepts .first (roomOf t) (roomOf u) a0 a1 b limit c x s r k e f h)
           record {
             accepted = refl;
@@ -90,8 +86,8 @@ disc-load-accepts-in-c =
             slot1 = refl;
           };
       second = λ head other answer a0 a1 b limit t u d y l g s r k e h i.
-          let n = and-left (leb 192 (length head)) _ l in
-          let m = two-long other answer (and-right (leb 192 (length head)) _ l) in
+          let n = and-left (isBlock head) _ l in
+          let m = two-long other answer (and-right (isBlock head) _ l) in
           rw (n, m .0, m .1, disc-load-accepts .second (roomOf t) (roomOf u) a0 a1 b limit d y s r k e h i)
           record {
             accepted = refl;

@@ -20,8 +20,9 @@ use Rattle.index.specs.Index.{Tables, roomOf, indexIn, kindsIn, orFour, kinded}
 use Rattle.lacks.specs.Lacks.{lacksIn}
 use Rattle.blocks.specs.From.{indexFrom}
 use Rattle.blocks.specs.Head.{wordsIn, blockOf}
+use Rattle.blocks.specs.IsHead.{isBlock, isIndex}
 use Rattle.blocks.specs.RoundTrip.{Fits32, Fits64}
-use Rattle.player.specs.Block.{Called, called, into, inBlock, headIndex}
+use Rattle.player.specs.Block.{Called, called, into, inBlock, inHead, headIndex}
 use Rattle.player.specs.LacksCalls.{lacksWords, lacksCall}
 use Rattle.theorems.specs.LacksPlayer.{Told, LacksTold, lacksNothing, NothingLackingInC}
 use Rattle.theorems.proofs.MergeInTables.{kinded→}
@@ -53,10 +54,10 @@ unfolding lacks
 lacks-not x t y u k e = kinded-not (kindsIn x t && kindsIn y u) (lacks (roomOf t) (indexIn x t) (roomOf u) (indexIn y u)) k e (λ d. after-not (mergeNumber (roomOf t) (indexIn x t) (roomOf u) (indexIn y u)) (lacking (indexIn x t) (indexIn y u)) k d)
 
 -- ---- blocks
-in→ : (c a b : List ℕ) (r : Called) → inBlock c (called 3 a) r ≡ called 0 b → r ≡ called 0 b
-unfolding inBlock
-in→ c a b r e =
-    test (leb 192 (length c)) (λ w. rw w at e)
+in→ : (ok : Bool) (a b : List ℕ) (r : Called) → inHead ok (called 3 a) r ≡ called 0 b → r ≡ called 0 b
+unfolding inHead
+in→ ok a b r e =
+    test ok (λ w. rw w at e)
     (λ w. let q : called 3 a ≡ called 0 b = rw w at e in let z : _≡_ {A = ℕ} 3 0 = ap (λ (v : Called). v .number) q in let f : ⊥ = omega arith in absurd f)
 
 into→ : {A : Type 0} (words : A → List ℕ) (a b : List ℕ) (r : Answer A) → ((k : ℕ) → r ≡ Refused k → k ≡ 0 → ⊥) → into words a r ≡ called 0 b
@@ -107,10 +108,10 @@ unfolding lacksWords
 words-back z a g = records-bytes (numbers 8) _ g
 
 pub lacks-told : LacksTold
-unfolding lacksCall lacks
+unfolding lacksCall inBlock lacks
 lacks-told head other answer b t u e =
     let x = headIndex head in let y = headIndex other in
-    let d = in→ answer answer b _ (in→ other answer b _ (in→ head answer b _ e)) in
+    let d = in→ (isBlock answer) answer b _ (in→ (isIndex other) answer b _ (in→ (isIndex head) answer b _ e)) in
     let r = into→ lacksWords answer b (lacksIn x t y u) (lacks-not x t y u) d in
     let k = kinded→ (kindsIn x t && kindsIn y u) (lacks (roomOf t) (indexIn x t) (roomOf u) (indexIn y u)) (r .0) (r .1) in
     let q : lacking (indexIn x t) (indexIn y u) ≡ r .0 = accepted→ (mergeNumber (roomOf t) (indexIn x t) (roomOf u) (indexIn y u)) (lacking (indexIn x t) (indexIn y u)) (r .0) (k .1) .1 in
