@@ -211,6 +211,22 @@ static void nothing(void)
     memcpy(r.block, l.head, SEEK_BLOCK);
     HOLDS(seek_record(&r, 1000, 0, 0, NULL, sector, sizeof sector) != 0);
     seek_close_recorder(&r);
+
+    /* heads that hold what no call writes: 2^32 + 5 checkpoints, an interval of 2^32 more, a slot of 256, marks that there are not, a number behind a mark of 0 */
+    HOLDS(seek_begin_recorder(&l, 1000, &r) == 0 && seek_due(&r, &number));
+    {
+        const uint64_t words[][2] = {{11, 4294967301u}, {7, seek_interval(&l) + 4294967296u}, {0, 256}, {17, 2}, {20, 3}, {22, 2}, {23, 1}};
+        size_t i;
+        for (i = 0; i < sizeof words / sizeof *words; i++) {
+            m = l;
+            sample_put(m.head + 8 * words[i][0], words[i][1], 8);
+            HOLDS(seek_plan(&m, 0, &j) == SEEK_NO_ROOM && seek_saved_length(&m) == SEEK_NO_ROOM && seek_merge(&m, &l) == SEEK_NO_ROOM);
+            HOLDS(seek_merge(&l, &m) == SEEK_NO_ROOM && seek_fingerprint(&m, 1) == SEEK_NO_ROOM && seek_word(m.head, (unsigned)words[i][0]) == words[i][1]);
+        }
+        sample_put(r.block + 8 * 14, 3, 8);
+        HOLDS(!seek_due(&r, &number) && seek_record(&r, 1000, 0, 0, NULL, sector, sizeof sector) == SEEK_NO_ROOM && seek_absorb(&l, &r, NULL, NULL, 0) == SEEK_NO_ROOM);
+    }
+    seek_close_recorder(&r);
     seek_close(&l);
 }
 

@@ -2,7 +2,9 @@
  *
  * Every buffer lies between canaries and has a length of 0, 1, one short of what is needed, exactly that, or an odd number more. Blocks, tables and files hold
  * random bytes, zeros, a real list, or a real list with a few bytes changed. After each call: the canaries are whole, a buffer that is only read is as
- * it was, and so is every buffer where the call refused; absorb's 8 may write the recorder. */
+ * it was, and so is every buffer where the call refused; absorb's 8 may write the recorder; a block that is read and is no head is refused with 3, and
+ * one that an accepted call wrote is a head (but for a disc file's, whose list may be absent). Before the random calls each word of each block that a call
+ * reads is made too wide, each mark a foreign one. */
 #include <inttypes.h>
 #include <stdio.h>
 #include <stdlib.h>
@@ -244,11 +246,74 @@ static const struct {
 };
 enum { CALLS = sizeof calls / sizeof *calls };
 
+/* ---- heads
+ * The widest number of each word of a list's, a recorder's and a hint recorder's head; 0 where the word is always 0. */
+#define ONE 255
+#define TWO 4294967295u
+#define ALL UINT64_MAX
+static const uint64_t widest[3][24] = {
+    {ONE, ONE, TWO, TWO, ALL, ALL, ALL, TWO, ALL, TWO, TWO, TWO, TWO, TWO, TWO, TWO, TWO, 1, TWO, ALL, 2, ALL, 1, ALL},
+    {ONE, ONE, TWO, TWO, ALL, ALL, ALL, TWO, ALL, TWO, ALL, TWO, TWO, TWO, 2, TWO, ALL},
+    {TWO, 1, TWO, 1, TWO, TWO, TWO, ALL, ALL, ALL, ALL},
+};
+/* Of each of them a mark, the mark with which numbers stand behind it (a fingerprint's does with 1 and 2), and the words behind it. */
+static const struct {
+    unsigned kind, mark, only, from, to;
+} marks[] = {{0, 17, 1, 18, 20}, {0, 20, 0, 21, 22}, {0, 22, 1, 23, 24}, {1, 14, 1, 15, 17}, {2, 1, 1, 2, 3}, {2, 3, 1, 4, 6}};
+enum { MARKS = sizeof marks / sizeof *marks };
+
+static unsigned kind_of(int k) { return k == RECORDER || k == FINISHING ? 1 : k == HINTER ? 2 : 0; }
+
+static int is_head(int k, const uint8_t *block, size_t length)
+{
+    unsigned kind = kind_of(k), i, j;
+    if (length < SEEK_BLOCK)
+        return 0;
+    for (i = 0; i < 24; i++)
+        if (seek_word(block, i) > widest[kind][i])
+            return 0;
+    for (i = 0; i < MARKS; i++) {
+        uint64_t mark = seek_word(block, marks[i].mark);
+        if (marks[i].kind != kind || (marks[i].only ? mark == marks[i].only : mark != 0))
+            continue;
+        for (j = marks[i].from; j < marks[i].to; j++)
+            if (seek_word(block, j) != 0)
+                return 0;
+    }
+    return 1;
+}
+
+#define BLOCKS (BIT(HEAD) | BIT(OTHER) | BIT(HEAD4) | BIT(RECORDER) | BIT(FINISHING) | BIT(HINTER))
+
+/* The blocks that a call reads: all that it is lent but those of what it makes. */
+static uint64_t heads(unsigned c)
+{
+    uint64_t (*run)(void) = calls[c].run;
+    uint64_t made = run == call_new || run == call_load || run == call_disc_load ? BIT(HEAD) | BIT(HEAD4)
+                    : run == call_recorder                                       ? BIT(RECORDER)
+                    : run == call_hint_recorder                                  ? BIT(HINTER)
+                                                                                 : 0;
+    return calls[c].lent & BLOCKS & ~made;
+}
+
+static int no_head(unsigned c)
+{
+    int k;
+    for (k = 0; k < BUFFERS; k++)
+        if (heads(c) >> k & 1 && !is_head(k, all[k].copy, all[k].length))
+            return 1;
+    return 0;
+}
+
 static int check(unsigned c, uint64_t answer)
 {
     int refused = calls[c].lengths ? answer < 88 : answer != 0, k;
     if (refused && (answer == 0 || (answer > 43 && answer != SEEK_NO_FOLD && answer != SEEK_NO_DISC))) {
         fprintf(stderr, "%s: %" PRIu64 " is no refusal number\n", calls[c].name, answer);
+        return 0;
+    }
+    if (no_head(c) && answer != SEEK_NO_ROOM) {
+        fprintf(stderr, "%s: answered %" PRIu64 " for a block that is no head\n", calls[c].name, answer);
         return 0;
     }
     if (!refused && calls[c].run == call_record && (uint8_t)v[3] != 0 && (uint8_t)v[6] > 1) {
@@ -259,6 +324,10 @@ static int check(unsigned c, uint64_t answer)
         const buffer *b = &all[k];
         if (!(calls[c].lent >> k & 1))
             continue;
+        if (!refused && calls[c].run != call_disc_load && (BLOCKS & calls[c].written) >> k & 1 && !is_head(k, b->at, b->length)) {
+            fprintf(stderr, "%s: left %s that is no head\n", calls[c].name, b->name);
+            return 0;
+        }
         if (!canaries(b)) {
             fprintf(stderr, "%s: wrote outside %s\n", calls[c].name, b->name);
             return 0;
@@ -410,20 +479,53 @@ static void choose_numbers(unsigned c, int wild)
     }
 }
 
+static void lend_all(unsigned c, int wild, int whole)
+{
+    int k;
+    for (k = 0; k < BUFFERS; k++)
+        if (calls[c].lent >> k & 1)
+            lend(k, wild, (int)(calls[c].written >> k & 1), whole);
+}
+
+/* One call over the real lists, with a word of one block changed. */
+static int edited(unsigned c, int k, unsigned i, uint64_t value)
+{
+    choose_numbers(c, 0);
+    lend_all(c, 0, 1);
+    sample_put(all[k].at + 8 * i, value, 8);
+    sample_put(all[k].copy + 8 * i, value, 8);
+    return check(c, calls[c].run());
+}
+
+/* Each word of each block that a call reads: one more than it can be, 2^32 more than it is, and all bits. */
+static uint64_t each_word(void)
+{
+    uint64_t count = 0;
+    unsigned c, i;
+    int k;
+    for (c = 0; c < CALLS; c++)
+        for (k = 0; k < BUFFERS; k++)
+            for (i = 0; heads(c) >> k & 1 && i < 24; i++, count += 3)
+                if (!edited(c, k, i, widest[kind_of(k)][i] + 1) || !edited(c, k, i, seek_word(real[k], i) + 4294967296u) || !edited(c, k, i, UINT64_MAX)) {
+                    fprintf(stderr, "word %u of %s\n", i, all[k].name);
+                    exit(1);
+                }
+    return count;
+}
+
 int main(int argc, char **argv)
 {
     uint64_t count = argc > 1 ? strtoull(argv[1], NULL, 10) : 100000, i, accepted[CALLS] = {0}, refused[CALLS] = {0}, eights = 0;
     unsigned c;
     state = (argc > 2 ? strtoull(argv[2], NULL, 10) : 1) * 0x9e3779b97f4a7c15u | 1;
     begin();
+    printf("%" PRIu64 " calls with a word of a head changed\n", each_word());
     for (i = 0; i < count; i++) {
-        int wild = below(8) != 0, whole = below(256) == 0, k;
+        int wild = below(8) != 0, whole = below(256) == 0;
         uint64_t answer;
         c = (unsigned)below(CALLS);
         choose_numbers(c, wild);
-        for (k = 0; k < BUFFERS; k++)
-            if (calls[c].lent >> k & 1)
-                lend(k, wild, (int)(calls[c].written >> k & 1), whole);
+        lend_all(c, wild, whole);
         answer = calls[c].run();
         if (!check(c, answer)) {
             fprintf(stderr, "call %" PRIu64 " of seed %s\n", i, argc > 2 ? argv[2] : "1");
