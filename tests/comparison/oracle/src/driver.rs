@@ -436,10 +436,14 @@ fn lent_names() -> Vec<String> {
         }
     }
     let tables = [0, 1, 3, 4, 5, 6, 7, 8, 10].into_iter().map(|t| (t, 0)).chain([(3, 20), (10, 20)]);
-    let head = [8, 10, 11, 12, 13, 14, 15, 16, 17, 18, 19, 20].into_iter().map(|w| (lent::HEAD, w));
+    let head = [8, 10, 11, 12, 13, 14, 15, 16, 17, 18, 19, 21].into_iter().map(|w| (lent::HEAD, w));
     let block = [8, 9, 11, 12, 13, 14, 15, 16].into_iter().map(|w| (lent::BLOCK, w));
     let all = tables.chain(head).chain(block).chain([(lent::HINT_BLOCK, 6)]);
     out.extend(all.map(|(t, at)| format!("edit: 4 by {}", lent::edited_name(t, at))));
+    let head = (0..4).chain([7]).chain(9..24).map(|w| (lent::HEAD, w));
+    let block = (0..4).chain([7, 9]).chain(11..24).map(|w| (lent::BLOCK, w));
+    let wide = head.chain(block).chain([(lent::HINT_BLOCK, 6)]);
+    out.extend(wide.map(|(t, at)| format!("edit: 3 by {}", lent::edited_name(t, at))));
     out.extend((20..=38).chain([1]).map(|n| format!("load: {n} before 3")));
     out.extend((1..=2).map(|n| format!("new: {n} before 3")));
     for (call, list) in LATER {

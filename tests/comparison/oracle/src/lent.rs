@@ -73,11 +73,38 @@ pub struct Raw {
     pub tables: Vec<Vec<u8>>,
 }
 
+const U8: u64 = u8::MAX as u64;
+const U32: u64 = u32::MAX as u64;
+const U64: u64 = u64::MAX;
+
+/// The widest number of each word of a list's head, and of a recorder's block; behind the last word they are 0.
+#[rustfmt::skip]
+const HEAD_WORDS: [u64; 24] = [
+    U8, U8, U32, U32, U64, U64, U64, U32, U64, U32, U32, U32, U32, U32, U32, U32, U32, 1, U32, U64, 2, U64, 1, U64,
+];
+#[rustfmt::skip]
+const BLOCK_WORDS: [u64; 24] = [
+    U8, U8, U32, U32, U64, U64, U64, U32, U64, U32, U64, U32, U32, U32, 2, U32, U64, 0, 0, 0, 0, 0, 0, 0,
+];
+
 fn word(b: &[u8], i: usize) -> u32 {
     b.get(i..i + 4).map_or(0, |w| u32::from_le_bytes([w[0], w[1], w[2], w[3]]))
 }
 
 impl Raw {
+    /// Is the block one that a call wrote: no word wider than its number, no other mark, no number behind a mark that has none?
+    pub fn is_head(&self, recorder: bool) -> bool {
+        let w = &self.words;
+        let widest = if recorder { &BLOCK_WORDS } else { &HEAD_WORDS };
+        let none = |i: usize| w[i] == 0;
+        let behind = if recorder {
+            w[14] == 1 || (none(15) && none(16))
+        } else {
+            (w[17] == 1 || (none(18) && none(19))) && (w[20] != 0 || none(21)) && (w[22] == 1 || none(23))
+        };
+        w.iter().zip(widest).all(|(v, most)| v <= most) && behind
+    }
+
     /// Question 1.
     pub fn area_passes(&self) -> bool {
         self.words[0] as u8 <= 1 && self.words[5] <= self.words[6] && self.words[6] <= u64::from(u32::MAX)

@@ -500,7 +500,7 @@ impl Oracle {
         Some(accepted())
     }
 
-    /// A byte of a table or a word of a block for the next call, where 1, 2 or 4 is then no.
+    /// A byte of a table or a word of a block for the next call, where 1, 2 or 4 is then no, or the block no head.
     fn edit(&mut self, w: &mut Words<'_>) -> Option<Answer> {
         let (p, t, at, v) = (w.place()?, w.u64()? as usize, w.u64()?, w.u64()?);
         let object = match t {
@@ -517,7 +517,11 @@ impl Oracle {
             return Some(Nothing);
         }
         self.pending.edits.push((p, t, at, v));
-        let no = self.nos(object, true).and_then(|nos| [0, 1, 3].into_iter().find(|&i| nos[i]));
+        let no = if self.no_head(object) {
+            Some(2)
+        } else {
+            self.nos(object, true).and_then(|nos| [0, 1, 3].into_iter().find(|&i| nos[i]))
+        };
         let Some(no) = no else {
             self.pending.edits.pop();
             return Some(Outside);
@@ -560,6 +564,25 @@ impl Oracle {
         Some(raw)
     }
 
+    /// Is the object's block no head? It is then refused with 3, before any question.
+    fn no_head(&self, object: Object) -> bool {
+        match object {
+            List(p) => {
+                let list = self.places[p].list.as_ref();
+                let raw = list.and_then(|l| self.edited(access::raw_list(l), p, 0, lent::HEAD));
+                raw.is_some_and(|raw| !raw.is_head(false))
+            }
+            Records(p) => {
+                let raw = self.raw_recorder(p).and_then(|r| self.edited(r, p, lent::RECORDS, lent::BLOCK));
+                raw.is_some_and(|raw| !raw.is_head(true))
+            }
+            Hints => {
+                let words = self.pending.edits.iter().filter(|e| e.1 == lent::HINT_BLOCK && e.2 == 6);
+                words.last().is_some_and(|e| e.3 > u64::from(u32::MAX))
+            }
+        }
+    }
+
     /// Which of 1 to 4 an object fails; None where that cannot be told. `all`: in tables of the full length.
     fn nos(&self, object: Object, all: bool) -> Option<Nos> {
         let rooms = lent::rooms(sizes());
@@ -598,6 +621,12 @@ impl Oracle {
     fn refused(&mut self, call: &str, objects: &[Object]) -> Option<Answer> {
         if self.pending.lent.is_empty() && self.pending.edits.is_empty() {
             return None;
+        }
+        if objects.iter().any(|&o| self.no_head(o)) {
+            if self.count {
+                self.count_lent(format!("{call}: no head"));
+            }
+            return Some(Number(3, Vec::new()));
         }
         let nos: Vec<Nos> = objects.iter().filter_map(|&o| self.nos(o, false)).collect();
         if self.count {

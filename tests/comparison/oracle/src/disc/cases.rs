@@ -236,7 +236,16 @@ fn edit(rng: &mut Rng, area: &AreaNumbers, ix: &AreaIndex) -> Edit {
     let (boundaries, _, _) = access::sizes(ix);
     let need = needs(ix);
     let word = |number, at, value| Edit { number, what: 7, at, value };
-    match rng.below(10) {
+    match rng.below(12) {
+        // No head: a word wider than its number, a mark that there is not.
+        10 => {
+            let (at, value) = *rng.pick(&[(0, 256), (1, 1 << 63), (7, 1 << 32), (11, 1 << 32), (16, 1 << 40)]);
+            word(3, at, value)
+        }
+        11 => {
+            let (at, value) = *rng.pick(&[(17, 2), (20, 3), (22, 2), (23, 1)]);
+            word(3, at, value)
+        }
         0 => word(1, 0, rng.range(2, 255)),
         1 => word(1, 5, area.end + 1),
         2 => word(2, 7, *rng.pick(&[0, 65_537])),

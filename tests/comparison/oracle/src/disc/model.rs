@@ -250,7 +250,7 @@ impl Load {
 /// A change of a loaded list.
 #[derive(Clone, Copy)]
 pub struct Edit {
-    /// The question of saving that finds it, 1 to 4; 0 where the saved content stays.
+    /// The question of saving that finds it, 1 to 4; 0 where the saved content stays. Where the head is none, 3 is asked first.
     pub number: u64,
     /// 0 to 6: a byte of a table; 7: a word of the head; 8: the length of a table.
     pub what: u64,
@@ -293,8 +293,9 @@ impl Pair {
     pub fn answer(&self, saved: &[Vec<u8>; 2]) -> (Vec<u8>, [u64; 3]) {
         let list = |s: usize| (u64::from(self.areas[s].slot), &saved[s][..]);
         let no = |s: usize| self.edits[s].map_or(0, |e| e.number);
-        // Each question is asked of both lists before the next: the lower number.
-        let lower = (0..2).map(no).filter(|&n| n != 0).min().unwrap_or(0);
+        // Heads come first; then each question is asked of both lists before the next: the lower number.
+        let no_head = (0..2).any(|s| self.edits[s].is_some_and(|e| e.number == 3 && e.what == 7));
+        let lower = if no_head { 3 } else { (0..2).map(no).filter(|&n| n != 0).min().unwrap_or(0) };
         let mut t = b"pair 0 0".to_vec();
         let both = put_saved(&mut t, lower, &[list(0), list(1)], self.out);
         put_saved(&mut t, lower, &[list(1), list(0)], self.out);

@@ -72,6 +72,43 @@ fn edit_numbers(s: &mut Script<'_>, rng: &mut Rng, p: usize, block: usize, l: &L
     }
 }
 
+/// A word wider than its number, with the number in its low bytes, a mark that there is not, or a number behind a mark of 0: no
+/// head.
+fn edit_head(s: &mut Script<'_>, rng: &mut Rng, p: usize, l: &List) {
+    let wide = 1 << rng.range(32, 63);
+    let counts =
+        [l.checkpoints.len(), l.frames.len(), l.parts.len(), l.malformed.len(), l.hints.len(), l.confirmations.len()];
+    let (i, v) = match rng.below(8) {
+        0 => (rng.below(2), 1 << rng.range(8, 63)),
+        1 => (rng.range(2, 3), wide),
+        2 => (7, wide | u64::from(l.k)),
+        3 => *rng.pick(&[(9, wide | u64::from(l.spacing)), (10, wide | u64::from(l.most))]),
+        4 => {
+            let i = rng.below(6);
+            (11 + i, wide | counts[i as usize] as u64)
+        }
+        5 => (17, *rng.pick(&[2, 255, 256])),
+        6 => (*rng.pick(&[18, 19, 21, 23]), wide | 1),
+        _ => *rng.pick(&[(20, 3), (20, wide), (22, 2), (22, wide)]),
+    };
+    edit(s, p, HEAD, i, v);
+}
+
+/// The same of a recorder's block.
+fn edit_block(s: &mut Script<'_>, rng: &mut Rng, p: usize, l: &List) {
+    let wide = 1 << rng.range(32, 63);
+    let (i, v) = match rng.below(7) {
+        0 => (rng.below(2), 1 << rng.range(8, 63)),
+        1 => (rng.range(2, 3), wide),
+        2 => (7, wide | u64::from(l.k)),
+        3 => (9, wide),
+        4 => (rng.range(11, 13), wide | rng.below(2)),
+        5 => *rng.pick(&[(14, 3), (14, wide), (15, wide), (15, 1), (16, 1)]),
+        _ => (rng.range(17, 23), 1),
+    };
+    edit(s, p, BLOCK, i, v);
+}
+
 fn one_off(rng: &mut Rng, n: usize) -> u64 {
     let n = n as u64;
     *rng.pick(&[n.saturating_sub(1), n + 1, n + 1, 1025, 65_537, u64::from(u32::MAX)])
@@ -80,8 +117,9 @@ fn one_off(rng: &mut Rng, n: usize) -> u64 {
 fn edit_list(s: &mut Script<'_>, rng: &mut Rng, p: usize, l: &List) {
     let counts =
         [l.checkpoints.len(), l.frames.len(), l.parts.len(), l.malformed.len(), l.hints.len(), l.confirmations.len()];
-    match rng.below(14) {
+    match rng.below(16) {
         0..=2 => edit_numbers(s, rng, p, HEAD, l),
+        14 | 15 => edit_head(s, rng, p, l),
         3 => edit_record(s, rng, p, 0, counts[0], 16),
         4 => edit_record(s, rng, p, 1, counts[1], 8),
         5 => edit_record(s, rng, p, 3, counts[2], 16),
@@ -104,18 +142,21 @@ fn edit_list(s: &mut Script<'_>, rng: &mut Rng, p: usize, l: &List) {
             let (i, v) = *rng.pick(&[(17, 1), (17, 0), (18, u64::from(LIM) + 1), (18, 0), (19, u64::MAX), (19, 0)]);
             edit(s, p, HEAD, i, v);
         }
-        _ => {
-            let (i, v) = *rng.pick(&[(20, 0), (8, l.used().saturating_sub(1))]);
-            edit(s, p, HEAD, i, v);
+        _ if rng.chance(1, 2) => {
+            // The fingerprint's mark and value: a list that has confirmations without one.
+            edit(s, p, HEAD, 20, 0);
+            edit(s, p, HEAD, 21, 0);
         }
+        _ => edit(s, p, HEAD, 8, l.used().saturating_sub(1)),
     }
 }
 
 fn edit_recorder(s: &mut Script<'_>, rng: &mut Rng, p: usize, l: &List) {
     // How many records it has is not known here.
     let count = rng.range(1, 3) as usize;
-    match rng.below(9) {
+    match rng.below(10) {
         0..=2 => edit_numbers(s, rng, p, BLOCK, l),
+        9 => edit_block(s, rng, p, l),
         3 => edit_record(s, rng, p, RECORDS, count, 16),
         4 => edit_record(s, rng, p, RECORDS + 1, 1, 8),
         5 => edit_record(s, rng, p, RECORDS + 3, 1, 24),
@@ -160,7 +201,7 @@ pub fn trouble(s: &mut Script<'_>, rng: &mut Rng, asked: &Asked<'_>) {
                 lend_tables(s, rng, 0, SEEN, &[524_288]);
             }
             if edits {
-                edit(s, 0, HINT_BLOCK, 6, *rng.pick(&[65_537, u64::from(u32::MAX)]));
+                edit(s, 0, HINT_BLOCK, 6, *rng.pick(&[65_537, u64::from(u32::MAX), 1 << 32, u64::MAX]));
             }
         }
     }
