@@ -4,8 +4,10 @@
  * loaded. Every call answers for all bytes, numbers and tables: a result, or a refusal number that says why. A refusal changes no block and no
  * table, but for seek_absorb's 8, which stops the recorder.
  *
- * Questions are asked in a fixed order, and the first "no" is the answer (docs/REFUSALS.md). Before every other question stands the length of each block:
- * one of fewer than 192 bytes is refused with 3. The functions that take lists lend whole blocks, so it concerns callers of the seek_raw_ functions.
+ * Questions are asked in a fixed order, and the first "no" is the answer (docs/REFUSALS.md). Before every other question stands whether each block is
+ * one: with fewer than 192 bytes it is refused with 3. So is one that is read and holds what no call writes: a word wider than its number, a mark that
+ * there is not, or numbers behind a mark of 0. The functions that take lists lend whole blocks that calls have written, so it concerns callers of the
+ * seek_raw_ functions, and those who write a block themselves.
  *
  * What a caller owes, for every call:
  *   - a buffer's pointer is valid for its whole length, and the whole length is initialised, output buffers too;
@@ -92,7 +94,7 @@ enum {
     SEEK_OK = 0,
     SEEK_NO_AREA = 1,                /* the area's slot or range */
     SEEK_NO_NUMBERS = 2,             /* interval or budget */
-    SEEK_NO_ROOM = 3,                /* a table or block is too short */
+    SEEK_NO_ROOM = 3,                /* a table or block is too short, or a block is none that a call wrote */
     SEEK_NO_CONTENT = 4,             /* the tables do not hold a list */
     SEEK_NO_RECORD_DUE = 5,          /* not the due sector, or nothing to finish */
     SEEK_NO_RECORD_FALLS = 6,        /* threshold or malformed count falls or is too large */
