@@ -185,7 +185,7 @@ static inline const char *seek_text(uint32_t number)
     case SEEK_OK: return "accepted";
     case SEEK_NO_AREA: return "the area's slot is not 0 or 1, or its range is not one of sectors below 2^32";
     case SEEK_NO_NUMBERS: return "the interval is not 1 to 65,536, or the budget is above 4,294,967,295";
-    case SEEK_NO_ROOM: return "a table or a block is too short";
+    case SEEK_NO_ROOM: return "a table or a block is too short, or a block is none that a call wrote";
     case SEEK_NO_CONTENT: return "the tables do not hold what loading would accept";
     case SEEK_NO_RECORD_DUE: return "not the due sector, not a whole sector, or the recorder is finished or stopped";
     case SEEK_NO_RECORD_FALLS: return "threshold or malformed count falls, or is too large";

@@ -44,7 +44,7 @@ macro_rules! errors {
 errors! {
     Area = 1, "the area's slot is not 0 or 1, or its range is not one of sectors below 2^32";
     Numbers = 2, "the interval is not 1 to 65,536, or the budget is above 4,294,967,295";
-    Room = 3, "a table or a block is too short";
+    Room = 3, "a table or a block is too short, or a block is none that a call wrote";
     Content = 4, "the tables do not hold what loading would accept";
     RecordDue = 5, "not the due sector, not a whole sector, or the recorder is finished or stopped";
     RecordFalls = 6, "threshold or malformed count falls, or is too large";
