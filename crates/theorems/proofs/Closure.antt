@@ -159,7 +159,7 @@ module _ (l : Lengths) (x : Index) (m : Lengths) (r : Recorder) (image : Option 
   refusal n = record { number = n; index = x; recorder = cond (eqb n 8) (withMode r Stopped) r }
 
   -- what holds of each answer
-  of-each : (P : Absorbed → Type 0) (n : ℕ) → (n ≡ 0 → P stays) → (n ≡ 0 → P moves) → P (refusal n) → P (absorbedBy n x r image ms)
+  pub of-each : (P : Absorbed → Type 0) (n : ℕ) → (n ≡ 0 → P stays) → (n ≡ 0 → P moves) → P (refusal n) → P (absorbedBy n x r image ms)
   of-each P n f g h =
       choose P (eqb n 0) (cond (isStopped (r .mode)) stays moves) (refusal n)
       (λ t. choose P (isStopped (r .mode)) stays moves (λ s. f (eqb-true n 0 t)) (λ s. g (eqb-true n 0 t))) (λ t. h)

@@ -36,11 +36,14 @@ use Rattle.confirmations.specs.declared.Kept.the-variants as kept
 use Rattle.confirmations.specs.Keeping.{keepIn}
 use Rattle.confirmations.specs.Keeping as keeping
 use Rattle.load.specs.Load.{loadIn}
+use Rattle.absorb.specs.Absorb.{absorbIn}
 use Rattle.theorems.specs.Terms.{Valid}
 use Rattle.theorems.specs.TableRun.{LentIn, isAccepted, numbersAfter}
 use Rattle.theorems.specs.ClosureInTables.{Stands, ClosureInTables}
 use Rattle.theorems.proofs.Closure.{closure}
 use Rattle.theorems.proofs.MergeInTables.{kinded→, merge-left}
+use Rattle.theorems.proofs.RecordersInTables.{started-stands, recorded-stands, finished-stands, created-stands, seen-stands, flushed-stands, taken-stands}
+use Rattle.theorems.proofs.AbsorbInTables.{absorb-left, stopped-left}
 use Rattle.theorems.proofs.disc.AcceptsInTables.{load-savable}
 
 -- numbers and tables that hold a valid list
@@ -157,4 +160,16 @@ closure-in-tables =
       confirmed = confirmed-in;
       loaded = loaded-in;
       merged = λ x t y u z t' a b e. let l = merge-left x t y u z t' a b e in stands-by (roomOf t) (l .list) z t' (l .valid) (l .stands) (l .kinds);
+      recording = started-stands;
+      recorded = recorded-stands;
+      finished = finished-stands;
+      absorbed = λ x t image given r u a b e.
+          let l = absorb-left x t image given r u a b e in
+          let o = absorbIn x t image given r u in
+          (stands-by (roomOf t) _ (o .answer .index) (o .tables) (l .valid) (l .list) (l .kinds), l .recorder);
+      stopped = stopped-left;
+      hintRecording = created-stands;
+      seen = seen-stands;
+      flushed = flushed-stands;
+      taken = taken-stands;
     }

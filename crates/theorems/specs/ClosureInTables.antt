@@ -1,4 +1,4 @@
--- Each accepted call on an index leaves numbers and tables that no next call refuses with 1, 2 or 4, kinds included.
+-- Each accepted call leaves numbers and tables that no next call refuses with 1, 2 or 4, kinds included.
 use Prim.Native.Nat.{ℕ, _≤_}
 use mathlib.Core.Path.{_≡_}
 use mathlib.Core.Bool.{true}
@@ -7,6 +7,11 @@ use Rattle.field.specs.Records.{Bytes}
 use Rattle.rules.specs.declared.Area.{Area}
 use Rattle.rules.specs.declared.AreaIndex.{AreaIndex}
 use Rattle.rules.specs.declared.Confirmation.{Confirmation}
+use Rattle.rules.specs.declared.EndState.{EndState}
+use Rattle.rules.specs.declared.HintRecorder.{HintRecorder}
+use Rattle.rules.specs.declared.ImageId.{ImageId}
+use Rattle.rules.specs.declared.Recorder.{Recorder}
+use Rattle.rules.specs.declared.UnderAssembly.{UnderAssembly}
 use Rattle.rules.specs.Tests.{Accepted}
 use Rattle.rules.specs.Values.{max64}
 use Rattle.rules.specs.Questions.{question1, question2, question4}
@@ -19,7 +24,18 @@ use Rattle.confirmations.specs.Keeping.{keepIn}
 use Rattle.confirmations.specs.Keeping as keeping
 use Rattle.load.specs.Load.{loadIn}
 use Rattle.merge.specs.Merge.{mergeIn}
+use Rattle.recorder.specs.declared.Recorded.the-variants as recordedAs
+use Rattle.recorder.specs.Recorder.{RecorderTables, startedIn, finishedIn}
+use Rattle.recorder.specs.Record.{recorderOut, recordIn}
+use Rattle.absorb.specs.Absorb.{absorbIn}
+use Rattle.hint_recorder.specs.declared.Created.the-variants as createdAs
+use Rattle.hint_recorder.specs.declared.Seen.the-variants as seenAs
+use Rattle.hint_recorder.specs.declared.Taken.the-variants as takenAs
+use Rattle.hint_recorder.specs.declared.TakenList.{TakenList}
+use Rattle.hint_recorder.specs.Recorder.{hintRecorderIn, seeIn, flushIn, takeIn}
+use Rattle.hint_recorder.specs.Recorder as hinting
 use Rattle.theorems.specs.TableRun.{LentIn}
+use Rattle.theorems.specs.Recorders.{StandsRecorder, RecorderBytes, SignedIn, StandsHintRecorder}
 
 -- 1, 2 and 4 of an index in its tables
 pub record Stands (x : AreaIndex) (t : Tables) : Type 0 where
@@ -37,3 +53,21 @@ pub record ClosureInTables : Type 0 where
   pub loaded : (a : Area) (b : List ℕ) (limit : ℕ) (t : Tables) (y : AreaIndex) (t' : Tables) → Bytes b → loadIn a b limit t ≡ out (made.Index y) t' → Stands y t'
   pub merged : (x : AreaIndex) (t : Tables) (y : AreaIndex) (u : Tables) (z : AreaIndex) (t' : Tables) → LentIn x t → LentIn y u
       → mergeIn x t y u ≡ out (made.Index z) t' → Stands z t'
+  -- recorders: a new one holds nothing, whatever tables u it is given
+  pub recording : (x : AreaIndex) (t : Tables) (from : ℕ) (r : Recorder) (u : RecorderTables) → startedIn x t from ≡ recordedAs.Recorder r → StandsRecorder r u
+  pub recorded : (r : Recorder) (u : RecorderTables) (lsn threshold malformed : ℕ) (f : UnderAssembly) (b sector : List ℕ) (s : Recorder) (u' : RecorderTables)
+      → RecorderBytes u → SignedIn f → Bytes b → recordIn r u lsn threshold malformed f b sector ≡ recorderOut (recordedAs.Recorder s) u' → StandsRecorder s u'
+  pub finished : (r : Recorder) (u : RecorderTables) (e : EndState) (s : Recorder) → finishedIn r u e ≡ recordedAs.Recorder s → StandsRecorder s u
+  pub absorbed : (x : AreaIndex) (t : Tables) (image : ImageId) (given : List ℕ) (r : Recorder) (u : RecorderTables) → LentIn x t → RecorderBytes u
+      → let o = absorbIn x t image given r u in
+      o .answer .number ≡ 0 → Stands (o .answer .index) (o .tables) × StandsRecorder (o .answer .recorder) u
+  -- a refusal with 8 changes the recorder
+  pub stopped : (x : AreaIndex) (t : Tables) (image : ImageId) (given : List ℕ) (r : Recorder) (u : RecorderTables)
+      → let o = absorbIn x t image given r u in
+      o .answer .number ≡ 8 → StandsRecorder (o .answer .recorder) u
+  -- hint recorders: a new one lists nothing, whatever table t' it is given
+  pub hintRecording : (x : AreaIndex) (t : Tables) (r : HintRecorder) (t' : List ℕ) → hintRecorderIn x t ≡ createdAs.Recorder r → StandsHintRecorder r t'
+  pub seen : (r : HintRecorder) (t : List ℕ) (lsn : ℕ) (sector : List ℕ) (s : HintRecorder) (t' : List ℕ)
+      → seeIn r t lsn sector ≡ hinting.out (seenAs.Recorder s) t' → StandsHintRecorder s t'
+  pub flushed : (r : HintRecorder) (t : List ℕ) (s : HintRecorder) (t' : List ℕ) → flushIn r t ≡ hinting.out (seenAs.Recorder s) t' → StandsHintRecorder s t'
+  pub taken : (r : HintRecorder) (t : List ℕ) (k : TakenList) → takeIn r t ≡ takenAs.List k → StandsHintRecorder (k .recorder) t

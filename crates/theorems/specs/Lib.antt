@@ -19,6 +19,7 @@ pub mod LacksPlayer
 pub mod PartRule
 pub mod Player
 pub mod Questions
+pub mod Recorders
 pub mod RoundTrip
 pub mod RoundTripInBlocks
 pub mod RoundTripInTables
