@@ -1,6 +1,6 @@
 -- Each call is accepted where its questions are answered yes. Assumes nothing.
 use mathlib.Core.Path.{_≡_, refl}
-use mathlib.Core.Bool.{_&&_}
+use mathlib.Core.Bool.{true, _&&_}
 use mathlib.Core.List.{List, [], _∷_}
 use mathlib.Core.Option.{some}
 use Prim.Native.Nat.{ℕ}
@@ -13,7 +13,7 @@ use Rattle.rules.specs.Questions.{areaOk, question1, question2, question3, four
 use Rattle.rules.specs.Create.{emptyIndex, new, bindFingerprint, recorder, hintRecorder}
 use Rattle.rules.specs.Record.{isRunning, nextNumber, question5, question6, question7, recordAt, finish, isStopped, absorbNumber, absorb}
 use Rattle.rules.specs.Hints.{see, flush, takeList, question13, addHints, question14, keepConfirmation, hint}
-use Rattle.rules.specs.Merge.{mergeNumber, merge}
+use Rattle.rules.specs.Merge.{question41, question42, question43, mergeNumber, merge}
 use Rattle.rules.specs.File.{savedLength, save}
 use Rattle.rules.specs.Load.{limited, load}
 use Rattle.rules.specs.Plan.{plan}
@@ -21,6 +21,7 @@ use Rattle.rules.proofs.Tests.{both, or-left, or-right, Asked, asks, →after, 
 use Rattle.theorems.specs.Terms.{Valid, ValidRecorder, ValidHintRecorder}
 use Rattle.theorems.specs.Useful.{RefusesNothing}
 use Rattle.adds.specs.Brings.{brings}
+use Rattle.rules_lacks.specs.Lacks.{lacks}
 use Rattle.theorems.proofs.disc.Accepts.{disc-save-accepts, disc-load-accepts}
 
 -- 1 to 4 are answered yes, then qs
@@ -33,8 +34,15 @@ recorder-asked l r qs v h = (v .one, (v .two, (v .three, (v .four, h))))
 hint-recorder-asked : (n : ℕ) (r : HintRecorder) → ValidHintRecorder n r → Asked (hintRecorderFour n r [])
 hint-recorder-asked n r v = (le-leb _ n (v .three), (le-leb _ _ (v .four), tt))
 
+-- 1 to 4 of two lists, then 41 to 43
+merge-asked : (l m : Lengths) (own other : Index) → Valid l own → Valid m other → question41 own other ≡ true → question42 own other ≡ true → question43 own other ≡ true
+    → mergeNumber l own m other ≡ 0
+unfolding mergeNumber
+merge-asked l m own other v w q41 q42 q43 =
+    asks _ (both (v .one) (w .one), (both (v .two) (w .two), (both (v .three) (w .three), (both (v .four) (w .four), (q41, (q42, (q43, tt)))))))
+
 pub refuses-nothing : RefusesNothing
-unfolding new bindFingerprint recorder recordAt finish absorb hintRecorder see flush takeList addHints keepConfirmation hint plan save load merge mergeNumber brings
+unfolding new bindFingerprint recorder recordAt finish absorb hintRecorder see flush takeList addHints keepConfirmation hint plan save load merge brings lacks
 refuses-nothing =
     record {
       made = λ l a k budget spacing most q1 q2 q3. let x = emptyIndex a k budget spacing most in →asked (ask (question1 x) 1 ∷ ask (question2 x) 2 ∷ ask (question3 l x) 3 ∷ []) (q1, (q2, (q3, tt))) refl;
@@ -78,10 +86,9 @@ refuses-nothing =
       plans = λ l x t w. →asked _ (index-asked l x [] w tt) refl;
       saves = λ l x out w q. →asked _ (index-asked l x (ask (leb (savedLength x) out) 40 ∷ []) w (le-leb (savedLength x) out q, tt)) refl;
       loads = λ l a b limit x q e q3. →asked (ask (areaOk a) 1 ∷ []) (q, tt) (→bind _ e (→asked (ask (question3 l (limited limit x)) 3 ∷ []) (q3, tt) refl));
-      merges = λ l m own other v w q41 q42 q43.
-          →after (asks _ (both (v .one) (w .one), (both (v .two) (w .two), (both (v .three) (w .three), (both (v .four) (w .four), (q41, (q42, (q43, tt)))))))) refl;
-      adds = λ l m own other v w q41 q42 q43.
-          →after (asks _ (both (v .one) (w .one), (both (v .two) (w .two), (both (v .three) (w .three), (both (v .four) (w .four), (q41, (q42, (q43, tt)))))))) refl;
+      merges = λ l m own other v w q41 q42 q43. →after (merge-asked l m own other v w q41 q42 q43) refl;
+      adds = λ l m own other v w q41 q42 q43. →after (merge-asked l m own other v w q41 q42 q43) refl;
+      lacks = λ l m own other v w q41 q42 q43. →after (merge-asked l m own other v w q41 q42 q43) refl;
       savesDisc = disc-save-accepts;
       loadsDisc = disc-load-accepts;
     }

@@ -1,17 +1,20 @@
 -- What shuts out programs that do nothing useful: the statements of specs/Useful.antt, but for RefusesNothing. Assumes nothing.
 use mathlib.Core.Path.{_≡_, refl, sym, ap, ap₂, subst, _∙_}
 use mathlib.Core.Bool.{Bool, true, false}
-use mathlib.Core.Logic.{⊎-elim}
+use mathlib.Core.Logic.{_≢_, ⊎-elim}
 use mathlib.Core.List.{List, [], _∷_, _++_}
 use mathlib.Core.Option.{Option, none, some}
 use Prim.Native.Nat.{ℕ, zero, suc, _+_, _-_, _<_, _≤_}
 use native.Mathlib.Nat.{eq-or-lt-of-le, zero-add}
 use native.Mathlib.Omega.{arith}
-use lib.Dec.{leb, ltb}
+use lib.Dec.{eqb, leb, ltb}
 use lib.ListN.{length, getD, take, drop, length-append, length-drop}
-use borrow.Author.Tests.{eqb-true, leb-true, leb-false, le-leb, lt-ltb, ltb-true}
+use borrow.Author.Tests.{eqb-true, eq-eqb, leb-true, leb-false, le-leb, lt-ltb, ltb-true}
+use Rattle.rules.specs.declared.Assembly.the-variants.{Replayed, Stored}
 use Rattle.rules.specs.declared.Checkpoint.{Checkpoint}
 use Rattle.rules.specs.declared.EndState.{EndState}
+use Rattle.rules.specs.declared.Held.{Held}
+use Rattle.rules.specs.declared.HeldPart.{HeldPart}
 use Rattle.rules.specs.declared.Hint.{Hint}
 use Rattle.rules.specs.declared.Fingerprint.{Fingerprint}
 use Rattle.rules.specs.declared.Fingerprint.the-variants.{Unknown, Checked}
@@ -19,14 +22,14 @@ use Rattle.rules.specs.declared.Fingerprint.the-variants as fingerprint
 use Rattle.rules.specs.declared.Plan.{Plan}
 use Rattle.rules.specs.declared.Plan.the-variants.{End}
 use Rattle.rules.specs.Tests.{isSome, orElse, ask, firstNo, Accepted}
-use Rattle.rules.specs.Values.{Scan, Index, Recorder, Lengths, maxMalformed, noHint, checkpointAt, boundaries, frontier, count, complete, stated, isChecked}
+use Rattle.rules.specs.Values.{Frame, Scan, Index, Recorder, Lengths, maxMalformed, noHint, noHeld, checkpointAt, boundaries, frontier, count, complete, stated, isChecked}
 use Rattle.rules.specs.Questions.{four}
 use Rattle.rules.specs.Record.{question9, question10, below, joined, takenMalformed, absorbedIndex, isStopped, absorbNumber, absorb}
 use Rattle.rules.specs.Hints.{near, largestOf, hintPlace, hintedAt, hint}
 use Rattle.rules.specs.Merge.{further, mergedStored, mergedScan, heldFrom, mergedFingerprint, merged, mergeNumber, merge}
 use Rattle.rules.specs.File.{saved, save}
 use Rattle.rules.specs.Load.{limited}
-use Rattle.rules.specs.Plan.{lastNotAbove, planFrom, planOr, planned, plan}
+use Rattle.rules.specs.Plan.{lastNotAbove, assemblyOf, planFrom, planOr, planned, plan}
 use Rattle.rules.proofs.Tests.{choose, test, never, all→, or-right, asked, accepted→}
 use Rattle.rules.proofs.Same.{sameArea-eq}
 use Rattle.laws.proofs.scans.Parts.{HeldIs}
@@ -164,6 +167,17 @@ module _ (t : ℕ) (cs : List Checkpoint) where
       let r = last-found n j (rw h at e) in
       record { inside = omega (arith, r .inside); notAbove = r .notAbove; last = above-more (j + 1) n h (r .last) })
 
+stored-not : (p : HeldPart) → Stored p ≢ Replayed
+stored-not p e = let z : _≡_ {A = ℕ} 0 1 = cc in omega arith
+
+-- a part that is held is answered
+part-there : (fs : List Frame) (ps : List Held) (j i : ℕ) → i < length ps → getD ps i noHeld .at ≡ j → assemblyOf fs ps j ≢ Replayed
+unfolding assemblyOf
+part-there fs [] j i l e q = let z : ⊥ = omega arith in absurd z
+part-there fs (p ∷ ps) j zero l e q = stored-not _ (rw (eq-eqb (p .at) j e) at q)
+part-there fs (p ∷ ps) j (suc i) l e q =
+    test (eqb (p .at) j) (λ h. stored-not _ (rw h at q)) (λ h. part-there fs ps j i (omega arith) e (rw h at q))
+
 module _ (t : ℕ) (x : Scan) where
   -- without the end state
   looked-from : (o : Option ℕ) → lastNotAbove t (x .checkpoints) (length (x .checkpoints)) ≡ o → Looked x t (planFrom x o)
@@ -171,7 +185,7 @@ module _ (t : ℕ) (x : Scan) where
   looked-from none e = none-above t (x .checkpoints) (length (x .checkpoints)) e
   looked-from (some j) e =
       let f = last-found t (x .checkpoints) (length (x .checkpoints)) j e in
-      record { inside = f .inside; lsn = refl; checkpoint = refl; notAbove = f .notAbove; last = f .last }
+      record { inside = f .inside; lsn = refl; checkpoint = refl; notAbove = f .notAbove; last = f .last; held = λ i l q. part-there (x .frames) (x .parts) j i l q }
 
   looked-or : (e : Option EndState) → x .ending ≡ e → (p : Plan) → Looked x t p → Looked x t (planOr t e p)
   unfolding planOr Looked

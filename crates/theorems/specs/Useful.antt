@@ -3,10 +3,12 @@ use Prim.Native.Nat.{ℕ, _+_, _-_, _/_, min, _<_, _≤_}
 use mathlib.Core.Path.{_≡_}
 use mathlib.Core.Bool.{true, false}
 use mathlib.Core.List.{List, _++_}
+use mathlib.Core.Logic.{_≢_}
 use mathlib.Core.Option.{Option, none, some}
 use lib.Dec.{eqb}
 use lib.ListN.{length, getD, take, drop}
 use Rattle.rules.specs.declared.Area.{Area}
+use Rattle.rules.specs.declared.Assembly.the-variants.{Replayed}
 use Rattle.rules.specs.declared.Confirmation.{Confirmation}
 use Rattle.rules.specs.declared.EndState.{EndState}
 use Rattle.rules.specs.declared.Hint.{Hint}
@@ -16,7 +18,7 @@ use Rattle.rules.specs.declared.Plan.the-variants.{Start, At, End}
 use Rattle.rules.specs.declared.Resume.{Resume}
 use Rattle.rules.specs.FirstRecord.{firstRecord}
 use Rattle.rules.specs.Tests.{orElse, agree, Accepted, numberOf}
-use Rattle.rules.specs.Values.{Scan, Index, Recorder, HintRecorder, Lengths, maxMalformed, noHint, checkpointAt, boundaries, lsnOf, frontier, count, complete, lastCheckpoint, stated, isChecked}
+use Rattle.rules.specs.Values.{Scan, Index, Recorder, HintRecorder, Lengths, maxMalformed, noHint, noHeld, checkpointAt, boundaries, lsnOf, frontier, count, complete, lastCheckpoint, stated, isChecked}
 use Rattle.rules.specs.Sections.{endOk}
 use Rattle.rules.specs.Questions.{areaOk, question1, question2, question3, endOf}
 use Rattle.rules.specs.Create.{emptyIndex, new, bound, bindFingerprint, emptyRecorder, recorder, emptyHintRecorder, hintRecorder}
@@ -29,6 +31,7 @@ use Rattle.rules.specs.Plan.{planned, plan}
 use Rattle.rules.specs.Sizes.{sized}
 use Rattle.theorems.specs.Terms.{Valid, ValidRecorder, ValidHintRecorder, storedIn, SameRead}
 use Rattle.adds.specs.Brings.{bringsOf, brings}
+use Rattle.rules_lacks.specs.Lacks as lacking
 use Rattle.theorems.specs.DiscFile.{DiscSaveAccepts, DiscLoadAccepts}
 use Rattle.theorems.specs.Demand3.{LoadedParts}
 use Rattle.theorems.specs.PartRule.{Admits}
@@ -79,6 +82,9 @@ pub record RefusesNothing : Type 0 where
   pub adds :
       (l m : Lengths) (own other : Index) → Valid l own → Valid m other → question41 own other ≡ true → question42 own other ≡ true → question43 own other ≡ true
       → brings l own m other ≡ Accepted (bringsOf own (merged own other))
+  pub lacks :
+      (l m : Lengths) (own other : Index) → Valid l own → Valid m other → question41 own other ≡ true → question42 own other ≡ true → question43 own other ≡ true
+      → lacking.lacks l own m other ≡ Accepted (lacking.lacking own other)
   -- change request 14
   pub savesDisc : DiscSaveAccepts
   pub loadsDisc : DiscLoadAccepts
@@ -173,6 +179,8 @@ pub record LastNotAbove (x : Scan) (t : ℕ) (r : Resume) : Type 0 where
   pub checkpoint : r .checkpoint ≡ checkpointAt (x .checkpoints) (r .number)
   pub notAbove : checkpointAt (x .checkpoints) (r .number) .threshold ≤ t
   pub last : BeforeAll x t (r .number + 1)
+  -- with its part, where one is held
+  pub held : (i : ℕ) → i < length (x .parts) → getD (x .parts) i noHeld .at ≡ r .number → r .assembly ≢ Replayed
 
 -- what an answer of plan says of the list x and the frame t
 unfoldable pub Looked : Scan → ℕ → Plan → Type 0

@@ -1,49 +1,91 @@
 -- Document 01, "Programs that do nothing useful", about the calls over lent tables: what shuts out each.
-use Prim.Native.Nat.{ℕ, _<_, _≤_}
+use Prim.Native.Nat.{ℕ, _+_, min, _<_, _≤_}
 use mathlib.Core.Path.{_≡_}
 use mathlib.Core.Bool.{true, false}
 use mathlib.Core.List.{List}
-use mathlib.Core.Option.{none, some}
+use mathlib.Core.Logic.{_≢_}
+use mathlib.Core.Option.{Option, none, some}
 use lib.Dec.{eqb}
 use lib.ListN.{length, getD}
 use Rattle.rules.specs.declared.Area.{Area}
 use Rattle.rules.specs.declared.AreaIndex.{AreaIndex}
+use Rattle.rules.specs.declared.Confirmation.{Confirmation}
+use Rattle.rules.specs.declared.End.the-variants.{Closed}
+use Rattle.rules.specs.declared.EndState.{EndState}
+use Rattle.rules.specs.declared.HintRecorder.{HintRecorder}
+use Rattle.rules.specs.declared.ImageId.{ImageId}
+use Rattle.rules.specs.declared.Mode.the-variants.{Finished}
 use Rattle.rules.specs.declared.Plan.{Plan}
+use Rattle.rules.specs.declared.Plan.the-variants.{End}
+use Rattle.rules.specs.declared.Recorder.{Recorder}
+use Rattle.rules.specs.declared.UnderAssembly.{UnderAssembly}
 use Rattle.rules.specs.Tests.{agree, Accepted, numberOf}
-use Rattle.rules.specs.Values.{Index, noHint, stated}
-use Rattle.rules.specs.Questions.{areaOk, question3}
-use Rattle.rules.specs.Create.{bound, emptyRecorder, emptyHintRecorder}
-use Rattle.rules.specs.Hints.{near, question13}
-use Rattle.rules.specs.Load.{fromBytes, limited}
+use Rattle.rules.specs.Values.{Index, max32, maxHints, noHint, boundaries, lsnOf, frontierOf, lastCheckpoint, stated}
+use Rattle.rules.specs.Sections.{endOk}
+use Rattle.rules.specs.Questions.{areaOk, numbersOk, question1, question2, question3}
+use Rattle.rules.specs.Create.{emptyIndex, bound, emptyRecorder, emptyHintRecorder}
+use Rattle.rules.specs.Record.{isRunning, nextNumber, question5, question6, question7, recorded, withMode, isStopped, question8, question9, question10, question11, question12, absorbedIndex, emptied}
+use Rattle.rules.specs.Hints.{near, question13, question14}
+use Rattle.rules.specs.Load.{keyOf, bodyIn, fileNumber, fromBytes, limited}
 use Rattle.rules.specs.Merge.{question41, question42, question43, merged}
-use Rattle.rules.specs.File.{savedLength, saved, over}
+use Rattle.rules.specs.File.{readHeader, savedLength, saved, over}
 use Rattle.index.specs.declared.Made.the-variants as made
-use Rattle.index.specs.Index.{Tables, roomOf, indexIn, numbersFrom, Out, out}
-use Rattle.index.specs.Calls.{boundIn}
-use Rattle.recorder.specs.declared.Recorded.the-variants as recorded
-use Rattle.recorder.specs.Recorder.{recorderFrom, startedIn}
-use Rattle.hint_recorder.specs.Recorder.{createdOf, hintRecorderIn}
+use Rattle.rules_lacks.specs.Lacks.{lacking}
+use Rattle.index.specs.Index.{Tables, roomOf, indexIn, endIn, idIn, numbersFrom, tablesFrom, frontierIn, Out, out}
+use Rattle.index.specs.Lent.{TableBytes}
+use Rattle.index.specs.Calls.{newIn, boundIn}
+use Rattle.recorder.specs.declared.Recorded.the-variants as recordedAs
+use Rattle.recorder.specs.Recorder.{RecorderTables, recorderIn, recorderFrom, recorderOver, startedIn, finishedIn}
+use Rattle.recorder.specs.Record.{assemblingIn, recorderOut, recordIn}
+use Rattle.recorder.specs.declared.boundary.Boundary.the-variants as boundaryAs
+use Rattle.recorder.specs.Boundary.{checkpointAt, dueAt}
+use Rattle.absorb.specs.Absorb.{absorbed, absorbIn}
+use Rattle.absorb.specs.Absorb as absorbing
+use Rattle.absorb.specs.Given.{givenIn}
+use Rattle.hint_recorder.specs.declared.Seen.the-variants as seenAs
+use Rattle.hint_recorder.specs.declared.Taken.the-variants as takenAs
+use Rattle.hint_recorder.specs.Recorder.{createdOf, hintRecorderIn, seeIn, flushIn, takeIn}
 use Rattle.add_hints.specs.JoinedMerged.{hintsOf}
 use Rattle.add_hints.specs.Added.{addHintsIn}
+use Rattle.confirmations.specs.declared.Kept.the-variants as keptAs
+use Rattle.confirmations.specs.Keeping.{keepIn}
 use Rattle.adds.specs.Brings.{bringsOf, addsIn}
+use Rattle.lacks.specs.Lacks.{lacksIn}
 use Rattle.plan.specs.Calls.{planIn}
 use Rattle.hint.specs.Calls.{hintIn}
 use Rattle.save.specs.declared.Saved.the-variants.{Length}
 use Rattle.save.specs.Save as saving
 use Rattle.load.specs.Load.{loadIn}
+use Rattle.sizes.specs.declared.lengths.TableSizes.{TableSizes}
+use Rattle.sizes.specs.LengthsSizes.{sizesOf, rangeOf}
+use Rattle.sizes.specs.Sizes.{sizesFor, newSizes, fileSizes, fileLength, fileArea}
+use Rattle.short_sum.specs.declared.Folded.the-variants as foldedAs
+use Rattle.short_sum.specs.Fold.{folded, question49}
+use Rattle.short_sum.specs.Calls.{fold}
+use Rattle.rules_disc.specs.Disc.{slotArea, entriesIn, entryOf, contentsOk}
+use Rattle.disc_load.specs.declared.contents.Contents.the-variants.{Lists}
+use Rattle.disc_load.specs.Contents.{placeFrom, contentsIn}
+use Rattle.disc_load.specs.Sizes.{bodySizes, discSizes}
+use Rattle.disc_save.specs.Length.{oneLength, bothLength}
 use Rattle.merge.specs.Merge.{mergeIn}
 use Rattle.theorems.specs.Terms.{ValidIn}
 use Rattle.theorems.specs.TableRun.{LentIn, isAccepted}
-use Rattle.theorems.specs.Useful.{LoadOf, MergedOf, Looked}
+use Rattle.theorems.specs.Recorders.{ValidRecorderIn, RecorderBytes, ValidHintRecorderIn}
+use Rattle.theorems.specs.Useful.{LoadOf, MergedOf, AbsorbedOf, Looked}
+use Rattle.theorems.specs.DiscFile as disc
+use Rattle.theorems.specs.DiscInTables.{DiscSaveAcceptsIn, DiscLoadAcceptsIn}
 
 -- ---- refuses every call
 -- where the questions are answered yes
 pub record RefusesNothingIn : Type 0 where
+  pub made : (t : Tables) (a : Area) (k budget spacing most : ℕ) → let x = emptyIndex a k budget spacing most in
+      question1 x ≡ true → question2 x ≡ true → question3 (roomOf t) x ≡ true → newIn t a k budget spacing most ≡ Accepted (numbersFrom x)
   pub fingerprints : (x : AreaIndex) (t : Tables) (v : ℕ) → ValidIn x t → agree eqb (stated (x .fingerprint)) (some v) ≡ true
       → boundIn x t v ≡ Accepted (numbersFrom (bound (indexIn x t) v))
-  pub recorders : (x : AreaIndex) (t : Tables) (from : ℕ) → ValidIn x t → startedIn x t from ≡ recorded.Recorder (recorderFrom (emptyRecorder (indexIn x t .scan) from))
+  pub recorders : (x : AreaIndex) (t : Tables) (from : ℕ) → ValidIn x t → startedIn x t from ≡ recordedAs.Recorder (recorderFrom (emptyRecorder (indexIn x t .scan) from))
   pub hintRecorders : (x : AreaIndex) (t : Tables) → ValidIn x t → hintRecorderIn x t ≡ createdOf (Accepted (emptyHintRecorder (indexIn x t .hinting)))
   pub addsHints : (x : AreaIndex) (t : Tables) (list : List ℕ) → ValidIn x t → question13 (hintsOf list) ≡ true → isAccepted (addHintsIn x t list .answer) ≡ true
+  pub confirms : (x : AreaIndex) (t : Tables) (c : Confirmation) → ValidIn x t → question14 (x .area) c ≡ true → (n : ℕ) → keepIn x t c .answer ≢ keptAs.Refused n
   pub hints : (x : AreaIndex) (t : Tables) (first end playtime : ℕ) → ValidIn x t → first ≤ end → numberOf (hintIn x t first end playtime) ≡ 0
   pub plans : (x : AreaIndex) (t : Tables) (f : ℕ) → ValidIn x t → (p : Plan) × (planIn x t f ≡ Accepted p)
   pub saves : (x : AreaIndex) (t : Tables) (old : List ℕ) → ValidIn x t → savedLength (indexIn x t) ≤ length old
@@ -52,8 +94,53 @@ pub record RefusesNothingIn : Type 0 where
       question41 i j ≡ true → question42 i j ≡ true → question43 i j ≡ true → isAccepted (mergeIn x t y u .answer) ≡ true
   pub adds : (x : AreaIndex) (t : Tables) (y : AreaIndex) (u : Tables) → ValidIn x t → ValidIn y u → let i = indexIn x t in let j = indexIn y u in
       question41 i j ≡ true → question42 i j ≡ true → question43 i j ≡ true → addsIn x t y u ≡ Accepted (bringsOf i (merged i j))
+  pub lacks : (x : AreaIndex) (t : Tables) (y : AreaIndex) (u : Tables) → ValidIn x t → ValidIn y u → let i = indexIn x t in let j = indexIn y u in
+      question41 i j ≡ true → question42 i j ≡ true → question43 i j ≡ true → lacksIn x t y u ≡ Accepted (lacking i j)
   pub loads : (a : Area) (b : List ℕ) (limit : ℕ) (t : Tables) (x : Index) → areaOk a ≡ true → fromBytes a b ≡ Accepted x → question3 (roomOf t) (limited limit x) ≡ true
       → isAccepted (loadIn a b limit t .answer) ≡ true
+  -- reading a disc
+  pub records : (r : Recorder) (u : RecorderTables) (lsn threshold malformed : ℕ) (f : UnderAssembly) (b sector : List ℕ) → ValidRecorderIn r u
+      → let v = recorderIn r u in let a = assemblingIn f b in
+      question5 v lsn sector ≡ true → question6 v threshold malformed ≡ true → question7 v lsn a ≡ true
+      → let w = recorded v lsn threshold malformed a sector in
+      recordIn r u lsn threshold malformed f b sector ≡ recorderOut (recordedAs.Recorder (recorderFrom w)) (recorderOver w u)
+  pub finishes : (r : Recorder) (u : RecorderTables) (e : EndState) → ValidRecorderIn r u → let v = recorderIn r u in
+      isRunning (r .mode) ≡ true → nextNumber v ≡ boundaries (r .area) (r .interval) → endOk (r .area) (lastCheckpoint (v .checkpoints)) e ≡ true
+      → finishedIn r u e ≡ recordedAs.Recorder (recorderFrom (withMode v (Finished e)))
+  pub absorbs : (x : AreaIndex) (t : Tables) (image : ImageId) (given : List ℕ) (r : Recorder) (u : RecorderTables) → ValidIn x t → ValidRecorderIn r u
+      → isStopped (r .mode) ≡ false → let i = indexIn x t in let v = recorderIn r u in let id = idIn image in let ms = givenIn given in
+      question8 i id ≡ true → question9 i v ≡ true → question10 i v ≡ true → question11 i v ≡ true → question12 i v id ms ≡ true
+      → let y = absorbedIndex i v id ms in
+      absorbIn x t image given r u ≡ absorbing.out (absorbed 0 (numbersFrom y) (recorderFrom (emptied v))) (tablesFrom y t)
+  -- a stopped recorder brings nothing and is no refusal after 4
+  pub stopped : (x : AreaIndex) (t : Tables) (image : ImageId) (given : List ℕ) (r : Recorder) (u : RecorderTables) → ValidIn x t → TableBytes t → ValidRecorderIn r u
+      → isStopped (r .mode) ≡ true → absorbIn x t image given r u ≡ absorbing.out (absorbed 0 x r) t
+  pub sees : (r : HintRecorder) (t : List ℕ) (lsn : ℕ) (sector : List ℕ) → ValidHintRecorderIn r t → (n : ℕ) → seeIn r t lsn sector .answer ≢ seenAs.Refused n
+  pub flushes : (r : HintRecorder) (t : List ℕ) → ValidHintRecorderIn r t → (n : ℕ) → flushIn r t .answer ≢ seenAs.Refused n
+  pub takes : (r : HintRecorder) (t : List ℕ) → ValidHintRecorderIn r t → (n : ℕ) → takeIn r t ≢ takenAs.Refused n
+  -- numbers, lengths and what a file says
+  pub frontiers : (x : AreaIndex) → areaOk (x .area) ≡ true → frontierIn x ≡ Accepted (frontierOf (x .area) (x .interval) (x .checkpoints) (endIn (x .ending)))
+  pub boundary : (x : AreaIndex) (j : ℕ) → areaOk (x .area) ≡ true → numbersOk (x .interval) (x .budget) ≡ true → j < boundaries (x .area) (x .interval)
+      → checkpointAt x j ≡ boundaryAs.Lsn (lsnOf (x .area) (x .interval) j)
+  pub due : (r : Recorder) → areaOk (r .area) ≡ true → numbersOk (r .interval) (r .budget) ≡ true → isRunning (r .mode) ≡ true
+      → r .first + r .checkpoints < boundaries (r .area) (r .interval) → dueAt r ≡ boundaryAs.Lsn (lsnOf (r .area) (r .interval) (r .first + r .checkpoints))
+  pub sizes : (a : Area) (k budget most : ℕ) → areaOk a ≡ true → numbersOk k budget ≡ true → newSizes a k budget most ≡ Accepted (sizesOf a k budget (min most maxHints))
+  pub sizesOfFile : (a : Area) (b : List ℕ) (limit : ℕ) (x : Index) → areaOk a ≡ true → fromBytes a b ≡ Accepted x → fileSizes a b limit ≡ Accepted (sizesFor (limited limit x))
+  pub lengths : (x : AreaIndex) (t : Tables) → ValidIn x t → fileLength x t ≡ length (saved (indexIn x t))
+  pub areaOfFile : (b : List ℕ) → fileNumber b ≡ 0 → fileArea b ≡ Accepted (rangeOf (keyOf (readHeader (bodyIn b))))
+  -- change request 8
+  pub folds : (w k s : ℕ) → question49 w k ≡ true → fold w k s ≡ foldedAs.Sum (folded k s)
+  -- change request 14
+  pub savesDisc : DiscSaveAcceptsIn
+  pub loadsDisc : DiscLoadAcceptsIn
+  pub contents : (b : List ℕ) → contentsOk b ≡ true → contentsIn b ≡ Lists (placeFrom (entryOf 0 (entriesIn b))) (placeFrom (entryOf 1 (entriesIn b)))
+  pub sizesOfDisc : (a0 a1 : Area) (b : List ℕ) (limit : ℕ) (s r : Option TableSizes) → slotArea 0 a0 ≡ true → slotArea 1 a1 ≡ true → contentsOk b ≡ true
+      → bodySizes a0 limit (disc.bodyIn b 0) ≡ Accepted s → bodySizes a1 limit (disc.bodyIn b 1) ≡ Accepted r
+      → discSizes a0 a1 b limit ≡ Accepted (record { slot0 = s; slot1 = r })
+  pub lengthOne : (x : AreaIndex) (t : Tables) → ValidIn x t → let n = length (saved (indexIn x t)) in n ≤ max32 → oneLength x t ≡ 16 + n
+  pub lengthBoth : (x y : AreaIndex) (t u : Tables) → ValidIn x t → ValidIn y u → x .area .key .slot ≡ 0 → y .area .key .slot ≡ 1
+      → let m = length (saved (indexIn x t)) in let n = length (saved (indexIn y u)) in
+      28 + m ≤ max32 → n ≤ max32 → (bothLength x t y u ≡ 28 + m + n) × (bothLength y u x t ≡ 28 + m + n)
 
 -- ---- loads each file as an empty list
 -- a load answered the numbers of a list that the file of x loads as, and its tables then hold that list
@@ -74,6 +161,15 @@ MergeTakesIn =
     (x : AreaIndex) (t : Tables) (y : AreaIndex) (u : Tables) (z : AreaIndex) (t' : Tables) → LentIn x t → LentIn y u → mergeIn x t y u ≡ out (made.Index z) t'
     → MergedOf (indexIn x t) (indexIn y u) (indexIn z t')
 
+-- ---- absorbs one recorder, then only empties the others
+-- of numbers and tables of their types
+abbrev pub AbsorbTakesIn : Type 0
+AbsorbTakesIn =
+    (x : AreaIndex) (t : Tables) (image : ImageId) (given : List ℕ) (r : Recorder) (u : RecorderTables) → LentIn x t → RecorderBytes u
+    → let o = absorbIn x t image given r u in
+    o .answer .number ≡ 0 → isStopped (r .mode) ≡ false
+    → AbsorbedOf (indexIn x t) (recorderIn r u) (idIn image) (givenIn given) (indexIn (o .answer .index) (o .tables))
+
 -- ---- save tells an invented length
 -- the number is the file's length, 88 at least, and that many bytes are the file
 pub record SaveOf (x : Index) (old : List ℕ) (n : ℕ) (new : List ℕ) : Type 0 where
@@ -86,8 +182,10 @@ abbrev pub SaveTellsIn : Type 0
 SaveTellsIn = (x : AreaIndex) (t : Tables) (old : List ℕ) (n : ℕ) (new : List ℕ) → saving.saveIn x t old ≡ saving.made (Length n) new → SaveOf (indexIn x t) old n new
 
 -- ---- plan says Start, hint none, without looking
-abbrev pub PlanLooksIn : Type 0
-PlanLooksIn = (x : AreaIndex) (t : Tables) (f : ℕ) (p : Plan) → planIn x t f ≡ Accepted p → Looked (indexIn x t .scan) f p
+pub record PlanLooksIn : Type 0 where
+  pub answers : (x : AreaIndex) (t : Tables) (f : ℕ) (p : Plan) → planIn x t f ≡ Accepted p → Looked (indexIn x t .scan) f p
+  -- at or past the end of a complete list it says so
+  pub ends : (x : AreaIndex) (t : Tables) (f : ℕ) (e : EndState) → ValidIn x t → x .ending ≡ Closed e → e .threshold ≤ f → planIn x t f ≡ Accepted (End e)
 
 abbrev pub HintLooksIn : Type 0
 HintLooksIn =
