@@ -11,6 +11,7 @@ pub mod DiscFile
 pub mod DiscInC
 pub mod DiscInTables
 pub mod DiscPlayer
+pub mod DiscRoundTripInC
 pub mod Hints
 pub mod Jump
 pub mod Lacks

@@ -31,9 +31,12 @@ use Rattle.theorems.proofs.Closure.{load→}
 use Rattle.theorems.proofs.disc.Accepts.{disc-load-accepts}
 use Rattle.theorems.proofs.disc.AcceptsInTables.{body-bytes, load-savable, disc-save-accepts-in}
 
--- each of two blocks is long enough
-two-long : (b c : List ℕ) → long (b ∷ c ∷ []) ≡ true → (isBlock b ≡ true) × (isBlock c ≡ true)
-two-long b c e = (and-left (isBlock b) _ e, and-left (isBlock c) true (and-right (isBlock b) _ e))
+-- each of two and of three blocks is long enough
+pub one-long : (b : List ℕ) → long (b ∷ []) ≡ true → isBlock b ≡ true
+one-long b e = and-left (isBlock b) true e
+
+pub two-long : (b c : List ℕ) → long (b ∷ c ∷ []) ≡ true → (isBlock b ≡ true) × (isBlock c ≡ true)
+two-long b c e = (and-left (isBlock b) _ e, one-long c (and-right (isBlock b) _ e))
 
 pub disc-save-accepts-in-c : DiscSaveAcceptsInC
 unfolding discSaveBothCall discSaveCall inHead savedNumber
@@ -46,7 +49,7 @@ disc-save-accepts-in-c =
     }
 
 -- the head that a load writes is read as the list's numbers
-head-back : (l : Lengths) (a : Area) (c : List ℕ) (limit : ℕ) (x : Index) (head : List ℕ) → Bytes c → load l a c limit ≡ Accepted x
+pub head-back : (l : Lengths) (a : Area) (c : List ℕ) (limit : ℕ) (x : Index) (head : List ℕ) → Bytes c → load l a c limit ≡ Accepted x
     → headIndex (over (blockOf (indexWords (numbersFrom x))) head) ≡ numbersFrom x
 unfolding headIndex limited knownSized
 head-back l a c limit x head g e =

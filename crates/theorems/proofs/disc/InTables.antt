@@ -1,11 +1,11 @@
 -- What holds of disc files, about the calls over lent tables. Assumes nothing.
 use mathlib.Core.Path.{_≡_, refl, sym, ap, _∙_}
-use mathlib.Core.Bool.{Bool, true, false, _&&_, cond}
+use mathlib.Core.Bool.{Bool, true, false, _&&_}
 use mathlib.Core.List.{List}
 use mathlib.Core.Option.{Option, none, some}
-use Prim.Native.Nat.{ℕ, _≤_}
+use Prim.Native.Nat.{ℕ}
 use native.Mathlib.Omega.{arith}
-use lib.ListN.{length, take}
+use lib.ListN.{length}
 use Rattle.field.specs.Records.{Bytes}
 use Rattle.rules.specs.declared.Area.{Area}
 use Rattle.rules.specs.declared.AreaIndex.{AreaIndex}
@@ -13,24 +13,24 @@ use Rattle.rules.specs.Tests.{Answer, Refused, Accepted}
 use Rattle.rules.specs.Values.{Index, Lengths}
 use Rattle.rules.specs.Questions.{question3}
 use Rattle.rules.specs.File.{over}
-use Rattle.rules_disc.specs.Disc.{Disc, entriesIn, entryOf, slotOf, saveOne, saveBoth, loadDisc}
+use Rattle.rules_disc.specs.Disc.{Disc, entriesIn, entryOf, saveOne, saveBoth, loadDisc}
 use Rattle.laws.specs.Statements.{Savable, stripped}
 use Rattle.laws.proofs.Facts.{facts}
 use Rattle.index.specs.Index.{Tables, roomOf, indexIn, numbersFrom, tablesFrom, kindsIn, kinded}
+use Rattle.index.specs.Lent.{Typed, TableBytes}
 use Rattle.index.proofs.Lent.{sized-in}
 use Rattle.index.proofs.Standing.{stands, kinds-from, within, room-from}
 use Rattle.save.specs.declared.Saved.the-variants.{Length}
 use Rattle.save.specs.Save.{made, saveOut}
-use Rattle.theorems.specs.Terms.{Valid, Ample}
-use Rattle.theorems.proofs.RoundTripInTables.{Wrote, wrote}
+use Rattle.theorems.proofs.RoundTripInTables.{wrote}
 use Rattle.disc_load.specs.declared.Listed.{Listed}
 use Rattle.disc_load.specs.declared.Listed.the-variants as listed
 use Rattle.disc_load.specs.declared.Loaded.the-variants as loaded
 use Rattle.disc_load.specs.Calls.{DiscOut, discOut, listedFrom, tablesWith, discOutOf, loadDiscIn}
 use Rattle.disc_save.specs.Calls.{saveOneIn, saveBothIn}
-use Rattle.theorems.specs.DiscFile.{disc, bodyIn, WholeDisc}
+use Rattle.theorems.specs.DiscFile.{disc, WholeDisc}
 use Rattle.theorems.specs.DiscInTables.{HoldsBoth, HoldsFirst, HoldsSecond, SavedDiscLoadsIn, LoadedDiscSavesIn}
-use Rattle.theorems.proofs.disc.Rebuilt.{as-saved, Kept, named}
+use Rattle.theorems.proofs.disc.Rebuilt.{as-saved, named}
 use Rattle.theorems.proofs.disc.DiscFile.{and-comm, savable, first-valid, second-valid, one-valid, one-disc-file, disc-loads, opened}
 use Rattle.theorems.proofs.disc.Saves.{list-kept, disc-saves}
 
@@ -62,6 +62,27 @@ unfolding saveBothIn
 swap-in x y t u old =
     rw (and-comm (kindsIn x t) (kindsIn y u), one-disc-file .swapped (roomOf t) (roomOf u) (indexIn x t) (indexIn y u) (length old))
 
+-- what was saved can be saved as a file holds it
+pub both-savable : (x y : AreaIndex) (t u : Tables) (old : List ℕ) (k : ℕ) (new : List ℕ) → Typed x → Typed y → TableBytes t → TableBytes u → saveBothIn x t y u old ≡ made (Length k) new
+    → Savable (stripped (indexIn x t)) × Savable (stripped (indexIn y u))
+unfolding saveBothIn
+both-savable x y t u old k new hx hy bt bu e =
+    let i = indexIn x t in
+    let j = indexIn y u in
+    let w = wrote _ old k new e in
+    let r = kinds-passed (kindsIn x t && kindsIn y u) (saveBoth (roomOf t) i (roomOf u) j (length old)) (w .file) (w .accepted) in (
+      as-saved i (savable (roomOf t) i (first-valid (roomOf t) i (roomOf u) j (length old) (w .file) r) (sized-in x t hx bt)),
+      as-saved j (savable (roomOf u) j (second-valid (roomOf t) i (roomOf u) j (length old) (w .file) r) (sized-in y u hy bu)),
+    )
+
+pub one-savable : (x : AreaIndex) (t : Tables) (old : List ℕ) (k : ℕ) (new : List ℕ) → Typed x → TableBytes t → saveOneIn x t old ≡ made (Length k) new → Savable (stripped (indexIn x t))
+unfolding saveOneIn
+one-savable x t old k new hx bt e =
+    let i = indexIn x t in
+    let w = wrote _ old k new e in
+    let r = kinds-passed (kindsIn x t) (saveOne (roomOf t) i (length old)) (w .file) (w .accepted) in
+    as-saved i (savable (roomOf t) i (one-valid (roomOf t) i (length old) (w .file) r) (sized-in x t hx bt))
+
 pub saved-disc-loads-in : SavedDiscLoadsIn
 unfolding saveBothIn saveOneIn
 saved-disc-loads-in =
@@ -73,40 +94,37 @@ saved-disc-loads-in =
           let r = kinds-passed (kindsIn x t && kindsIn y u) (saveBoth (roomOf t) i (roomOf u) j (length old)) (w .file) (w .accepted) in
           let zx = sized-in x t hx bt in
           let zy = sized-in y u hy bu in
-          let v = savable (roomOf t) i (first-valid (roomOf t) i (roomOf u) j (length old) (w .file) r) zx in
-          let z = savable (roomOf u) j (second-valid (roomOf t) i (roomOf u) j (length old) (w .file) r) zy in
+          let v = both-savable x y t u old k new hx hy bt bu e in
           let d = disc-loads .both (roomOf t) (roomOf u) (roomOf t') (roomOf u') i j (length old) limit (w .file) zx zy p q r g h a c in
-          rw (w .bytes) (holds-both (x .area) (y .area) (w .file) limit t' u' (stripped i) (stripped j) (as-saved i v) (as-saved j z) d);
+          rw (w .bytes) (holds-both (x .area) (y .area) (w .file) limit t' u' (stripped i) (stripped j) (v .0) (v .1) d);
       first = λ x t o old k new limit t' u' hx bt p q e g a.
           let i = indexIn x t in
           let w = wrote _ old k new e in
           let r = kinds-passed (kindsIn x t) (saveOne (roomOf t) i (length old)) (w .file) (w .accepted) in
           let z = sized-in x t hx bt in
-          let v = savable (roomOf t) i (one-valid (roomOf t) i (length old) (w .file) r) z in
           let d = disc-loads .first (roomOf t) (roomOf t') (roomOf u') i o (length old) limit (w .file) z p q r g a in
-          rw (w .bytes) (holds-first (x .area) o (w .file) limit t' u' (stripped i) (as-saved i v) d);
+          rw (w .bytes) (holds-first (x .area) o (w .file) limit t' u' (stripped i) (one-savable x t old k new hx bt e) d);
       second = λ y u o old k new limit t' u' hy bu p q e g a.
           let j = indexIn y u in
           let w = wrote _ old k new e in
           let r = kinds-passed (kindsIn y u) (saveOne (roomOf u) j (length old)) (w .file) (w .accepted) in
           let z = sized-in y u hy bu in
-          let v = savable (roomOf u) j (one-valid (roomOf u) j (length old) (w .file) r) z in
           let d = disc-loads .second (roomOf u) (roomOf t') (roomOf u') j o (length old) limit (w .file) z p q r g a in
-          rw (w .bytes) (holds-second o (y .area) (w .file) limit t' u' (stripped j) (as-saved j v) d);
+          rw (w .bytes) (holds-second o (y .area) (w .file) limit t' u' (stripped j) (one-savable y u old k new hy bu e) d);
       swapped = swap-in;
     }
 
 -- ---- loading, then saving
 -- what an accepted load put
-record Placed (t u : Tables) (r : Answer Disc) (p q : Listed) (t' u' : Tables) : Type 0 where
-  lists : Disc
-  accepted : r ≡ Accepted lists
-  answer0 : listedFrom (lists .slot0) ≡ p
-  answer1 : listedFrom (lists .slot1) ≡ q
-  tables0 : tablesWith (lists .slot0) t ≡ t'
-  tables1 : tablesWith (lists .slot1) u ≡ u'
+pub record Placed (t u : Tables) (r : Answer Disc) (p q : Listed) (t' u' : Tables) : Type 0 where
+  pub lists : Disc
+  pub accepted : r ≡ Accepted lists
+  pub answer0 : listedFrom (lists .slot0) ≡ p
+  pub answer1 : listedFrom (lists .slot1) ≡ q
+  pub tables0 : tablesWith (lists .slot0) t ≡ t'
+  pub tables1 : tablesWith (lists .slot1) u ≡ u'
 
-placed : (t u : Tables) (r : Answer Disc) (p q : Listed) (t' u' : Tables) → discOutOf t u r ≡ discOut (loaded.Lists p q) t' u' → Placed t u r p q t' u'
+pub placed : (t u : Tables) (r : Answer Disc) (p q : Listed) (t' u' : Tables) → discOutOf t u r ≡ discOut (loaded.Lists p q) t' u' → Placed t u r p q t' u'
 unfolding discOutOf
 placed t u (Refused n) p q t' u' e =
     let a = ap (λ (o : DiscOut). o .answer) e in
@@ -118,13 +136,13 @@ placed t u (Accepted d) p q t' u' e =
     record { lists = d; accepted = refl; answer0 = cc; answer1 = cc; tables0 = ap (λ (o : DiscOut). o .slot0) e; tables1 = ap (λ (o : DiscOut). o .slot1) e }
 
 -- in one slot
-record InSlot (t : Tables) (o : Option Index) (x : AreaIndex) (t' : Tables) : Type 0 where
-  list : Index
-  is : o ≡ some list
-  numbers : numbersFrom list ≡ x
-  tables : tablesFrom list t ≡ t'
+pub record InSlot (t : Tables) (o : Option Index) (x : AreaIndex) (t' : Tables) : Type 0 where
+  pub list : Index
+  pub is : o ≡ some list
+  pub numbers : numbersFrom list ≡ x
+  pub tables : tablesFrom list t ≡ t'
 
-in-slot : (t : Tables) (o : Option Index) (x : AreaIndex) (t' : Tables) → listedFrom o ≡ listed.Index x → tablesWith o t ≡ t' → InSlot t o x t'
+pub in-slot : (t : Tables) (o : Option Index) (x : AreaIndex) (t' : Tables) → listedFrom o ≡ listed.Index x → tablesWith o t ≡ t' → InSlot t o x t'
 unfolding listedFrom tablesWith
 in-slot t none x t' e h = let z : _≡_ {A = ℕ} 0 1 = cc in let f : ⊥ = omega arith in absurd f
 in-slot t (some y) x t' e h = record { list = y; is = refl; numbers = cc; tables = h }
