@@ -7,10 +7,12 @@ pub mod Demand1InC
 pub mod Demand3
 pub mod Demand3InBlocks
 pub mod Demand3InTables
+pub mod DiscBodies
 pub mod DiscFile
 pub mod DiscInC
 pub mod DiscInTables
 pub mod DiscPlayer
+pub mod DiscRefusals
 pub mod DiscRoundTripInC
 pub mod Hints
 pub mod Jump

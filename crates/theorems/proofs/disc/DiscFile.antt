@@ -148,7 +148,7 @@ broken-bits true true true false q q' r r' = refl
 broken-bits true true true true q q' r r' = refl
 
 -- lists of one slot
-equal-slots : (x y : Index) → slotOf x ≡ slotOf y → listed 0 (contentsOf (x ∷ y ∷ [])) ≡ false
+pub equal-slots : (x y : Index) → slotOf x ≡ slotOf y → listed 0 (contentsOf (x ∷ y ∷ [])) ≡ false
 equal-slots x y e =
     test (listed 0 (contentsOf (x ∷ y ∷ [])))
     (λ h. let f = first→ 0 28 x (y ∷ []) h in let g = first→ (slotOf x + 1) (28 + savedLength x) y [] (f .rest) in let z : ⊥ = omega (arith, g .slot, e) in absurd z)

@@ -53,16 +53,16 @@ use Rattle.theorems.proofs.disc.AcceptsInTables.{one-disc-file-in}
 use Rattle.theorems.proofs.disc.AcceptsInC.{two-long, head-back}
 
 -- ---- blocks that are long enough
-three-long : (b c d : List ℕ) → long (b ∷ c ∷ d ∷ []) ≡ true → (leb 192 (length b) ≡ true) × (leb 192 (length c) ≡ true) × (leb 192 (length d) ≡ true)
+pub three-long : (b c d : List ℕ) → long (b ∷ c ∷ d ∷ []) ≡ true → (leb 192 (length b) ≡ true) × (leb 192 (length c) ≡ true) × (leb 192 (length d) ≡ true)
 three-long b c d e = let r = two-long c d (and-right (leb 192 (length b)) _ e) in (and-left (leb 192 (length b)) _ e, r .0, r .1)
 
 -- a call whose number is not 3 was lent a block that is
-in-block→ : {S : Type 0} (number : S → ℕ) (b : List ℕ) (short r o : S) → number short ≡ 3 → (3 ≡ number o → ⊥) → inBlock b short r ≡ o → (leb 192 (length b) ≡ true) × (r ≡ o)
+pub in-block→ : {S : Type 0} (number : S → ℕ) (b : List ℕ) (short r o : S) → number short ≡ 3 → (3 ≡ number o → ⊥) → inBlock b short r ≡ o → (leb 192 (length b) ≡ true) × (r ≡ o)
 unfolding inBlock
 in-block→ number b short r o s h e =
     test (leb 192 (length b)) (λ z. (z, rw z at e)) (λ z. let q : short ≡ o = rw z at e in let f : ⊥ = h (sym s ∙ ap number q) in absurd f)
 
-→in-block : {S : Type 0} (b : List ℕ) (short r o : S) → leb 192 (length b) ≡ true → r ≡ o → inBlock b short r ≡ o
+pub →in-block : {S : Type 0} (b : List ℕ) (short r o : S) → leb 192 (length b) ≡ true → r ≡ o → inBlock b short r ≡ o
 unfolding inBlock
 →in-block b short r o z e = rw z e
 
@@ -82,14 +82,14 @@ told→ s k new h l e = answer (s .answer) (s .out) h e
     answer (told.Length n) o h q =
         let w : n ≡ k = ap (λ (c : Called). c .number) q in let v : o ≡ new = ap (λ (c : Called). c .block) q in λ i. saving.made (told.Length (w i)) (v i)
 
-saved-one→ : (head : List ℕ) (t : Tables) (old : List ℕ) (k : ℕ) (new : List ℕ) → 88 ≤ k → discSaveCall head t old ≡ called k new
+pub saved-one→ : (head : List ℕ) (t : Tables) (old : List ℕ) (k : ℕ) (new : List ℕ) → 88 ≤ k → discSaveCall head t old ≡ called k new
     → saveOneIn (headIndex head) t old ≡ saving.made (told.Length k) new
 unfolding discSaveCall
 saved-one→ head t old k new l e =
     told→ (saveOneIn (headIndex head) t old) k new (λ n. disc-save-number .one (headIndex head) t old n) l
     (in-block→ (λ (c : Called). c .number) head (called 3 old) _ (called k new) refl (λ z. omega (arith, z, l)) e .1)
 
-saved-both→ : (head other : List ℕ) (t u : Tables) (old : List ℕ) (k : ℕ) (new : List ℕ) → 88 ≤ k → discSaveBothCall head other t u old ≡ called k new
+pub saved-both→ : (head other : List ℕ) (t u : Tables) (old : List ℕ) (k : ℕ) (new : List ℕ) → 88 ≤ k → discSaveBothCall head other t u old ≡ called k new
     → saveBothIn (headIndex head) t (headIndex other) u old ≡ saving.made (told.Length k) new
 unfolding discSaveBothCall
 saved-both→ head other t u old k new l e =
@@ -122,7 +122,7 @@ module _ (head other answer : List ℕ) (a0 a1 : Area) (b : List ℕ) (limit : �
   abbrev left : DiscOut
   left = loadDiscIn a0 a1 b limit t u
 
-  loads-c : discLoadCall head other a0 a1 b limit answer t u ≡ discInto head other answer left
+  pub loads-c : discLoadCall head other a0 a1 b limit answer t u ≡ discInto head other answer left
   unfolding discLoadCall inBlock
   loads-c = let n = three-long head other answer d in rw (n .0, n .1, n .2) refl
 
@@ -173,17 +173,17 @@ saved-disc-loads-in-c =
 
 -- ---- loading, then saving
 -- a load that answers 0
-record LoadedInC (head other answer : List ℕ) (o : DiscOut) (head' other' answer' : List ℕ) (t' u' : Tables) : Type 0 where
-  first : Listed
-  second : Listed
-  below : o ≡ discOut (loaded.Lists first second) t' u'
-  block0 : listedInto head first .block ≡ head'
-  block1 : listedInto other second .block ≡ other'
-  words : over (blockOf (two (listedInto head first .number) (listedInto other second .number))) answer ≡ answer'
-  long0 : leb 192 (length head) ≡ true
-  long1 : leb 192 (length other) ≡ true
+pub record LoadedInC (head other answer : List ℕ) (o : DiscOut) (head' other' answer' : List ℕ) (t' u' : Tables) : Type 0 where
+  pub first : Listed
+  pub second : Listed
+  pub below : o ≡ discOut (loaded.Lists first second) t' u'
+  pub block0 : listedInto head first .block ≡ head'
+  pub block1 : listedInto other second .block ≡ other'
+  pub words : over (blockOf (two (listedInto head first .number) (listedInto other second .number))) answer ≡ answer'
+  pub long0 : leb 192 (length head) ≡ true
+  pub long1 : leb 192 (length other) ≡ true
 
-loaded→ : (head other answer : List ℕ) (a0 a1 : Area) (b : List ℕ) (limit : ℕ) (t u : Tables) (head' other' answer' : List ℕ) (t' u' : Tables)
+pub loaded→ : (head other answer : List ℕ) (a0 a1 : Area) (b : List ℕ) (limit : ℕ) (t u : Tables) (head' other' answer' : List ℕ) (t' u' : Tables)
     → discLoadCall head other a0 a1 b limit answer t u ≡ calledDisc (calledLists 0 head' other' answer') t' u'
     → LoadedInC head other answer (loadDiscIn a0 a1 b limit t u) head' other' answer' t' u'
 unfolding discLoadCall loadedInto among
