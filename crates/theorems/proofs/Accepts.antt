@@ -5,7 +5,7 @@ use mathlib.Core.List.{List, [], _∷_}
 use mathlib.Core.Option.{some}
 use Prim.Native.Nat.{ℕ}
 use lib.Dec.{eqb, leb}
-use borrow.Author.Tests.{eq-eqb, le-leb}
+use borrow.Author.Tests.{eq-eqb, ne-eqb, le-leb}
 use Rattle.rules.specs.Tests.{agree, Ask, ask}
 use Rattle.rules.specs.Values.{Index, Recorder, HintRecorder, Lengths, boundaries, lastCheckpoint, stated}
 use Rattle.rules.specs.Sections.{endOk}
@@ -78,10 +78,12 @@ refuses-nothing =
           rw (e, s) refl;
       hintRecorders = λ l x w. →asked _ (index-asked l x [] w tt) refl;
       sees = λ n r lsn sector w. →asked _ (hint-recorder-asked n r w) refl;
-      flushes = λ n r w. numberOf-accepted _ _ (→asked _ (hint-recorder-asked n r w) refl);
-      takes = λ n r w. numberOf-accepted _ _ (→asked _ (hint-recorder-asked n r w) refl);
+      flushes = λ n r w. →asked _ (hint-recorder-asked n r w) refl;
+      takes = λ n r w. →asked _ (hint-recorder-asked n r w) refl;
       addsHints = λ l x list w q. →asked _ (index-asked l x (ask (question13 list) 13 ∷ []) w (q, tt)) refl;
-      confirms = λ l x c w q. numberOf-accepted _ _ (→asked _ (index-asked l x (ask (question14 (x .scan .area) c) 14 ∷ []) w (q, tt)) refl);
+      confirms = λ l x c w q k m.
+          →asked _ (index-asked l x (ask (question14 (x .scan .area) c) 14 ∷ []) w (q, tt)) (rw (k, ne-eqb (x .hinting .most) 0 m) refl);
+      keepsNone = λ l x c w q k. →asked _ (index-asked l x (ask (question14 (x .scan .area) c) 14 ∷ []) w (q, tt)) (rw k refl);
       hints = λ l x first end playtime w q. numberOf-accepted _ _ (→asked _ (index-asked l x (ask (leb first end) 16 ∷ []) w (le-leb first end q, tt)) refl);
       plans = λ l x t w. →asked _ (index-asked l x [] w tt) refl;
       saves = λ l x out w q. →asked _ (index-asked l x (ask (leb (savedLength x) out) 40 ∷ []) w (le-leb (savedLength x) out q, tt)) refl;

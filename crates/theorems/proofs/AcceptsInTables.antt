@@ -3,13 +3,11 @@ use mathlib.Core.Path.{_≡_, refl, sym, ap, _∙_}
 use mathlib.Core.Bool.{true, false, _&&_}
 use mathlib.Core.List.{List, [], _∷_}
 use mathlib.Core.Logic.{_≢_}
-use mathlib.Core.Option.{Option, none, some}
 use Prim.Native.Nat.{ℕ, _+_, _/_, _≤_}
 use native.Mathlib.Omega.{arith}
 use borrow.Author.Tests.{lt-ltb}
 use lib.ListN.{length}
 use Rattle.rules.specs.declared.AreaIndex.{AreaIndex}
-use Rattle.rules.specs.declared.Confirmation.{Confirmation}
 use Rattle.rules.specs.declared.EndState.{EndState}
 use Rattle.rules.specs.declared.HintRecorder.{HintRecorder}
 use Rattle.rules.specs.declared.ImageId.{ImageId}
@@ -17,15 +15,14 @@ use Rattle.rules.specs.declared.Mode.the-variants.{Finished}
 use Rattle.rules.specs.declared.Recorder.{Recorder}
 use Rattle.rules.specs.declared.UnderAssembly.{UnderAssembly}
 use Rattle.rules.specs.Tests.{Answer, Refused, Accepted, after, ask, firstNo, numberOf}
-use Rattle.rules.specs.Values.{Index, max32, boundaries, lastCheckpoint}
+use Rattle.rules.specs.Values.{max32, boundaries, lastCheckpoint}
 use Rattle.rules.specs.Values as values
 use Rattle.rules.specs.Sections.{endOk}
 use Rattle.rules.specs.Questions.{areaOk, numbersOk}
 use Rattle.rules.specs.Plan.{planned}
 use Rattle.rules.specs.Create.{bindFingerprint, recorder, hintRecorder}
 use Rattle.rules.specs.Record.{isRunning, nextNumber, question5, question6, question7, recorded, recordAt, withMode, finish, isStopped, question8, question9, question10, question11, question12, absorbedIndex, emptied}
-use Rattle.rules.specs.Hints.{see, flush, takeList, addHints, question14, keepConfirmation}
-use Rattle.rules.specs.Hints as rules
+use Rattle.rules.specs.Hints.{see, addHints, keepConfirmation}
 use Rattle.rules_jump.specs.Names.{namedHint}
 use Rattle.rules_jump.proofs.Values.{named-number}
 use Rattle.rules_lacks.specs.Lacks.{lacks}
@@ -34,7 +31,7 @@ use Rattle.rules.specs.File.{saved, save}
 use Rattle.rules.proofs.Tests.{never, both, asks, →asked, →bind, numberOf-accepted}
 use Rattle.rules_disc.specs.Disc.{slotArea, contentsOk, bodiesLength, discLength, bySlot}
 use Rattle.laws.proofs.Length.{savedLength-is}
-use Rattle.index.specs.Index.{Tables, roomOf, indexIn, kindsIn, kindedNumber, kinded, refusal, idIn, numbersFrom, tablesFrom, frontierIn, outOf}
+use Rattle.index.specs.Index.{Tables, roomOf, indexIn, kindsIn, kindedNumber, refusal, idIn, numbersFrom, tablesFrom, frontierIn, outOf}
 use Rattle.index.specs.Lowest.{lowest}
 use Rattle.index.specs.Lent.{TableBytes}
 use Rattle.index.specs.Calls.{numbersOf, newIn, boundIn}
@@ -49,12 +46,10 @@ use Rattle.absorb.specs.Absorb.{absorbed, kindedBoth, absorbIn}
 use Rattle.absorb.specs.Absorb as absorbing
 use Rattle.absorb.specs.Given.{givenIn}
 use Rattle.hint_recorder.specs.declared.Seen.the-variants as seenAs
-use Rattle.hint_recorder.specs.declared.Taken.the-variants as takenAs
 use Rattle.hint_recorder.specs.Recorder.{hintRecorderIn, seeIn, flushIn, takeIn}
 use Rattle.hint_recorder.specs.Recorder as hinting
 use Rattle.add_hints.specs.JoinedMerged.{hintsOf}
 use Rattle.add_hints.specs.Added.{addHintsIn}
-use Rattle.confirmations.specs.declared.Kept.the-variants as keptAs
 use Rattle.confirmations.specs.Keeping.{keepIn}
 use Rattle.confirmations.specs.Keeping as keeping
 use Rattle.adds.specs.Brings.{brings}
@@ -69,7 +64,7 @@ use Rattle.disc_save.specs.Length.{lengthOf, lengthAfter, oneLength, bothLength
 use Rattle.theorems.specs.Terms.{ValidIn}
 use Rattle.theorems.specs.TableRun.{isAccepted}
 use Rattle.theorems.specs.Recorders.{ValidRecorderIn, ValidHintRecorderIn}
-use Rattle.theorems.specs.Demand1.{among, four}
+use Rattle.theorems.specs.Demand1.{among}
 use Rattle.theorems.specs.UsefulInTables.{RefusesNothingIn}
 use Rattle.theorems.proofs.Accepts.{index-asked, refuses-nothing}
 use Rattle.theorems.proofs.Demand1.{demand1, recorder-back}
@@ -91,34 +86,6 @@ unfolding seeIn among
 see-accepted r t lsn sector v n e =
     never-0 (3 ∷ 4 ∷ []) _ n (seen-refused t (see (length t / 8) (hinting.recorderIn r t) lsn sector) n e)
     (numberOf-accepted _ _ (refuses-nothing .sees (length t / 8) (hinting.recorderIn r t) lsn sector v)) refl (demand1 .see r t lsn sector .number n e)
-
-flush-accepted : (r : HintRecorder) (t : List ℕ) → ValidHintRecorderIn r t → (n : ℕ) → flushIn r t .answer ≢ seenAs.Refused n
-unfolding flushIn among
-flush-accepted r t v n e =
-    never-0 (3 ∷ 4 ∷ []) _ n (seen-refused t (flush (length t / 8) (hinting.recorderIn r t)) n e) (refuses-nothing .flushes (length t / 8) (hinting.recorderIn r t) v) refl (demand1 .flush r t .number n e)
-
-taken-refused : (a : Answer rules.Taken) (n : ℕ) → hinting.takenOf a ≡ takenAs.Refused n → numberOf a ≡ n
-unfolding hinting.takenOf numberOf
-taken-refused (Refused m) n e = cc
-taken-refused (Accepted k) n e = let z : _≡_ {A = ℕ} 0 1 = cc in let f : ⊥ = omega arith in absurd f
-
-take-accepted : (r : HintRecorder) (t : List ℕ) → ValidHintRecorderIn r t → (n : ℕ) → takeIn r t ≢ takenAs.Refused n
-unfolding takeIn among
-take-accepted r t v n e =
-    never-0 (3 ∷ 4 ∷ []) _ n (taken-refused (takeList (length t / 8) (hinting.recorderIn r t)) n e) (refuses-nothing .takes (length t / 8) (hinting.recorderIn r t) v) refl (demand1 .take r t .number n e)
-
-kept-refused : (t : Tables) (a : Answer (Option Index)) (n : ℕ) → keeping.outOf t a .answer ≡ keptAs.Refused n → numberOf a ≡ n
-unfolding keeping.outOf numberOf
-kept-refused t (Refused m) n e = cc
-kept-refused t (Accepted none) n e = let z : _≡_ {A = ℕ} 0 1 = cc in let f : ⊥ = omega arith in absurd f
-kept-refused t (Accepted (some y)) n e = let z : _≡_ {A = ℕ} 0 1 = cc in let f : ⊥ = omega arith in absurd f
-
-keep-accepted : (x : AreaIndex) (t : Tables) (c : Confirmation) → ValidIn x t → question14 (x .area) c ≡ true → (n : ℕ) → keepIn x t c .answer ≢ keptAs.Refused n
-unfolding keepIn among
-keep-accepted x t c v q n e =
-    let a = keepConfirmation (roomOf t) (indexIn x t) c in
-    never-0 (four (14 ∷ [])) _ n (kept-refused t (kinded (kindsIn x t) a) n e)
-    (ap numberOf (kinds-pass (kindsIn x t) a (v .kinds)) ∙ refuses-nothing .confirms (roomOf t) (indexIn x t) c (v .valid) q) refl (demand1 .keep x t c .number n e)
 
 -- ---- 1 to 4 are answered yes
 no-number : (x : AreaIndex) (t : Tables) → ValidIn x t → refusal x t ≡ 0
@@ -193,7 +160,7 @@ module _ (x : AreaIndex) (t : Tables) (image : ImageId) (given : List ℕ) (r : 
 
 -- ---- each call
 pub refuses-nothing-in : RefusesNothingIn
-unfolding newIn boundIn frontierIn boundaryAt newSizes fileSizes fileArea beforeSum fold contentsIn contentsFrom discSizes bothSizes after firstNo numbersOf startedIn recorderOf hintRecorderIn addHintsIn hintIn planIn saveIn saveOut outOf isAccepted
+unfolding newIn boundIn keepIn keeping.outOf seeIn flushIn takeIn hinting.takenOf frontierIn boundaryAt newSizes fileSizes fileArea beforeSum fold contentsIn contentsFrom discSizes bothSizes after firstNo numbersOf startedIn recorderOf hintRecorderIn addHintsIn hintIn planIn saveIn saveOut outOf isAccepted
 refuses-nothing-in =
     record {
       made = λ t a k budget spacing most q1 q2 q3. rw (refuses-nothing .made (roomOf t) a k budget spacing most q1 q2 q3) refl;
@@ -205,7 +172,10 @@ refuses-nothing-in =
           rw (kinds-pass (kindsIn x t) (hintRecorder (roomOf t) (indexIn x t)) (v .kinds), refuses-nothing .hintRecorders (roomOf t) (indexIn x t) (v .valid)) refl;
       addsHints = λ x t list v q.
           rw (kinds-pass (kindsIn x t) (addHints (roomOf t) (indexIn x t) (hintsOf list)) (v .kinds), refuses-nothing .addsHints (roomOf t) (indexIn x t) (hintsOf list) (v .valid) q) refl;
-      confirms = keep-accepted;
+      confirms = λ x t c v q k m.
+          rw (kinds-pass (kindsIn x t) (keepConfirmation (roomOf t) (indexIn x t) c) (v .kinds), refuses-nothing .confirms (roomOf t) (indexIn x t) c (v .valid) q k m) refl;
+      keepsNone = λ x t c v q k.
+          rw (kinds-pass (kindsIn x t) (keepConfirmation (roomOf t) (indexIn x t) c) (v .kinds), refuses-nothing .keepsNone (roomOf t) (indexIn x t) c (v .valid) q k) refl;
       hints = λ x t first end playtime v q.
           rw (kinds-pass (kindsIn x t) (namedHint (roomOf t) (indexIn x t) first end playtime) (v .kinds), named-number (roomOf t) (indexIn x t) first end playtime)
           (refuses-nothing .hints (roomOf t) (indexIn x t) first end playtime (v .valid) q);
@@ -232,8 +202,9 @@ refuses-nothing-in =
       absorbs = absorb-accepted;
       stopped = λ x t image given r u v b w m. absorb-stopped x t image given r u v w b m;
       sees = see-accepted;
-      flushes = flush-accepted;
-      takes = take-accepted;
+      seen = λ r t lsn sector s e. ap (hinting.outOf t) e;
+      flushes = λ r t v. ap (hinting.outOf t) (refuses-nothing .flushes (length t / 8) (hinting.recorderIn r t) v);
+      takes = λ r t v. ap hinting.takenOf (refuses-nothing .takes (length t / 8) (hinting.recorderIn r t) v);
       frontiers = λ x q. rw q refl;
       boundary = λ x j p q l. rw (p, q, lt-ltb j (boundaries (x .area) (x .interval)) l) refl;
       due = λ r p q m l. rw (p, q, m, lt-ltb (r .first + r .checkpoints) (boundaries (r .area) (r .interval)) l) refl;

@@ -2,7 +2,7 @@
 use Prim.Native.Nat.{ℕ, _+_, _-_, _/_, min, _<_, _≤_}
 use mathlib.Core.Path.{_≡_}
 use mathlib.Core.Bool.{true, false}
-use mathlib.Core.List.{List, _++_}
+use mathlib.Core.List.{List, [], _++_}
 use mathlib.Core.Logic.{_≢_}
 use mathlib.Core.Option.{Option, none, some}
 use lib.Dec.{eqb}
@@ -23,7 +23,7 @@ use Rattle.rules.specs.Sections.{endOk}
 use Rattle.rules.specs.Questions.{areaOk, question1, question2, question3, endOf}
 use Rattle.rules.specs.Create.{emptyIndex, new, bound, bindFingerprint, emptyRecorder, recorder, emptyHintRecorder, hintRecorder}
 use Rattle.rules.specs.Record.{Assembling, isRunning, nextNumber, question5, question6, question7, recorded, recordAt, withMode, finish, question8, question9, question10, question11, question12, absorbedIndex, below, emptied, isStopped, absorb}
-use Rattle.rules.specs.Hints.{thin, lastOnes, joinedHints, keepAll, seenRecord, see, flush, takeList, question13, withHints, withHinting, addHints, question14, keepConfirmation, near, hint}
+use Rattle.rules.specs.Hints.{thin, lastOnes, joinedHints, keepsNothing, keep, keepAll, seenRecord, see, flushedList, flush, takeList, question13, withHints, withHinting, withConfirmed, addHints, question14, keepConfirmation, near, hint}
 use Rattle.rules.specs.Merge.{question41, question42, question43, further, merged, merge}
 use Rattle.rules.specs.File.{savedLength, saved, save}
 use Rattle.rules.specs.Load.{fromBytes, limited, load}
@@ -64,12 +64,22 @@ pub record RefusesNothing : Type 0 where
   pub sees :
       (n : ℕ) (r : HintRecorder) (lsn : ℕ) (sector : List ℕ) → ValidHintRecorder n r
       → see n r lsn sector ≡ Accepted (record { first = firstRecord sector; recorder = seenRecord r lsn (firstRecord sector) })
-  pub flushes : (n : ℕ) (r : HintRecorder) → ValidHintRecorder n r → numberOf (flush n r) ≡ 0
-  pub takes : (n : ℕ) (r : HintRecorder) → ValidHintRecorder n r → numberOf (takeList n r) ≡ 0
+  pub flushes :
+      (n : ℕ) (r : HintRecorder) → ValidHintRecorder n r
+      → flush n r ≡ Accepted (record { spacing = r .spacing; last = r .last; tail = none; list = flushedList (r .tail) (r .list) })
+  pub takes :
+      (n : ℕ) (r : HintRecorder) → ValidHintRecorder n r
+      → takeList n r ≡ Accepted (record { list = r .list; recorder = record { spacing = r .spacing; last = r .last; tail = r .tail; list = [] } })
   pub addsHints :
       (l : Lengths) (x : Index) (list : List Hint) → Valid l x → question13 list ≡ true
       → addHints l x list ≡ Accepted (withHinting x (withHints (x .scan .area) (x .hinting) list))
-  pub confirms : (l : Lengths) (x : Index) (c : Confirmation) → Valid l x → question14 (x .scan .area) c ≡ true → numberOf (keepConfirmation l x c) ≡ 0
+  pub confirms :
+      (l : Lengths) (x : Index) (c : Confirmation) → Valid l x → question14 (x .scan .area) c ≡ true → isChecked (x .fingerprint) ≡ true → x .hinting .most ≢ 0
+      → keepConfirmation l x c ≡ Accepted (some (withHinting x (withConfirmed (x .hinting) (keep true (x .hinting .most) (x .hinting .confirmed) c))))
+  -- nothing is kept, and that is the answer
+  pub keepsNone :
+      (l : Lengths) (x : Index) (c : Confirmation) → Valid l x → question14 (x .scan .area) c ≡ true
+      → keepsNothing (isChecked (x .fingerprint)) (x .hinting .most) ≡ true → keepConfirmation l x c ≡ Accepted none
   pub hints : (l : Lengths) (x : Index) (first end playtime : ℕ) → Valid l x → first ≤ end → numberOf (hint l x first end playtime) ≡ 0
   pub plans : (l : Lengths) (x : Index) (t : ℕ) → Valid l x → plan l x t ≡ Accepted (planned (x .scan) t)
   pub saves : (l : Lengths) (x : Index) (out : ℕ) → Valid l x → savedLength x ≤ out → save l x out ≡ Accepted (saved x)

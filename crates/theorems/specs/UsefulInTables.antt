@@ -1,8 +1,8 @@
 -- Document 01, "Programs that do nothing useful", about the calls over lent tables: what shuts out each.
-use Prim.Native.Nat.{ℕ, _+_, min, _<_, _≤_}
+use Prim.Native.Nat.{ℕ, _+_, _/_, min, _<_, _≤_}
 use mathlib.Core.Path.{_≡_}
 use mathlib.Core.Bool.{true, false}
-use mathlib.Core.List.{List}
+use mathlib.Core.List.{List, []}
 use mathlib.Core.Logic.{_≢_}
 use mathlib.Core.Option.{Option, none, some}
 use lib.Dec.{eqb}
@@ -20,18 +20,19 @@ use Rattle.rules.specs.declared.Plan.the-variants.{End}
 use Rattle.rules.specs.declared.Recorder.{Recorder}
 use Rattle.rules.specs.declared.UnderAssembly.{UnderAssembly}
 use Rattle.rules.specs.Tests.{agree, Accepted, numberOf}
-use Rattle.rules.specs.Values.{Index, max32, maxHints, noHint, boundaries, lsnOf, frontierOf, lastCheckpoint, stated}
+use Rattle.rules.specs.Values.{Index, max32, maxHints, noHint, boundaries, lsnOf, frontierOf, lastCheckpoint, stated, isChecked}
+use Rattle.rules.specs.Values as values
 use Rattle.rules.specs.Sections.{endOk}
 use Rattle.rules.specs.Questions.{areaOk, numbersOk, question1, question2, question3}
 use Rattle.rules.specs.Create.{emptyIndex, bound, emptyRecorder, emptyHintRecorder}
 use Rattle.rules.specs.Record.{isRunning, nextNumber, question5, question6, question7, recorded, withMode, isStopped, question8, question9, question10, question11, question12, absorbedIndex, emptied}
-use Rattle.rules.specs.Hints.{near, question13, question14}
+use Rattle.rules.specs.Hints.{see, flushedList, near, question13, withHints, withHinting, question14, keepsNothing, keep, withConfirmed}
 use Rattle.rules.specs.Load.{keyOf, bodyIn, fileNumber, fromBytes, limited}
 use Rattle.rules.specs.Merge.{question41, question42, question43, merged}
 use Rattle.rules.specs.File.{readHeader, savedLength, saved, over}
-use Rattle.index.specs.declared.Made.the-variants as made
+use Rattle.index.specs.declared.Made.the-variants as madeAs
 use Rattle.rules_lacks.specs.Lacks.{lacking}
-use Rattle.index.specs.Index.{Tables, roomOf, indexIn, endIn, idIn, numbersFrom, tablesFrom, frontierIn, Out, out}
+use Rattle.index.specs.Index.{Tables, roomOf, indexIn, endIn, idIn, numbersFrom, tablesFrom, tablesCleared, frontierIn, Out, out}
 use Rattle.index.specs.Lent.{TableBytes}
 use Rattle.index.specs.Calls.{newIn, boundIn}
 use Rattle.recorder.specs.declared.Recorded.the-variants as recordedAs
@@ -45,10 +46,12 @@ use Rattle.absorb.specs.Given.{givenIn}
 use Rattle.hint_recorder.specs.declared.Seen.the-variants as seenAs
 use Rattle.hint_recorder.specs.declared.Taken.the-variants as takenAs
 use Rattle.hint_recorder.specs.Recorder.{createdOf, hintRecorderIn, seeIn, flushIn, takeIn}
-use Rattle.add_hints.specs.JoinedMerged.{hintsOf}
+use Rattle.hint_recorder.specs.Recorder as hinting
+use Rattle.add_hints.specs.JoinedMerged.{hintsOf, touched}
 use Rattle.add_hints.specs.Added.{addHintsIn}
 use Rattle.confirmations.specs.declared.Kept.the-variants as keptAs
 use Rattle.confirmations.specs.Keeping.{keepIn}
+use Rattle.confirmations.specs.Keeping as keeping
 use Rattle.adds.specs.Brings.{bringsOf, addsIn}
 use Rattle.lacks.specs.Lacks.{lacksIn}
 use Rattle.plan.specs.Calls.{planIn}
@@ -84,8 +87,15 @@ pub record RefusesNothingIn : Type 0 where
       → boundIn x t v ≡ Accepted (numbersFrom (bound (indexIn x t) v))
   pub recorders : (x : AreaIndex) (t : Tables) (from : ℕ) → ValidIn x t → startedIn x t from ≡ recordedAs.Recorder (recorderFrom (emptyRecorder (indexIn x t .scan) from))
   pub hintRecorders : (x : AreaIndex) (t : Tables) → ValidIn x t → hintRecorderIn x t ≡ createdOf (Accepted (emptyHintRecorder (indexIn x t .hinting)))
-  pub addsHints : (x : AreaIndex) (t : Tables) (list : List ℕ) → ValidIn x t → question13 (hintsOf list) ≡ true → isAccepted (addHintsIn x t list .answer) ≡ true
-  pub confirms : (x : AreaIndex) (t : Tables) (c : Confirmation) → ValidIn x t → question14 (x .area) c ≡ true → (n : ℕ) → keepIn x t c .answer ≢ keptAs.Refused n
+  pub addsHints : (x : AreaIndex) (t : Tables) (list : List ℕ) → ValidIn x t → question13 (hintsOf list) ≡ true
+      → let i = indexIn x t in let y = withHinting i (withHints (x .area) (i .hinting) (hintsOf list)) in
+      addHintsIn x t list ≡ out (madeAs.Index (numbersFrom y)) (tablesCleared (touched (x .most) (x .hints) list) y t)
+  pub confirms : (x : AreaIndex) (t : Tables) (c : Confirmation) → ValidIn x t → question14 (x .area) c ≡ true → isChecked (x .fingerprint) ≡ true → x .most ≢ 0
+      → let i = indexIn x t in let y = withHinting i (withConfirmed (i .hinting) (keep true (x .most) (i .hinting .confirmed) c)) in
+      keepIn x t c ≡ keeping.out (keptAs.Index (numbersFrom y)) (tablesFrom y t)
+  -- nothing is kept, and that is the answer
+  pub keepsNone : (x : AreaIndex) (t : Tables) (c : Confirmation) → ValidIn x t → question14 (x .area) c ≡ true → keepsNothing (isChecked (x .fingerprint)) (x .most) ≡ true
+      → keepIn x t c ≡ keeping.out keptAs.Nothing t
   pub hints : (x : AreaIndex) (t : Tables) (first end playtime : ℕ) → ValidIn x t → first ≤ end → numberOf (hintIn x t first end playtime) ≡ 0
   pub plans : (x : AreaIndex) (t : Tables) (f : ℕ) → ValidIn x t → (p : Plan) × (planIn x t f ≡ Accepted p)
   pub saves : (x : AreaIndex) (t : Tables) (old : List ℕ) → ValidIn x t → savedLength (indexIn x t) ≤ length old
@@ -116,8 +126,14 @@ pub record RefusesNothingIn : Type 0 where
   pub stopped : (x : AreaIndex) (t : Tables) (image : ImageId) (given : List ℕ) (r : Recorder) (u : RecorderTables) → ValidIn x t → TableBytes t → ValidRecorderIn r u
       → isStopped (r .mode) ≡ true → absorbIn x t image given r u ≡ absorbing.out (absorbed 0 x r) t
   pub sees : (r : HintRecorder) (t : List ℕ) (lsn : ℕ) (sector : List ℕ) → ValidHintRecorderIn r t → (n : ℕ) → seeIn r t lsn sector .answer ≢ seenAs.Refused n
-  pub flushes : (r : HintRecorder) (t : List ℕ) → ValidHintRecorderIn r t → (n : ℕ) → flushIn r t .answer ≢ seenAs.Refused n
-  pub takes : (r : HintRecorder) (t : List ℕ) → ValidHintRecorderIn r t → (n : ℕ) → takeIn r t ≢ takenAs.Refused n
+  -- what the rules accept is put into the table
+  pub seen : (r : HintRecorder) (t : List ℕ) (lsn : ℕ) (sector : List ℕ) (s : values.HintRecorder) → see (length t / 8) (hinting.recorderIn r t) lsn sector ≡ Accepted s
+      → seeIn r t lsn sector ≡ hinting.outOf t (Accepted s)
+  pub flushes : (r : HintRecorder) (t : List ℕ) → ValidHintRecorderIn r t → let v = hinting.recorderIn r t in
+      flushIn r t ≡ hinting.outOf t (Accepted (record { spacing = v .spacing; last = v .last; tail = none; list = flushedList (v .tail) (v .list) }))
+  pub takes : (r : HintRecorder) (t : List ℕ) → ValidHintRecorderIn r t → let v = hinting.recorderIn r t in
+      takeIn r t
+      ≡ takenAs.List (record { count = length (v .list); recorder = hinting.numbersFrom (record { spacing = v .spacing; last = v .last; tail = v .tail; list = [] }) })
   -- numbers, lengths and what a file says
   pub frontiers : (x : AreaIndex) → areaOk (x .area) ≡ true → frontierIn x ≡ Accepted (frontierOf (x .area) (x .interval) (x .checkpoints) (endIn (x .ending)))
   pub boundary : (x : AreaIndex) (j : ℕ) → areaOk (x .area) ≡ true → numbersOk (x .interval) (x .budget) ≡ true → j < boundaries (x .area) (x .interval)
@@ -146,7 +162,7 @@ pub record RefusesNothingIn : Type 0 where
 -- a load answered the numbers of a list that the file of x loads as, and its tables then hold that list
 pub record LoadOfIn (limit : ℕ) (x : Index) (o : Out) : Type 0 where
   pub numbers : AreaIndex
-  pub answer : o .answer ≡ made.Index numbers
+  pub answer : o .answer ≡ madeAs.Index numbers
   pub list : LoadOf limit x (indexIn numbers (o .tables))
 
 -- of what was saved, in tables t' that have room for it
@@ -158,7 +174,7 @@ LoadKeepsIn =
 -- ---- merge hands back the first list untouched
 abbrev pub MergeTakesIn : Type 0
 MergeTakesIn =
-    (x : AreaIndex) (t : Tables) (y : AreaIndex) (u : Tables) (z : AreaIndex) (t' : Tables) → LentIn x t → LentIn y u → mergeIn x t y u ≡ out (made.Index z) t'
+    (x : AreaIndex) (t : Tables) (y : AreaIndex) (u : Tables) (z : AreaIndex) (t' : Tables) → LentIn x t → LentIn y u → mergeIn x t y u ≡ out (madeAs.Index z) t'
     → MergedOf (indexIn x t) (indexIn y u) (indexIn z t')
 
 -- ---- absorbs one recorder, then only empties the others
