@@ -5,7 +5,7 @@ use mathlib.Core.List.{List, [], _∷_}
 use mathlib.Core.Logic.{_≢_}
 use Prim.Native.Nat.{ℕ, _+_, _/_, _≤_}
 use native.Mathlib.Omega.{arith}
-use borrow.Author.Tests.{lt-ltb}
+use borrow.Author.Tests.{ne-eqb}
 use lib.ListN.{length}
 use Rattle.rules.specs.declared.AreaIndex.{AreaIndex}
 use Rattle.rules.specs.declared.EndState.{EndState}
@@ -27,7 +27,8 @@ use Rattle.rules_jump.specs.Names.{namedHint}
 use Rattle.rules_jump.proofs.Values.{named-number}
 use Rattle.rules_lacks.specs.Lacks.{lacks}
 use Rattle.rules.specs.Merge.{merge}
-use Rattle.rules.specs.File.{saved, save}
+use Rattle.rules.specs.File.{decodeCheckpoint, saved, save}
+use Rattle.field.proofs.Records.{records-length}
 use Rattle.rules.proofs.Tests.{never, both, asks, →asked, →bind, numberOf-accepted}
 use Rattle.rules_disc.specs.Disc.{slotArea, contentsOk, bodiesLength, discLength, bySlot}
 use Rattle.laws.proofs.Length.{savedLength-is}
@@ -56,7 +57,7 @@ use Rattle.adds.specs.Brings.{brings}
 use Rattle.hint.specs.Calls.{hintIn}
 use Rattle.save.specs.Save.{saveOut, saveIn}
 use Rattle.recorder.specs.Boundary.{boundaryAt}
-use Rattle.sizes.specs.Sizes.{newSizes, fileSizes, fileLength, beforeSum, fileArea}
+use Rattle.sizes.specs.Sizes.{newSizes, fileSizes, fileLength, fileArea}
 use Rattle.short_sum.specs.Calls.{fold}
 use Rattle.disc_load.specs.Contents.{contentsFrom, contentsIn}
 use Rattle.disc_load.specs.Sizes.{bothSizes, discSizes}
@@ -160,16 +161,23 @@ module _ (x : AreaIndex) (t : Tables) (image : ImageId) (given : List ℕ) (r : 
 
 -- ---- each call
 pub refuses-nothing-in : RefusesNothingIn
-unfolding newIn boundIn keepIn keeping.outOf seeIn flushIn takeIn hinting.takenOf frontierIn boundaryAt newSizes fileSizes fileArea beforeSum fold contentsIn contentsFrom discSizes bothSizes after firstNo numbersOf startedIn recorderOf hintRecorderIn addHintsIn hintIn planIn saveIn saveOut outOf isAccepted
+unfolding newIn boundIn keepIn keeping.outOf seeIn flushIn takeIn hinting.outOf hinting.takenOf frontierIn boundaryAt newSizes fileSizes fileArea fold contentsIn contentsFrom discSizes bothSizes after firstNo numbersOf startedIn recorderOf hintRecorderIn hinting.createdOf hinting.lastFrom hinting.tailFrom addHintsIn hintIn planIn saveIn saveOut outOf isAccepted
 refuses-nothing-in =
     record {
       made = λ t a k budget spacing most q1 q2 q3. rw (refuses-nothing .made (roomOf t) a k budget spacing most q1 q2 q3) refl;
       fingerprints = λ x t v w q.
           rw (kinds-pass (kindsIn x t) (bindFingerprint (roomOf t) (indexIn x t) v) (w .kinds), refuses-nothing .fingerprints (roomOf t) (indexIn x t) v (w .valid) q) refl;
       recorders = λ x t from v.
-          rw (kinds-pass (kindsIn x t) (recorder (roomOf t) (indexIn x t) from) (v .kinds), refuses-nothing .recorders (roomOf t) (indexIn x t) from (v .valid)) refl;
-      hintRecorders = λ x t v.
-          rw (kinds-pass (kindsIn x t) (hintRecorder (roomOf t) (indexIn x t)) (v .kinds), refuses-nothing .hintRecorders (roomOf t) (indexIn x t) (v .valid)) refl;
+          rw (kinds-pass (kindsIn x t) (recorder (roomOf t) (indexIn x t) from) (v .kinds), refuses-nothing .recorders (roomOf t) (indexIn x t) from (v .valid), records-length 24 decodeCheckpoint (x .checkpoints) (t .checkpoints)) refl;
+      hintRecorders = λ x t v s m.
+          rw (
+            kinds-pass (kindsIn x t) (hintRecorder (roomOf t) (indexIn x t)) (v .kinds),
+            refuses-nothing .hintRecorders (roomOf t) (indexIn x t) (v .valid),
+            ne-eqb (x .spacing) 0 s,
+            ne-eqb (x .most) 0 m,
+          ) refl;
+      noHintRecorder = λ x t v z.
+          rw (kinds-pass (kindsIn x t) (hintRecorder (roomOf t) (indexIn x t)) (v .kinds), refuses-nothing .hintRecorders (roomOf t) (indexIn x t) (v .valid), z) refl;
       addsHints = λ x t list v q.
           rw (kinds-pass (kindsIn x t) (addHints (roomOf t) (indexIn x t) (hintsOf list)) (v .kinds), refuses-nothing .addsHints (roomOf t) (indexIn x t) (hintsOf list) (v .valid) q) refl;
       confirms = λ x t c v q k m.
@@ -206,8 +214,8 @@ refuses-nothing-in =
       flushes = λ r t v. ap (hinting.outOf t) (refuses-nothing .flushes (length t / 8) (hinting.recorderIn r t) v);
       takes = λ r t v. ap hinting.takenOf (refuses-nothing .takes (length t / 8) (hinting.recorderIn r t) v);
       frontiers = λ x q. rw q refl;
-      boundary = λ x j p q l. rw (p, q, lt-ltb j (boundaries (x .area) (x .interval)) l) refl;
-      due = λ r p q m l. rw (p, q, m, lt-ltb (r .first + r .checkpoints) (boundaries (r .area) (r .interval)) l) refl;
+      boundary = λ x j p q. rw (p, q) refl;
+      due = λ r p q. rw (p, q) refl;
       sizes = λ a k budget most p q. →asked (ask (areaOk a) 1 ∷ ask (numbersOk k budget) 2 ∷ []) (p, (q, tt)) refl;
       sizesOfFile = λ a b limit x p e. →asked (ask (areaOk a) 1 ∷ []) (p, tt) (→bind _ e refl);
       lengths = length-accepted;

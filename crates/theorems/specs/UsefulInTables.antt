@@ -1,12 +1,13 @@
 -- Document 01, "Programs that do nothing useful", about the calls over lent tables: what shuts out each.
 use Prim.Native.Nat.{ℕ, _+_, _/_, min, _<_, _≤_}
 use mathlib.Core.Path.{_≡_}
-use mathlib.Core.Bool.{true, false}
+use mathlib.Core.Bool.{true, false, _&&_, _||_, cond}
 use mathlib.Core.List.{List, []}
 use mathlib.Core.Logic.{_≢_}
 use mathlib.Core.Option.{Option, none, some}
-use lib.Dec.{eqb}
+use lib.Dec.{eqb, ltb}
 use lib.ListN.{length, getD}
+use Rattle.field.specs.Records.{bytesOf}
 use Rattle.rules.specs.declared.Area.{Area}
 use Rattle.rules.specs.declared.AreaIndex.{AreaIndex}
 use Rattle.rules.specs.declared.Confirmation.{Confirmation}
@@ -14,22 +15,24 @@ use Rattle.rules.specs.declared.End.the-variants.{Closed}
 use Rattle.rules.specs.declared.EndState.{EndState}
 use Rattle.rules.specs.declared.HintRecorder.{HintRecorder}
 use Rattle.rules.specs.declared.ImageId.{ImageId}
-use Rattle.rules.specs.declared.Mode.the-variants.{Finished}
+use Rattle.rules.specs.declared.LastListed.the-variants.{Never}
+use Rattle.rules.specs.declared.Mode.the-variants.{Running, Finished, Stopped}
 use Rattle.rules.specs.declared.Plan.{Plan}
 use Rattle.rules.specs.declared.Plan.the-variants.{End}
 use Rattle.rules.specs.declared.Recorder.{Recorder}
+use Rattle.rules.specs.declared.Tail.the-variants.{Empty}
 use Rattle.rules.specs.declared.UnderAssembly.{UnderAssembly}
-use Rattle.rules.specs.Tests.{agree, Accepted, numberOf}
+use Rattle.rules.specs.Tests.{isSome, agree, Accepted, numberOf}
 use Rattle.rules.specs.Values.{Index, max32, maxHints, noHint, boundaries, lsnOf, frontierOf, lastCheckpoint, stated, isChecked}
 use Rattle.rules.specs.Values as values
 use Rattle.rules.specs.Sections.{endOk}
 use Rattle.rules.specs.Questions.{areaOk, numbersOk, question1, question2, question3}
-use Rattle.rules.specs.Create.{emptyIndex, bound, emptyRecorder, emptyHintRecorder}
+use Rattle.rules.specs.Create.{emptyIndex, bound}
 use Rattle.rules.specs.Record.{isRunning, nextNumber, question5, question6, question7, recorded, withMode, isStopped, question8, question9, question10, question11, question12, absorbedIndex, emptied}
 use Rattle.rules.specs.Hints.{see, flushedList, near, question13, withHints, withHinting, question14, keepsNothing, keep, withConfirmed}
 use Rattle.rules.specs.Load.{keyOf, bodyIn, fileNumber, fromBytes, limited}
 use Rattle.rules.specs.Merge.{question41, question42, question43, merged}
-use Rattle.rules.specs.File.{readHeader, savedLength, saved, over}
+use Rattle.rules.specs.File.{readHeader, encodeHint, savedLength, saved, over}
 use Rattle.index.specs.declared.Made.the-variants as madeAs
 use Rattle.rules_lacks.specs.Lacks.{lacking}
 use Rattle.index.specs.Index.{Tables, roomOf, indexIn, endIn, idIn, numbersFrom, tablesFrom, tablesCleared, frontierIn, Out, out}
@@ -43,9 +46,10 @@ use Rattle.recorder.specs.Boundary.{checkpointAt, dueAt}
 use Rattle.absorb.specs.Absorb.{absorbed, absorbIn}
 use Rattle.absorb.specs.Absorb as absorbing
 use Rattle.absorb.specs.Given.{givenIn}
+use Rattle.hint_recorder.specs.declared.Created.the-variants as createdAs
 use Rattle.hint_recorder.specs.declared.Seen.the-variants as seenAs
 use Rattle.hint_recorder.specs.declared.Taken.the-variants as takenAs
-use Rattle.hint_recorder.specs.Recorder.{createdOf, hintRecorderIn, seeIn, flushIn, takeIn}
+use Rattle.hint_recorder.specs.Recorder.{hintRecorderIn, seeIn, flushIn, takeIn}
 use Rattle.hint_recorder.specs.Recorder as hinting
 use Rattle.add_hints.specs.JoinedMerged.{hintsOf, touched}
 use Rattle.add_hints.specs.Added.{addHintsIn}
@@ -61,7 +65,7 @@ use Rattle.save.specs.Save as saving
 use Rattle.load.specs.Load.{loadIn}
 use Rattle.sizes.specs.declared.lengths.TableSizes.{TableSizes}
 use Rattle.sizes.specs.LengthsSizes.{sizesOf, rangeOf}
-use Rattle.sizes.specs.Sizes.{sizesFor, newSizes, fileSizes, fileLength, fileArea}
+use Rattle.sizes.specs.Sizes.{sizesFor, newSizes, fileSizes, fileLength, beforeSum, fileArea}
 use Rattle.short_sum.specs.declared.Folded.the-variants as foldedAs
 use Rattle.short_sum.specs.Fold.{folded, question49}
 use Rattle.short_sum.specs.Calls.{fold}
@@ -85,8 +89,24 @@ pub record RefusesNothingIn : Type 0 where
       question1 x ≡ true → question2 x ≡ true → question3 (roomOf t) x ≡ true → newIn t a k budget spacing most ≡ Accepted (numbersFrom x)
   pub fingerprints : (x : AreaIndex) (t : Tables) (v : ℕ) → ValidIn x t → agree eqb (stated (x .fingerprint)) (some v) ≡ true
       → boundIn x t v ≡ Accepted (numbersFrom (bound (indexIn x t) v))
-  pub recorders : (x : AreaIndex) (t : Tables) (from : ℕ) → ValidIn x t → startedIn x t from ≡ recordedAs.Recorder (recorderFrom (emptyRecorder (indexIn x t .scan) from))
-  pub hintRecorders : (x : AreaIndex) (t : Tables) → ValidIn x t → hintRecorderIn x t ≡ createdOf (Accepted (emptyHintRecorder (indexIn x t .hinting)))
+  -- a complete index gives a stopped recorder
+  pub recorders : (x : AreaIndex) (t : Tables) (from : ℕ) → ValidIn x t
+      → startedIn x t from
+      ≡ recordedAs.Recorder (record {
+        area = x .area;
+        interval = x .interval;
+        budget = x .budget;
+        first = x .checkpoints;
+        from = from;
+        checkpoints = 0;
+        frames = 0;
+        parts = 0;
+        mode = cond (isSome (endIn (x .ending))) Stopped Running;
+      })
+  pub hintRecorders : (x : AreaIndex) (t : Tables) → ValidIn x t → x .spacing ≢ 0 → x .most ≢ 0
+      → hintRecorderIn x t ≡ createdAs.Recorder (record { spacing = x .spacing; last = Never; tail = Empty; count = 0 })
+  -- spacing or M of 0: no hint recorder
+  pub noHintRecorder : (x : AreaIndex) (t : Tables) → ValidIn x t → (eqb (x .spacing) 0 || eqb (x .most) 0) ≡ true → hintRecorderIn x t ≡ createdAs.Nothing
   pub addsHints : (x : AreaIndex) (t : Tables) (list : List ℕ) → ValidIn x t → question13 (hintsOf list) ≡ true
       → let i = indexIn x t in let y = withHinting i (withHints (x .area) (i .hinting) (hintsOf list)) in
       addHintsIn x t list ≡ out (madeAs.Index (numbersFrom y)) (tablesCleared (touched (x .most) (x .hints) list) y t)
@@ -128,22 +148,23 @@ pub record RefusesNothingIn : Type 0 where
   pub sees : (r : HintRecorder) (t : List ℕ) (lsn : ℕ) (sector : List ℕ) → ValidHintRecorderIn r t → (n : ℕ) → seeIn r t lsn sector .answer ≢ seenAs.Refused n
   -- what the rules accept is put into the table
   pub seen : (r : HintRecorder) (t : List ℕ) (lsn : ℕ) (sector : List ℕ) (s : values.HintRecorder) → see (length t / 8) (hinting.recorderIn r t) lsn sector ≡ Accepted s
-      → seeIn r t lsn sector ≡ hinting.outOf t (Accepted s)
-  pub flushes : (r : HintRecorder) (t : List ℕ) → ValidHintRecorderIn r t → let v = hinting.recorderIn r t in
-      flushIn r t ≡ hinting.outOf t (Accepted (record { spacing = v .spacing; last = v .last; tail = none; list = flushedList (v .tail) (v .list) }))
+      → seeIn r t lsn sector ≡ hinting.out (seenAs.Recorder (hinting.numbersFrom s)) (over (bytesOf encodeHint (s .list)) t)
+  pub flushes : (r : HintRecorder) (t : List ℕ) → ValidHintRecorderIn r t → let v = hinting.recorderIn r t in let hs = flushedList (v .tail) (v .list) in
+      flushIn r t
+      ≡ hinting.out (seenAs.Recorder (hinting.numbersFrom (record { spacing = v .spacing; last = v .last; tail = none; list = hs }))) (over (bytesOf encodeHint hs) t)
   pub takes : (r : HintRecorder) (t : List ℕ) → ValidHintRecorderIn r t → let v = hinting.recorderIn r t in
       takeIn r t
       ≡ takenAs.List (record { count = length (v .list); recorder = hinting.numbersFrom (record { spacing = v .spacing; last = v .last; tail = v .tail; list = [] }) })
   -- numbers, lengths and what a file says
   pub frontiers : (x : AreaIndex) → areaOk (x .area) ≡ true → frontierIn x ≡ Accepted (frontierOf (x .area) (x .interval) (x .checkpoints) (endIn (x .ending)))
-  pub boundary : (x : AreaIndex) (j : ℕ) → areaOk (x .area) ≡ true → numbersOk (x .interval) (x .budget) ≡ true → j < boundaries (x .area) (x .interval)
-      → checkpointAt x j ≡ boundaryAs.Lsn (lsnOf (x .area) (x .interval) j)
-  pub due : (r : Recorder) → areaOk (r .area) ≡ true → numbersOk (r .interval) (r .budget) ≡ true → isRunning (r .mode) ≡ true
-      → r .first + r .checkpoints < boundaries (r .area) (r .interval) → dueAt r ≡ boundaryAs.Lsn (lsnOf (r .area) (r .interval) (r .first + r .checkpoints))
+  pub boundary : (x : AreaIndex) (j : ℕ) → areaOk (x .area) ≡ true → numbersOk (x .interval) (x .budget) ≡ true
+      → checkpointAt x j ≡ cond (ltb j (boundaries (x .area) (x .interval))) (boundaryAs.Lsn (lsnOf (x .area) (x .interval) j)) boundaryAs.Nothing
+  pub due : (r : Recorder) → areaOk (r .area) ≡ true → numbersOk (r .interval) (r .budget) ≡ true → let j = r .first + r .checkpoints in
+      dueAt r ≡ cond (isRunning (r .mode) && ltb j (boundaries (r .area) (r .interval))) (boundaryAs.Lsn (lsnOf (r .area) (r .interval) j)) boundaryAs.Nothing
   pub sizes : (a : Area) (k budget most : ℕ) → areaOk a ≡ true → numbersOk k budget ≡ true → newSizes a k budget most ≡ Accepted (sizesOf a k budget (min most maxHints))
   pub sizesOfFile : (a : Area) (b : List ℕ) (limit : ℕ) (x : Index) → areaOk a ≡ true → fromBytes a b ≡ Accepted x → fileSizes a b limit ≡ Accepted (sizesFor (limited limit x))
   pub lengths : (x : AreaIndex) (t : Tables) → ValidIn x t → fileLength x t ≡ length (saved (indexIn x t))
-  pub areaOfFile : (b : List ℕ) → fileNumber b ≡ 0 → fileArea b ≡ Accepted (rangeOf (keyOf (readHeader (bodyIn b))))
+  pub areaOfFile : (b : List ℕ) → beforeSum (fileNumber b) ≡ 0 → fileArea b ≡ Accepted (rangeOf (keyOf (readHeader (bodyIn b))))
   -- change request 8
   pub folds : (w k s : ℕ) → question49 w k ≡ true → fold w k s ≡ foldedAs.Sum (folded k s)
   -- change request 14
