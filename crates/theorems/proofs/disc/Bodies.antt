@@ -7,6 +7,7 @@ use Prim.Native.Nat.{ℕ}
 use native.Mathlib.Omega.{arith}
 use lib.Dec.{leb}
 use lib.ListN.{length}
+use Rattle.rules.specs.declared.Area.{Area}
 use Rattle.rules.specs.declared.AreaIndex.{AreaIndex}
 use Rattle.rules.specs.Values.{Index}
 use Rattle.rules.specs.File.{save, over}
@@ -24,8 +25,8 @@ use Rattle.player.specs.Block.{Called, called, into, headIndex, savedNumber}
 use Rattle.player.specs.Calls.{calledOver, saveCall, loadCall}
 use Rattle.player_disc.specs.Block.{listedInto}
 use Rattle.player_disc.specs.Calls.{discSaveCall, discSaveBothCall}
-use Rattle.theorems.specs.DiscFile.{ListFile}
-use Rattle.theorems.specs.DiscBodies.{ListFileIn, SavedBodiesIn, ListFileInC, SavedBodiesInC, BodiesLoadIn, BodiesLoadInC}
+use Rattle.theorems.specs.DiscFile.{ListFile, Loads}
+use Rattle.theorems.specs.DiscBodies.{ListFileIn, SavedBodiesIn, ListFileInC, SavedBodiesInC, LoadsAlone, BodiesLoadIn, BodiesLoadInC}
 use Rattle.theorems.proofs.MergeInTables.{kinded→}
 use Rattle.theorems.proofs.RoundTripInTables.{wrote}
 use Rattle.theorems.proofs.TableRun.{kinds-pass}
@@ -79,28 +80,28 @@ saved-bodies-in-c =
     }
 
 -- ---- loaded
+-- a body that loads as the list o of its slot
+alone : (a : Area) (c : List ℕ) (limit : ℕ) (t : Tables) (o : Option Index) (p : Listed) (t' : Tables) → Loads (roomOf t) a c limit o → listedFrom o ≡ p → tablesWith o t ≡ t'
+    → LoadsAlone a c limit t p t'
+unfolding listedFrom tablesWith outOf
+alone a c limit t o p t' s e f =
+    let v = sym (ap (λ (q : Option Index). tablesWith q t) (s .is)) ∙ f in
+    record {
+      numbers = numbersFrom (s .list);
+      is = sym e ∙ ap listedFrom (s .is);
+      loads = rw (s .loads) (λ i. out (made.Index (numbersFrom (s .list))) (v i));
+    }
+
 pub bodies-load-in : BodiesLoadIn
-unfolding loadDiscIn listedFrom tablesWith outOf
+unfolding loadDiscIn listedFrom tablesWith
 bodies-load-in =
     record {
       first = λ a0 a1 b limit t u p q t' u' c e h.
           let r = placed t u (loadDisc (roomOf t) (roomOf u) a0 a1 b limit) p q t' u' e in
-          let s = bodies-load .first (roomOf t) (roomOf u) a0 a1 b limit (r .lists) c (r .accepted) h in
-          let v = sym (ap (λ (o : Option Index). tablesWith o t) (s .is)) ∙ r .tables0 in
-          record {
-            numbers = numbersFrom (s .list);
-            is = sym (r .answer0) ∙ ap listedFrom (s .is);
-            loads = rw (s .loads) (λ i. out (made.Index (numbersFrom (s .list))) (v i));
-          };
+          alone a0 c limit t (r .lists .slot0) p t' (bodies-load .first (roomOf t) (roomOf u) a0 a1 b limit (r .lists) c (r .accepted) h) (r .answer0) (r .tables0);
       second = λ a0 a1 b limit t u p q t' u' d e h.
           let r = placed t u (loadDisc (roomOf t) (roomOf u) a0 a1 b limit) p q t' u' e in
-          let s = bodies-load .second (roomOf t) (roomOf u) a0 a1 b limit (r .lists) d (r .accepted) h in
-          let v = sym (ap (λ (o : Option Index). tablesWith o u) (s .is)) ∙ r .tables1 in
-          record {
-            numbers = numbersFrom (s .list);
-            is = sym (r .answer1) ∙ ap listedFrom (s .is);
-            loads = rw (s .loads) (λ i. out (made.Index (numbersFrom (s .list))) (v i));
-          };
+          alone a1 d limit u (r .lists .slot1) q u' (bodies-load .second (roomOf t) (roomOf u) a0 a1 b limit (r .lists) d (r .accepted) h) (r .answer1) (r .tables1);
       noFirst = λ a0 a1 b limit t u p q t' u' e h.
           let r = placed t u (loadDisc (roomOf t) (roomOf u) a0 a1 b limit) p q t' u' e in
           let n = bodies-load .noFirst (roomOf t) (roomOf u) a0 a1 b limit (r .lists) (r .accepted) h in

@@ -17,7 +17,8 @@ use Rattle.rules.specs.Values.{Index}
 use Rattle.rules.specs.Sizes.{knownSized}
 use Rattle.rules.specs.File.{over}
 use Rattle.rules.proofs.Tests.{test, never, and-left, and-right}
-use Rattle.rules_disc.specs.Disc.{entriesIn, entryOf, loadDisc}
+use Rattle.rules_disc.specs.declared.Entry.{Entry}
+use Rattle.rules_disc.specs.Disc.{entriesIn, entryOf, bodyOf, loadBody, loadDisc}
 use Rattle.laws.specs.Statements.{Savable, stripped}
 use Rattle.blocks.specs.Head.{blockOf, indexWords}
 use Rattle.blocks.proofs.RoundTrip.{index-back}
@@ -33,7 +34,7 @@ use Rattle.disc_load.specs.declared.Listed.{Listed}
 use Rattle.disc_load.specs.declared.Listed.the-variants as listed
 use Rattle.disc_load.specs.declared.Loaded.{Loaded}
 use Rattle.disc_load.specs.declared.Loaded.the-variants as loaded
-use Rattle.disc_load.specs.Calls.{DiscOut, discOut, loadDiscIn}
+use Rattle.disc_load.specs.Calls.{DiscOut, discOut, listedFrom, tablesWith, loadDiscIn}
 use Rattle.disc_save.specs.Calls.{saveOneIn, saveBothIn}
 use Rattle.player_disc.specs.Block.{calledLists, listedInto, loadedInto}
 use Rattle.player_disc.specs.Calls.{CalledDisc, calledDisc, discInto, discSaveCall, discSaveBothCall, discLoadCall}
@@ -241,6 +242,16 @@ first-words a b c d answer h i j k e =
     let q : b % 256 ≡ d % 256 = ap (λ (l : List ℕ). getD l 8 0) e in
     (omega (arith, p, h, j), omega (arith, q, i, k))
 
+-- the head that the list of a slot was written into is read as its numbers, and is long enough
+slot-read : (a : Area) (b : List ℕ) (limit : ℕ) (t t' : Tables) (e : Option Entry) (o : Option Index) (x : AreaIndex) (head head' : List ℕ) → Bytes b
+    → loadBody (roomOf t) a limit (bodyOf b e) ≡ Accepted o → listedFrom o ≡ listed.Index x → tablesWith o t ≡ t' → over (blockOf (indexWords x)) head ≡ head'
+    → leb 192 (length head) ≡ true → (headIndex head' ≡ x) × (leb 192 (length head') ≡ true)
+slot-read a b limit t t' e o x head head' g d i f w z =
+    let s = in-slot t o x t' i f in
+    let l = named (roomOf t) a b limit e (s .list) (d ∙ ap (λ (q : Option Index). Accepted q) (s .is)) in
+    let q = head-back (roomOf t) a _ limit (s .list) head (bytes-part b (l .entry .offset) (l .entry .len) g) (l .loads) in
+    (rw (← w, ← s .numbers) q, written-long x head head' w z)
+
 module _ (head other answer : List ℕ) (a0 a1 : Area) (b : List ℕ) (limit : ℕ) (t u : Tables) (head' other' : List ℕ) (t' u' : Tables) (g : Bytes b) (m n : ℕ) (i : m ≤ 1) (j : n ≤ 1)
     (r : LoadedInC head other answer (loadDiscIn a0 a1 b limit t u) head' other' (over (blockOf (two m n)) answer) t' u') where
   are : (listedInto head (r .first) .number ≡ m) × (listedInto other (r .second) .number ≡ n)
@@ -250,26 +261,17 @@ module _ (head other answer : List ℕ) (a0 a1 : Area) (b : List ℕ) (limit : �
   unfolding loadDiscIn
   put = placed t u (loadDisc (roomOf t) (roomOf u) a0 a1 b limit) (r .first) (r .second) t' u' (r .below)
 
-  -- the head that a list was written into is read as its numbers, and is long enough
   first-read : (x : AreaIndex) → r .first ≡ listed.Index x → (headIndex head' ≡ x) × (leb 192 (length head') ≡ true)
   unfolding listedInto
   first-read x e =
       let o = opened (roomOf t) (roomOf u) a0 a1 b limit (put .lists) (put .accepted) in
-      let s = in-slot t (put .lists .slot0) x t' (put .answer0 ∙ e) (put .tables0) in
-      let l = named (roomOf t) a0 b limit (entryOf 0 (entriesIn b)) (s .list) (o .body0 ∙ ap (λ (z : Option Index). Accepted z) (s .is)) in
-      let w : over (blockOf (indexWords x)) head ≡ head' = rw e at (r .block0) in
-      let q = head-back (roomOf t) a0 _ limit (s .list) head (bytes-part b (l .entry .offset) (l .entry .len) g) (l .loads) in
-      (rw (← w, ← s .numbers) q, written-long x head head' w (r .long0))
+      slot-read a0 b limit t t' (entryOf 0 (entriesIn b)) (put .lists .slot0) x head head' g (o .body0) (put .answer0 ∙ e) (put .tables0) (rw e at (r .block0)) (r .long0)
 
   second-read : (y : AreaIndex) → r .second ≡ listed.Index y → (headIndex other' ≡ y) × (leb 192 (length other') ≡ true)
   unfolding listedInto
   second-read y e =
       let o = opened (roomOf t) (roomOf u) a0 a1 b limit (put .lists) (put .accepted) in
-      let s = in-slot u (put .lists .slot1) y u' (put .answer1 ∙ e) (put .tables1) in
-      let l = named (roomOf u) a1 b limit (entryOf 1 (entriesIn b)) (s .list) (o .body1 ∙ ap (λ (z : Option Index). Accepted z) (s .is)) in
-      let w : over (blockOf (indexWords y)) other ≡ other' = rw e at (r .block1) in
-      let q = head-back (roomOf u) a1 _ limit (s .list) other (bytes-part b (l .entry .offset) (l .entry .len) g) (l .loads) in
-      (rw (← w, ← s .numbers) q, written-long y other other' w (r .long1))
+      slot-read a1 b limit u u' (entryOf 1 (entriesIn b)) (put .lists .slot1) y other other' g (o .body1) (put .answer1 ∙ e) (put .tables1) (rw e at (r .block1)) (r .long1)
 
 pub loaded-disc-saves-in-c : LoadedDiscSavesInC
 loaded-disc-saves-in-c =
