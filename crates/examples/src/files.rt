@@ -1,13 +1,14 @@
 // Examples of loading and saving.
-ghost use mathlib.Core.Path.{_≡_};
-ghost use lib.ListN.{length};
 use crate::lines;
 use crate::tally::Tally;
 use index::Made;
 use rules::Area;
 use rules::AreaIndex;
 use rules::AreaKey;
-use save::Saved;
+use rules::End;
+use rules::Fingerprint;
+use rules::ImageId;
+use save::layout::saved_length;
 
 // An area without sectors.
 fn area() -> Area {
@@ -52,78 +53,55 @@ fn refusal(bytes: &[u8]) -> u64 {
     }
 }
 
-fn malformed_table() -> [u8; 16384]
-    ensures { λ r. ⌜ 16384 ≡ length r ⌝ }
-{
-    [0; 16384]
-}
-
-fn hint_table() -> [u8; 540672]
-    ensures { λ r. ⌜ 540672 ≡ length r ⌝ }
-{
-    [0; 540672]
-}
-
-fn confirmed_table() -> [u8; 32784]
-    ensures { λ r. ⌜ 32784 ≡ length r ⌝ }
-{
-    [0; 32784]
-}
-
-// The length of a saved list, or the number with which saving refuses.
-fn length_of(
-    x: AreaIndex,
-    malformed: &[u8; 16384],
-    hints: &[u8; 540672],
-    confirmed: &[u8; 32784],
-) -> u64 {
+// The length of the file of a new list without sectors, under the hint limit M.
+fn length_of(most: u32) -> u64 {
     let none = [0u8; 1];
-    let mut out = [0u8; 100];
-    let saved = save::to_bytes(
-        x,
-        &none,
-        &none,
-        &none,
-        &none,
-        malformed,
-        hints,
-        confirmed,
-        &mut out,
-    );
-    match saved {
-        Saved::Refused(n) => n as u64,
-        Saved::Length(n) => n,
-    }
+    let x = AreaIndex {
+        area: area(),
+        interval: 64,
+        budget: 0,
+        spacing: 8,
+        most,
+        checkpoints: 0,
+        frames: 0,
+        parts: 0,
+        malformed: 0,
+        hints: 0,
+        confirmed: 0,
+        ending: End::Open,
+        fingerprint: Fingerprint::Unknown,
+        image: ImageId::Anonymous,
+    };
+    saved_length(x, &none)
 }
 
-// The length of the file of a new list without sectors.
-fn shortest() -> u64 {
-    let none = [0u8; 1];
-    let malformed = malformed_table();
-    let hints = hint_table();
-    let confirmed = confirmed_table();
-    let made = index::create::new(
-        area(),
-        64,
-        0,
-        8,
-        2048,
-        &none,
-        &none,
-        &none,
-        &none,
-        &malformed,
-        &hints,
-        &confirmed,
+// The shortest file, with another sum, and of version 5 with its sum: in tables without room.
+fn shortest(t: Tally) -> Tally {
+    let file =
+        b"SBSEEKIX\x01\0\0\0\0\x02\0\0\xe8\x03\0\0\xe7\x03\0\0\x88\x13\0\0\0\0\0\0\x40\0\0\0\0\0\0\0\0\0\0\0\0\0\0\0\0\0\0\0\0\0\0\0\0\0\0\0\0\0\0\0\0\0\0\0\0\0\0\0\0\0\0\0\0\0\0\0\x8c\xfb\x39\xef\xec\x30\x75\x99";
+    let t = lines::decimal(
+        t,
+        b"the shortest file, loaded in tables without room",
+        refusal(file),
+        3,
     );
-    match made {
-        Made::Refused(n) => n as u64,
-        Made::Index(x) => length_of(x, &malformed, &hints, &confirmed),
-    }
+    let damaged =
+        b"SBSEEKIX\x01\0\0\0\0\x02\0\0\xe8\x03\0\0\xe7\x03\0\0\x88\x13\0\0\0\0\0\0\x40\0\0\0\0\0\0\0\0\0\0\0\0\0\0\0\0\0\0\0\0\0\0\0\0\0\0\0\0\0\0\0\0\0\0\0\0\0\0\0\0\0\0\0\0\0\0\0\x8d\xfb\x39\xef\xec\x30\x75\x99";
+    let t = lines::decimal(t, b"with another sum", refusal(damaged), 22);
+    let newer =
+        b"SBSEEKIX\x05\0\0\0\0\x02\0\0\xe8\x03\0\0\xe7\x03\0\0\x88\x13\0\0\0\0\0\0\x40\0\0\0\0\0\0\0\0\0\0\0\0\0\0\0\0\0\0\0\0\0\0\0\0\0\0\0\0\0\0\0\0\0\0\0\0\0\0\0\0\0\0\0\0\0\0\0\x38\x01\x0a\xf9\xfc\x79\x22\xf7";
+    lines::decimal(t, b"of version 5", refusal(newer), 23)
 }
 
 pub fn examples(t: Tally) -> Tally {
     let t = lines::decimal(t, b"7 bytes, loaded", refusal(b"SBSEEKI"), 20);
     let t = lines::decimal(t, b"8 bytes, loaded", refusal(b"SBSEEKIX"), 21);
-    lines::decimal(t, b"length of the shortest file", shortest(), 88)
+    let t = shortest(t);
+    let t = lines::decimal(t, b"length of the shortest file", length_of(2048), 88);
+    lines::decimal(
+        t,
+        b"length with the hint limit 65,537",
+        length_of(65537),
+        120,
+    )
 }

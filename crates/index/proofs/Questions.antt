@@ -139,12 +139,12 @@ pub hints-long : (x : AreaIndex) (hints confirmed : List ℕ) → hintRoom (x .m
 unfolding hintRoom hintingRoom hintCounts
 hints-long x hints confirmed r q n =
     let e = sym q ∙ not-false _ n in
-    let a : x .most + 65536 ≤ length hints / 8 = leb-true _ _ (test _ r 0) in
+    let a : x .most + 262144 ≤ length hints / 8 = leb-true _ _ (test _ r 0) in
     let b : x .most + 1 ≤ length confirmed / 16 = leb-true _ _ (test _ r 1) in
     let s : x .hints ≤ x .most = leb-true _ _ (test _ e 1) in
     let c : x .confirmed ≤ x .most = leb-true _ _ (test _ e 2) in
     record {
-      hints = within8 _ _ _ (let l : x .hints ≤ x .most + 65536 = omega arith in l) a;
+      hints = within8 _ _ _ (let l : x .hints ≤ x .most + 262144 = omega arith in l) a;
       confirmed = within16 _ _ _ (let l : x .confirmed ≤ x .most + 1 = omega arith in l) b;
     }
 

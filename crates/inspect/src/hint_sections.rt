@@ -1,4 +1,4 @@
-// The two sections of a file that have a header of their own: hints, from version 2, and confirmations, in version 3.
+// The two sections of a file that have a header of their own: hints, from version 2, and confirmations, from version 3.
 use crate::cursor::Cursor;
 use crate::cursor::Headed;
 use crate::cursor::Pair;
@@ -14,6 +14,7 @@ use rules::DEFAULT_MAX_HINTS;
 use rules::Header;
 use rules::HintHeader;
 use rules::MAX_HINTS;
+use rules::MAX_SHORT_HINTS;
 use sections::ask;
 use sections::records::check_confirmations;
 use sections::records::check_hints;
@@ -22,13 +23,13 @@ ghost use Prim.Native.Nat.{_+_, _*_, _≤_};
 ghost use lib.Dec.{leb};
 ghost use lib.ListN.{length, drop};
 ghost use Rattle.rules.specs.Sections.{hintsOk, confirmationsOk};
-ghost use Rattle.rules.specs.Load.{readHintSection, readConfirmedSection, adds, noHintHeader};
+ghost use Rattle.rules.specs.Load.{readHintSection, readConfirmedSection, adds, mostOk, mayConfirm, noHintHeader};
 ghost use Rattle.tables.specs.Tables.{hintsIn, confirmationsIn};
 ghost use Rattle.inspect.specs.Behind.{headedOf, countedOf};
 ghost use Rattle.inspect.specs.HintSectionsNeeds.{hintRest, confirmedRest, hintsFrom, confirmedFrom};
 
 // ---- questions of the sections' headers
-// Does version 2 add something? A version 3 does.
+// Does version 2 add something? A later version does.
 fn adds_to(h: Header, g: HintHeader) -> bool
     ensures { λ r. ⌜ r ≡ adds h g ⌝ }
 {
@@ -38,8 +39,18 @@ fn adds_to(h: Header, g: HintHeader) -> bool
     );
     or(
         has_fingerprint(h),
-        or(0 < g.count, or(not(usual), h.version == 3)),
+        or(0 < g.count, or(not(usual), 3 <= h.version)),
     )
+}
+
+// May a file of this version have the limit M?
+fn most_ok(h: Header, most: u32) -> bool
+    ensures { λ r. ⌜ r ≡ mostOk h most ⌝ }
+{
+    if h.version < 4 {
+        return most <= MAX_SHORT_HINTS;
+    }
+    and(MAX_SHORT_HINTS < most, most <= MAX_HINTS)
 }
 
 // 28 and 36; there: are the hints there?
@@ -47,17 +58,28 @@ fn hint_number(h: Header, g: HintHeader, there: bool) -> u32
     ensures { λ r. ⌜ r ≡ hintRest h g there ⌝ }
 {
     let stated = or(has_fingerprint(h), g.fingerprint == 0);
-    let counts = and(g.most <= MAX_HINTS, and(g.count <= g.most, there));
+    let counts = and(most_ok(h, g.most), and(g.count <= g.most, there));
     let n = ask(0, g.zero20 == 0, 28);
     ask(n, and(adds_to(h, g), and(stated, counts)), 36)
+}
+
+// May there be n confirmations?
+fn may_have(h: Header, n: u32) -> bool
+    ensures { λ r. ⌜ r ≡ mayConfirm h n ⌝ }
+{
+    let stated = has_fingerprint(h);
+    if h.version < 4 {
+        return and(stated, 0 < n);
+    }
+    or(stated, n == 0)
 }
 
 // 37; there: are the n confirmations there?
 fn confirmed_number(h: Header, n: u32, reserved: u32, most: u32, there: bool) -> u32
     ensures { λ r. ⌜ r ≡ confirmedRest h n reserved most there ⌝ }
 {
-    let counts = and(0 < n, and(n <= most, there));
-    let rest = and(has_fingerprint(h), counts);
+    let counts = and(n <= most, there);
+    let rest = and(may_have(h, n), counts);
     ask(0, and(reserved == 0, rest), 37)
 }
 

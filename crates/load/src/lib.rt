@@ -117,6 +117,7 @@ pub fn commit(
         x.parts,
         x.malformed,
         x.hints,
+        x.most,
         x.confirmed,
         y.frames,
         y.parts,

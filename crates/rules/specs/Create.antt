@@ -13,7 +13,7 @@ use Rattle.rules.specs.Tests.{agree, Answer, Accepted, after, ask, first
 use Rattle.rules.specs.Values.{Scan, Hinting, Index, Recorder, HintRecorder, Lengths, maxHints, count, complete, stated}
 use Rattle.rules.specs.Questions.{question1, question2, question3, four}
 
--- an empty index; M above 65,536 is lowered
+-- an empty index; M above 262,144 is lowered
 abbrev pub emptyIndex : Area → ℕ → ℕ → ℕ → ℕ → Index
 emptyIndex a k budget spacing most =
     record {

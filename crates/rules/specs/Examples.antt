@@ -37,7 +37,7 @@ use Rattle.rules.specs.Load.{load}
 -- tables that are long enough
 abbrev pub ample : Lengths
 ample =
-    record { checkpoints = 100000; frames = 100000; store = 5000000000; parts = 100000; malformed = 4096; hints = 200000; confirmed = 100000 }
+    record { checkpoints = 100000; frames = 100000; store = 5000000000; parts = 100000; malformed = 4096; hints = 600000; confirmed = 300000 }
 
 -- tables that are too short for any list
 abbrev pub short : Lengths

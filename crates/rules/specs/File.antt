@@ -20,7 +20,7 @@ use Rattle.rules.specs.declared.Header.{Header}
 use Rattle.rules.specs.declared.Held.{Held}
 use Rattle.rules.specs.declared.Hint.{Hint}
 use Rattle.rules.specs.Tests.{isSome, Answer, Accepted, after, ask, firstNo}
-use Rattle.rules.specs.Values.{Frame, Index, Lengths, max32, defaultSpacing, defaultHints, used, complete, stated}
+use Rattle.rules.specs.Values.{Frame, Index, Lengths, max32, maxShortHints, defaultSpacing, defaultHints, used, complete, stated}
 use Rattle.rules.specs.Questions.{four}
 
 -- ---- the header
@@ -172,7 +172,7 @@ hasHinting x =
 
 -- the lowest version that carries the content
 unfoldable pub versionOf : Index → ℕ
-versionOf x = cond (hasConfirmed x) 3 (cond (hasHinting x) 2 1)
+versionOf x = cond (ltb maxShortHints (x .hinting .most)) 4 (cond (hasConfirmed x) 3 (cond (hasHinting x) 2 1))
 
 unfoldable pub headerOf : Index → Header
 headerOf x =
@@ -208,7 +208,7 @@ hintSection x =
     ++ (encode 4 (length (x .hinting .hints)) ++ (encode 4 0 ++ bytesOf encodeHint (x .hinting .hints))))))
     []
 
--- in version 3 the count, zero, and the confirmations
+-- from version 3 on the count, zero, and the confirmations
 unfoldable pub confirmedSection : Index → List ℕ
 confirmedSection x =
     cond (leb 3 (versionOf x))

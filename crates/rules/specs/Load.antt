@@ -20,7 +20,7 @@ use Rattle.rules.specs.declared.Held.{Held}
 use Rattle.rules.specs.declared.Hint.{Hint}
 use Rattle.rules.specs.declared.HintHeader.{HintHeader}
 use Rattle.rules.specs.Tests.{all, Ask, ask, firstNo, Answer, Refused, Accepted, after, bind}
-use Rattle.rules.specs.Values.{Frame, Scan, Hinting, Index, Lengths, maxMalformed, maxHints, maxInterval, max32, defaultSpacing, defaultHints, boundaries, frontierOf, counted, lastCheckpoint, sameKey}
+use Rattle.rules.specs.Values.{Frame, Scan, Hinting, Index, Lengths, maxMalformed, maxHints, maxShortHints, maxInterval, max32, defaultSpacing, defaultHints, boundaries, frontierOf, counted, lastCheckpoint, sameKey}
 use Rattle.rules.specs.Sections.{countsOk, Passed, begun, passed, checkpointOk, Filled, unfilled, filled, frameOk, partOk, reached, endingOk, risingOk, risen, ownLsn, anyLsn, hintLsn, hintOk, confirmedLsn, confirmationOk}
 use Rattle.rules.specs.Questions.{areaOk, question3}
 use Rattle.rules.specs.Hints.{thin, lastOnes}
@@ -84,7 +84,7 @@ fixedSize h =
 unfoldable pub headerNumber : Area → Header → ℕ → ℕ
 headerNumber a h left =
     firstNo
-    (ask (leb 1 (h .version) && leb (h .version) 3) 23 ∷ ask (leb (h .slot) 1) 24
+    (ask (leb 1 (h .version) && leb (h .version) 4) 23 ∷ ask (leb (h .slot) 1) 24
     ∷ ask (leb (h .flags) (cond (leb 2 (h .version)) 3 1) && eqb (h .zero15) 0) 25 ∷ ask (sameKey (keyOf h) (a .key)) 26
     ∷ ask (leb 1 (h .interval) && leb (h .interval) maxInterval) 27 ∷ ask (eqb (h .zero52) 0) 28 ∷ ask (leb (h .budget) max32) 29
     ∷ ask (eqb (h .zero68) 0) 28
@@ -109,9 +109,13 @@ decodeHintHeader b =
 abbrev pub noHintHeader : HintHeader
 noHintHeader = record { fingerprint = 0; spacing = defaultSpacing; most = defaultHints; count = 0; zero20 = 0 }
 
--- does version 2 add something? A version 3 does.
+-- does version 2 add something? A later version does.
 unfoldable pub adds : Header → HintHeader → Bool
-adds h g = hasFingerprint h || (ltb 0 (g .count) || (not (eqb (g .spacing) defaultSpacing && eqb (g .most) defaultHints) || eqb (h .version) 3))
+adds h g = hasFingerprint h || (ltb 0 (g .count) || (not (eqb (g .spacing) defaultSpacing && eqb (g .most) defaultHints) || leb 3 (h .version)))
+
+-- may a file of this version have the limit M? Version 4 has those that the versions before it cannot have
+unfoldable pub mostOk : Header → ℕ → Bool
+mostOk h most = cond (leb 4 (h .version)) (ltb maxShortHints most && leb most maxHints) (leb most maxShortHints)
 
 -- 20, 28, 36
 unfoldable pub hintNumber : Header → HintHeader → ℕ → ℕ
@@ -119,7 +123,7 @@ hintNumber h g left =
     firstNo
     (ask (leb 24 left) 20 ∷ ask (eqb (g .zero20) 0) 28
     ∷ ask
-    (all (adds h g ∷ (hasFingerprint h || eqb (g .fingerprint) 0) ∷ leb (g .most) maxHints ∷ leb (g .count) (g .most) ∷ leb (24 + 8 * g .count) left ∷ []))
+    (all (adds h g ∷ (hasFingerprint h || eqb (g .fingerprint) 0) ∷ mostOk h (g .most) ∷ leb (g .count) (g .most) ∷ leb (24 + 8 * g .count) left ∷ []))
     36 ∷ [])
 
 pub record HintSection : Type 0 where
@@ -138,13 +142,17 @@ readHintSection a h b =
     (read (record { header = noHintHeader; hints = [] }) b)
 
 -- ---- the confirmations
+-- may there be n confirmations? In version 3 one at least, beside a fingerprint; in version 4 none without a fingerprint
+unfoldable pub mayConfirm : Header → ℕ → Bool
+mayConfirm h n = cond (leb 4 (h .version)) (hasFingerprint h || eqb n 0) (hasFingerprint h && ltb 0 n)
+
 -- 20, 37; the count is at bytes 0 to 3, and bytes 4 to 7 are 0
 unfoldable pub confirmedNumber : Header → ℕ → List ℕ → ℕ
 confirmedNumber h most b =
     firstNo
     (ask (leb 8 (length b)) 20
     ∷ ask
-    (all (eqb (numberAt 4 b 4) 0 ∷ hasFingerprint h ∷ ltb 0 (numberAt 4 b 0) ∷ leb (numberAt 4 b 0) most ∷ leb (8 + 16 * numberAt 4 b 0) (length b) ∷ []))
+    (all (eqb (numberAt 4 b 4) 0 ∷ mayConfirm h (numberAt 4 b 0) ∷ leb (numberAt 4 b 0) most ∷ leb (8 + 16 * numberAt 4 b 0) (length b) ∷ []))
     37 ∷ [])
 
 abbrev pub readConfirmation : Area → ℕ → List ℕ → Answer (Read Confirmation)

@@ -29,7 +29,7 @@ numbersOk k budget = all (leb 1 k ∷ leb k maxInterval ∷ leb budget max32 ∷
 unfoldable pub scanRoom : Lengths → ℕ → ℕ → Bool
 scanRoom l b budget = all (leb b (l .checkpoints) ∷ leb b (l .frames) ∷ leb b (l .parts) ∷ leb budget (l .store) ∷ [])
 
--- and malformed 4,096, hints M + 65,536, confirmations M + 1
+-- and malformed 4,096, hints M + 262,144, confirmations M + 1
 unfoldable pub hintingRoom : Lengths → ℕ → Bool
 hintingRoom l most = all (leb (most + mergeRoom) (l .hints) ∷ leb (most + 1) (l .confirmed) ∷ [])
 

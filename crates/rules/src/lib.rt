@@ -6,12 +6,14 @@ pub const MAX_NEXT_ACCEPTABLE: u32 = 1166881;
 pub const MAX_FRAME_BYTES: u32 = 65536;
 // The most malformed LSNs of a list.
 pub const MAX_MALFORMED_WARNINGS: u32 = 4096;
-// The most that M may be.
-pub const MAX_HINTS: u32 = 65536;
+// The most that M may be, and the most in versions 1 to 3 of the file.
+pub const MAX_HINTS: u32 = 262144;
+
+pub const MAX_SHORT_HINTS: u32 = 65536;
 // The most hints of one delivered list, and of a hint recorder.
 pub const MAX_LIST: u32 = 65536;
 // The room that a hint table has above M.
-pub const MERGE_ROOM: u64 = 65536;
+pub const MERGE_ROOM: u64 = 262144;
 
 pub const MAX_INTERVAL: u32 = 65536;
 // The most that an area's end, or a budget, may be.

@@ -62,7 +62,7 @@ module _ (x : AreaIndex) (hints confirmed : List ℕ) where
     hinting-first {n = n} {o' = o'} h l p =
         rw (← sections-are, ← size-is, le-leb 2 v h, lt-leb 3 v l) (summed-both {r = []} {m = 0} p (nothing o' n))
 
-    -- version 3 has both
+    -- versions 3 and 4 have both
     pub hinting-both : {o : List ℕ} {w k n : Written} {o' o2 : List ℕ} → 3 ≤ v → Summed (hintBytes (hintHeaderOf x) hints) (24 + 8 * x .hints) o w k o'
         → Summed (confirmedBytes (x .confirmed) confirmed) (8 + 16 * x .confirmed) o' k n o2
         → Summed (hintSection (hintIndex x hints confirmed) ++ confirmedSection (hintIndex x hints confirmed)) (hintingSize x) o w n o2

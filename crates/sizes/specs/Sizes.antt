@@ -30,7 +30,7 @@ hasSizes s t =
     ∷ leb (s .parts) (length (t .parts)) ∷ leb (s .malformed) (length (t .malformed)) ∷ leb (s .hints) (length (t .hints))
     ∷ leb (s .confirmed) (length (t .confirmed)) ∷ [])
 
--- for a new list: 1, 2; M above 65,536 is lowered
+-- for a new list: 1, 2; M above 262,144 is lowered
 unfoldable pub newSizes : Area → ℕ → ℕ → ℕ → Answer TableSizes
 newSizes a k budget most =
     after (firstNo (ask (areaOk a) 1 ∷ ask (numbersOk k budget) 2 ∷ [])) (Accepted (sizesOf a k budget (min most maxHints)))

@@ -133,7 +133,7 @@ abbrev places : ℕ → Place
 places i =
     record {
       list = cond (eqb i 0) short whole;
-      room = record { checkpoints = 3; frames = 3; store = 5; parts = 3; malformed = 4096; hints = 67584; confirmed = 2049 };
+      room = record { checkpoints = 3; frames = 3; store = 5; parts = 3; malformed = 4096; hints = 264192; confirmed = 2049 };
     }
 
 pub all-cut : AllCut reading places
@@ -167,10 +167,10 @@ zeros-room a b c d e f g =
 
 -- as long as question 3 asks
 abbrev zeros : Tables
-zeros = zerosOf 72 24 5 72 16384 540672 32784
+zeros = zerosOf 72 24 5 72 16384 2113536 32784
 
 room-zeros : (i : ℕ) → roomOf zeros ≡ places i .room
-room-zeros i = zeros-room 72 24 5 72 16384 540672 32784
+room-zeros i = zeros-room 72 24 5 72 16384 2113536 32784
 
 abbrev tablePlaces : ℕ → TablePlace
 tablePlaces i = record { numbers = numbersFrom (places i .list); tables = tablesFrom (places i .list) zeros }
@@ -245,7 +245,7 @@ whole-bytes =
 pub lent : (i : ℕ) → LentIn (tablePlaces i .numbers) (tablePlaces i .tables)
 lent i =
     lent-zeros (places i .list) (sized→ (places i .list) (all-cut i .fits))
-    (test (eqb i 0) (λ e. rw e short-bytes) (λ e. rw e whole-bytes)) 72 24 5 72 16384 540672 32784
+    (test (eqb i 0) (λ e. rw e short-bytes) (λ e. rw e whole-bytes)) 72 24 5 72 16384 2113536 32784
 
 pub all-cut-in : AllCutIn reading tablePlaces
 all-cut-in i =
