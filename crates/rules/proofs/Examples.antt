@@ -1,7 +1,7 @@
 -- The definitions give what the examples should be. Assumes nothing.
 use Prim.Native.Nat.{ℕ}
 use mathlib.Core.Path.{refl}
-use Rattle.field.specs.Number.{encode, decode, numberAt, sameBytes}
+use Rattle.field.specs.Number.{encode, decode, numberAt, put, sameBytes}
 use Rattle.field.specs.Records.{bytesOf}
 use Rattle.fnv.specs.Fnv.{fnvFrom}
 use Rattle.rules.specs.Create.{new, bindFingerprint, recorder, hintRecorder}
@@ -10,6 +10,7 @@ use Rattle.rules.specs.RecorderExamples.{modeNumbers, checkpointNumbers,
 use Rattle.rules.specs.AbsorbExamples.{absorbedNumbers, absorbs}
 use Rattle.rules.specs.HintExamples.{fingerprintNumbers, fingerprints, additions, confirmations, hints}
 use Rattle.rules.specs.MergeExamples.{placesOf, scanNumbers, restNumbers, merges, partRule, files}
+use Rattle.rules.specs.VersionExamples.{versions}
 use Rattle.rules.specs.Examples.{numbersOf, knownNumbers, firstNumbers, hintNumbers, confirmedNumbers, planNumbers, hintedNumbers, indexNumbers, partNumbers, keptNumbers, Hold, starred, traps}
 use Rattle.rules.specs.File.{headerFields, fieldAt, readHeader, writeFields, encodeCheckpoint, decodeCheckpoint, encodeFrameHeader, encodeFrame, unsigned32, signed32, kindNumber, kindOf, encodeHeld, decodeHeld, encodeLsn, decodeLsn, encodeHint, decodeHint, encodeConfirmation, decodeConfirmation, orZero, endOrZero, bit, hasHinting, versionOf, headerOf, hintSection, confirmedSection, bodyOf, saved, savedLength, save}
 use Rattle.rules.specs.FirstRecord.{timeAt, firstRecord, recordNumber}
@@ -93,3 +94,8 @@ part-rule-hold = refl
 pub files-hold : Hold files
 unfolding evaluated
 files-hold = refl
+
+-- limits above 65,536, and version 4 of the file
+pub versions-hold : Hold versions
+unfolding evaluated put versions
+versions-hold = refl

@@ -20,3 +20,4 @@ pub mod RecorderExamples
 pub mod AbsorbExamples
 pub mod HintExamples
 pub mod MergeExamples
+pub mod VersionExamples

@@ -24,6 +24,10 @@ area1 = record { key = record { slot = 1; start = 2000; end = 2100; channels = 5
 abbrev pub multi : Index
 multi = indexOf area1 100 (checkpoint 0 0 0 ∷ []) none Unknown 2048 [] []
 
+-- an empty list of version 4
+abbrev pub long : Index
+long = emptyIndex (area 1000 1250) 100 100 8 65537
+
 -- both in one file: 28 bytes, 160 of three, 112 of multi
 abbrev pub pair : List ℕ
 pair = discBytes (three ∷ multi ∷ [])
@@ -64,6 +68,9 @@ discs =
     -- both lists, the list of one slot, that of the other
     ∷ example (opened pair) (0 ∷ 4 ∷ 2 ∷ [])
     ∷ example (opened (discBytes (three ∷ [])) ++ opened (discBytes (multi ∷ []))) (0 ∷ 4 ∷ 0 ∷ 0 ∷ 0 ∷ 2 ∷ [])
+    -- "each an ordinary list file": a body may be of version 4, 120 bytes
+    ∷ example (begins 16 (saveOne ample long 136)) (0 ∷ 1 ∷ 0 ∷ 0 ∷ 0 ∷ 0 ∷ 0 ∷ 0 ∷ 0 ∷ 16 ∷ 0 ∷ 0 ∷ 0 ∷ 120 ∷ 0 ∷ 0 ∷ 0 ∷ [])
+    ∷ example (opened (discBytes (long ∷ multi ∷ []))) (0 ∷ 1 ∷ 2 ∷ [])
     -- "Loading takes the areas of slots 0 and 1, asks question 1 of both (another slot gives 1)", before 54
     ∷ example
     (numberOf (loadDisc ample ample area1 (area 1000 1250) pair 32768) ∷ numberOf (loadDisc ample ample (area 1000 1250) (area 1000 1250) pair 32768)
