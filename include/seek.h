@@ -36,7 +36,7 @@
  *   frontier          how far a list reaches: the area's end where it is complete, else its last checkpoint's sector, else the area's start
  *   hint              a sector and the number of the first frame that starts in it, for jumps past the frontier
  *   spacing           the frames between two hints that are recorded. Usual: 8; 0 records none
- *   hint limit        the most hints, and confirmations, that a list keeps (M in docs/), at most 65,536. Usual: 2,048; 0 keeps none
+ *   hint limit        the most hints, and confirmations, that a list keeps (M in docs/), at most 262,144. Usual: 2,048; 0 keeps none
  *   confirmation      a hint's sector that a player has checked: its threshold and digest
  *   fingerprint       64 bits by which a player tells discs apart, such as the sum of the disc's table of contents. Saved with the list
  *   image id          64 bits by which a player tells the images of this session apart, such as a counter. Not saved
@@ -203,7 +203,7 @@ static inline const char *seek_text(uint32_t number)
     case SEEK_NO_FILE_SHORT: return "the file ends too early";
     case SEEK_NO_FILE_MAGIC: return "this is no list file";
     case SEEK_NO_FILE_SUM: return "the file's sum is wrong: it was changed or cut";
-    case SEEK_NO_FILE_VERSION: return "the file's version is not 1 to 3";
+    case SEEK_NO_FILE_VERSION: return "the file's version is not 1 to 4";
     case SEEK_NO_FILE_SLOT: return "the file's slot is not 0 or 1";
     case SEEK_NO_FILE_FLAGS: return "the file has flags that its version does not know";
     case SEEK_NO_FILE_AREA: return "the file is of another area";
@@ -247,8 +247,9 @@ typedef struct {
 
 /* ---- tables
  * A list's checkpoints, frames, frame bytes, held parts, malformed sectors, hints and confirmations lie in seven tables, each in the file's own
- * record layout (docs/FILE.md). seek_sizes and seek_file_sizes tell how many bytes each needs. A copy of a seek_list has a head of its own and shares
- * the tables: after a call that writes one of the two, the other is none.
+ * record layout (docs/FILE.md). seek_sizes and seek_file_sizes tell how many bytes each needs; the table of hints has room for 262,144 above the hint
+ * limit, in which hints are added and merged. A copy of a seek_list has a head of its own and shares the tables: after a call that writes one of the two,
+ * the other is none.
  */
 typedef struct {
     uint8_t *at;
@@ -620,7 +621,7 @@ static inline int seek_carve_hint_recorder(seek_hint_recorder *o, uint8_t *memor
 }
 
 /* ---- lists: each answers 0 or a refusal number. What a call tells through a pointer is 0 where it refuses. */
-/* An empty list in the tables of l, which seek_carve of seek_sizes makes. A hint limit above 65,536 is lowered to it. */
+/* An empty list in the tables of l, which seek_carve of seek_sizes makes. A hint limit above 262,144 is lowered to it. */
 static inline uint32_t seek_new(seek_list *l, const seek_area *a, uint32_t interval, uint64_t budget, uint32_t spacing, uint32_t hint_limit)
 {
     return seek_raw_new(l->head, SEEK_BLOCK, SEEK_AREA_(a), interval, budget, spacing, hint_limit, SEEK_LENT_SEVEN_(l));

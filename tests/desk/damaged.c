@@ -194,7 +194,7 @@ static void of_header(const File *f)
     put(&v, 12, 9, 1);
     write_bytes("22-slot-and-sum", v.bytes, f->end + 8);
     changed("23-version-0", *f, 8, 0, 4);
-    changed("23-version-4", *f, 8, 4, 4);
+    changed("23-version-5", *f, 8, 5, 4);
     changed("24-slot", *f, 12, 2, 1);
     changed("25-flag", *f, 14, 6, 1);
     changed("25-byte-15", *f, 15, 1, 1);
@@ -252,6 +252,7 @@ static void of_hinting(const File *f)
     cut("20-hint-header", *f, f->hinting + 23);
     changed("28-hint-header", *f, f->hinting + 20, 1, 4);
     changed("36-most", *f, f->hinting + 12, 65537, 4);
+    changed("36-most-of-version-4", *f, 8, 4, 4);
     changed("36-count", *f, f->hinting + 16, 2049, 4);
     cut("36-length", *f, f->hinting + 39);
     changed("36-number", *f, f->hinting + 28, 1166881, 4);
@@ -271,6 +272,9 @@ static void of_hinting(const File *f)
     v = *f;
     put(&v, f->hinting, 0, 8);
     changed("37-without-fingerprint", v, 14, 0, 1);
+    put(&v, 8, 4, 4);
+    put(&v, f->hinting + 12, 65537, 4);
+    changed("37-without-fingerprint-in-version-4", v, 14, 0, 1);
     cut("38-one-byte", *f, f->end + 1);
 }
 
@@ -301,6 +305,10 @@ static void right(const File *f, const File *whole)
     changed("lower-threshold", *f, f->confirmed + 12, 44, 4);
     changed("most-2", *f, f->hinting + 12, 2, 4);
     changed("other-hint", *f, f->hinting + 24, START + 5, 4);
+    /* the lowest hint limit of version 4 */
+    put(&v, 8, 4, 4);
+    changed("version-4", v, f->hinting + 12, 65537, 4);
+    v = *f;
     /* areas up to the last sectors: the key of the first gives no range, the tables of the second are large */
     put(&v, 24, 4294967296u, 8);
     changed("1-range", v, 20, 4294967295u, 4);

@@ -28,7 +28,7 @@ static uint64_t below(uint64_t n) { return random64() % n; }
 /* A number of any size: small, at a limit, or random. */
 static uint64_t number(void)
 {
-    static const uint64_t limits[] = {0, 1, 2, 8, 32, 50, 75, 255, 300, 1000, 1166880, 1166881, 1400, 65535, 65536, 4294967295u, 4294967296u, UINT64_MAX};
+    static const uint64_t limits[] = {0, 1, 2, 8, 32, 50, 75, 255, 300, 1000, 1166880, 1166881, 1400, 65535, 65536, 262144, 524296, 4294967295u, 4294967296u, UINT64_MAX};
     switch (below(4)) {
     case 0: return below(16);
     case 1: return limits[below(sizeof limits / sizeof *limits)] + below(3) - 1;

@@ -61,7 +61,7 @@ errors! {
     FileShort = 20, "the file ends too early";
     FileMagic = 21, "this is no list file";
     FileSum = 22, "the file's sum is wrong: it was changed or cut";
-    FileVersion = 23, "the file's version is not 1 to 3";
+    FileVersion = 23, "the file's version is not 1 to 4";
     FileSlot = 24, "the file's slot is not 0 or 1";
     FileFlags = 25, "the file has flags that its version does not know";
     FileArea = 26, "the file is of another area";

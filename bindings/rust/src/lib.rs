@@ -324,7 +324,7 @@ impl List {
     }
 
     /// An empty list: a checkpoint every `interval` sectors, at most `budget` bytes of held parts, a hint every `spacing` frames, and at most `hint_limit` hints and
-    /// confirmations, which is lowered to 65,536. Usual are 64, 1,048,576, 8 and 2,048.
+    /// confirmations, which is lowered to 262,144. Usual are 64, 1,048,576, 8 and 2,048.
     ///
     /// ```
     /// # use seek::{Area, Error, List};
