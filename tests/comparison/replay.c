@@ -1,5 +1,5 @@
 /* replay [--large]: the script language of tests/README.md over the player's library. Reads lines from standard input, makes each line's call through
- * seek.h and prints its answer; it judges nothing. --large: the tables of kind large.
+ * seek.h and prints its answer; it judges nothing. --large: the tables of kinds large, version4 and long.
  *
  * What a call may not change is copied before it and compared behind it: the blocks, and of each table what its records take up and a few bytes behind
  * them, or all of it where a line before lent a table short or changed a byte. A change is told at the end of the answer's first line. */
@@ -58,13 +58,13 @@ static uint8_t *block(int p, int t)
 
 static void set_rooms(int large)
 {
-    size_t boundaries = large ? 65536 : 1024, most = large ? 66000 : 16384;
+    size_t boundaries = large ? 65536 : 1024, most = large ? 262600 : 16384;
     int t;
     for (t = 0; t < TABLES; t++)
         room[t] = boundaries * width[t];
     room[2] = room[9] = large ? 1 << 20 : 131072;
     room[4] = 4096 * 4;
-    room[5] = (most + 65536) * 8;
+    room[5] = (most + 262144) * 8;
     room[6] = (most + 1) * 16;
     room[SEEN] = SEEK_HINT_LIST;
     output_most = large ? 1 << 23 : 262144;

@@ -2,7 +2,7 @@
  *
  * Tables lie in one block of memory with a known byte everywhere, between edges; the file ends at a page that cannot be read. After each call: what the
  * call may not write is as it was, or the answer ends with "changed" and what was. The edges of each table are compared after each call, all of the block
- * after each sixteenth case, or with the word whole after each. */
+ * after each sixty-fourth case, or with the word whole after each. */
 #define _DEFAULT_SOURCE
 #define _POSIX_C_SOURCE 200809L
 #include <inttypes.h>
@@ -14,8 +14,8 @@
 
 #include "seek.h"
 
-enum { TABLES = 7, EDGE = 64, EVERY = 16, OUT_MOST = 1 << 20, FILE_MOST = 1 << 22 };
-static const size_t most[TABLES] = {24 * 1024, 8 * 1024, 131072, 24 * 1024, 4 * 4096, 8 * 81920, 16 * 16385};
+enum { TABLES = 7, EDGE = 64, EVERY = 64, OUT_MOST = 1 << 20, FILE_MOST = 1 << 22 };
+static const size_t most[TABLES] = {24 * 1024, 8 * 1024, 131072, 24 * 1024, 4 * 4096, 8 * 524288, 16 * 262145};
 static const unsigned width[TABLES] = {24, 8, 1, 24, 4, 8, 16};
 
 static void stop(const char *why)
@@ -147,7 +147,7 @@ static void look(int s, int holds)
 static void look_at_all(void)
 {
     if (differs(0, block_size) && changed == NULL)
-        changed = "memory, by this case or one of the fifteen before it";
+        changed = "memory, by this case or one of the 63 before it";
     if (changed != NULL)
         memcpy(block, as_it_was, block_size);
 }

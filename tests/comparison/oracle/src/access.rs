@@ -2,8 +2,11 @@
 //! recorder, and asks the questions of document 01 that the original does not ask.
 
 use super::*;
+use crate::file::AreaNumbers;
 use crate::lent::Raw;
+use crate::script::number;
 use crate::text::{Sum, put, put_sum};
+use crate::version4::{self, SHORT};
 
 pub mod differences;
 pub mod names;
@@ -155,13 +158,115 @@ pub fn kinds(ix: &AreaIndex) -> String {
     list.iter().filter(|k| k.1).map(|k| k.0).collect::<Vec<_>>().join(",")
 }
 
-/// Whether loading would accept what the list holds: Ok, or the original's text.
-pub fn loadable(ix: &AreaIndex) -> Result<(), &'static str> {
+/// Whether loading would accept what the list holds: Ok, or the number.
+pub fn loadable(ix: &AreaIndex) -> Result<(), u32> {
     let area = Area::new(ix.key.slot, ix.key.start, ix.key.end, ix.key.channels);
-    match AreaIndex::from_bytes(&area, ix.key.image_sectors, &ix.to_bytes(), usize::MAX) {
-        Ok(_) => Ok(()),
-        Err(Error::InvalidArgument(text)) => Err(text),
+    loaded(&area, ix.key.image_sectors, &saved(ix), u64::MAX).map(|_| ())
+}
+
+// ---- limits above 65,536, which the original has not
+
+/// A list from a file: by the original, or of version 4 by the request's words. These are held to the original by every file of versions 1 to 3, and by the
+/// twin of a file of version 4.
+pub fn loaded(area: &Area, image: u64, bytes: &[u8], limit: u64) -> Result<AreaIndex, u32> {
+    let original =
+        |bytes: &[u8]| AreaIndex::from_bytes(area, image, bytes, limit as usize).map_err(|e| number(&e));
+    let found = version4::judge(&numbers(area, image), bytes);
+    if version4::version(bytes) != 4 {
+        let made = original(bytes);
+        assert_eq!(made.as_ref().err(), found.as_ref().err(), "the model of loading and the original differ");
+        if let (Ok(ix), Ok(h)) = (&made, found) {
+            assert_eq!(hinting(ix, h.header), h.limited(limit), "the model's hints and the original's differ");
+        }
+        return made;
     }
+    let made = found.map(|h| {
+        let mut ix = original(&without_hints(bytes, h.header)).unwrap_or_else(|n| panic!("refused with {n} without hints"));
+        let h = h.limited(limit);
+        (ix.hint_spacing, ix.max_hints, ix.fingerprint) = (h.spacing, h.most as usize, h.fingerprint);
+        (ix.samples, ix.confirmed) = (h.hints, h.confirmations);
+        ix
+    });
+    if let Some(twin) = version4::twin(bytes) {
+        let same = match (&made, original(&twin)) {
+            (Err(a), Err(b)) => *a == b,
+            (Ok(ix), Ok(twin)) => {
+                let most = twin.max_hints == ix.max_hints.min(SHORT as usize);
+                most && AreaIndex { max_hints: ix.max_hints, ..twin }.to_bytes() == ix.to_bytes()
+            }
+            _ => false,
+        };
+        assert!(same, "a file of version 4 and its twin differ");
+    }
+    made
+}
+
+fn numbers(area: &Area, image: u64) -> AreaNumbers {
+    let key = AreaKey::new(area, image);
+    let (start, end) = key.audio_sector_range();
+    let slot = u8::from(key.slot == crate::Slot::Multichannel);
+    AreaNumbers { slot, key_start: key.start, key_end: key.end, channels: key.channels, image, start, end }
+}
+
+fn hinting(ix: &AreaIndex, header: usize) -> version4::Hinting {
+    version4::Hinting {
+        spacing: ix.hint_spacing,
+        most: ix.max_hints as u32,
+        fingerprint: ix.fingerprint,
+        hints: ix.samples.clone(),
+        confirmations: ix.confirmed.clone(),
+        header,
+    }
+}
+
+/// The file of version 2 with the sections before the hint header, no hint and an M of 1.
+fn without_hints(bytes: &[u8], header: usize) -> Vec<u8> {
+    let mut out = bytes[..header].to_vec();
+    out[8] = 2;
+    out[14] &= 1;
+    out.extend_from_slice(&[0; 32]);
+    out[header + 12] = 1;
+    crate::file::mend(&mut out);
+    out
+}
+
+/// A list's file: the original's, or of version 4.
+pub fn saved(ix: &AreaIndex) -> Vec<u8> {
+    if ix.max_hints > SHORT as usize { version4::lengthened(ix.to_bytes()) } else { ix.to_bytes() }
+}
+
+/// A new list's M, which the original would lower to 65,536.
+pub fn raise(ix: &mut AreaIndex, most: u64) {
+    ix.max_hints = most.min(u64::from(version4::MOST)) as usize;
+}
+
+/// `merge` by the original, and hints and confirmations by the words beside it. Where both lists have very many confirmations the original would take
+/// minutes: these are then the words' alone.
+pub fn merged(own: &AreaIndex, other: &AreaIndex) -> Result<AreaIndex, Error> {
+    let mut new = own.clone();
+    let many = own.confirmed.len() as u64 * other.confirmed.len() as u64 > 1 << 28;
+    if many {
+        new.merge(&AreaIndex { confirmed: Vec::new(), ..other.clone() })?;
+    } else {
+        new.merge(other)?;
+    }
+    if !hints_clash(own, &other.samples) {
+        let hints = version4::added(&own.samples, &other.samples, (own.start, own.end), own.max_hints);
+        assert!(new.samples == hints, "the model's merged hints and the original's differ");
+    }
+    let keeps = own.fingerprint_checked && own.max_hints > 0;
+    let others: &[_] = if keeps { &other.confirmed } else { &[] };
+    let confirmed = version4::kept(&own.confirmed, others, own.max_hints);
+    assert!(many || new.confirmed == confirmed, "the model's merged confirmations and the original's differ");
+    new.confirmed = confirmed;
+    Ok(new)
+}
+
+/// `add_hints` by the original, and by the words beside it.
+pub fn add_hints(ix: &mut AreaIndex, list: Vec<(u32, u32)>) {
+    let hints = version4::added(&ix.samples, &list, (ix.start, ix.end), ix.max_hints);
+    ix.add_hints(list);
+    assert!(ix.samples == hints, "the model's added hints and the original's differ");
 }
 
 /// Whether two of the hints held and given, in the area, have one LSN and two numbers: 01 leaves
@@ -332,6 +437,17 @@ pub fn large(ix: &AreaIndex) -> Vec<&'static str> {
         ("65,536 hints", ix.samples.len() == 65_536),
         ("49,152 hints", ix.samples.len() == 49_152),
         ("65,536 confirmations", ix.confirmed.len() == 65_536),
+        ("M 65,536", ix.max_hints == 65_536),
+        ("M 65,537", ix.max_hints == 65_537),
+        ("M 262,143", ix.max_hints == 262_143),
+        ("M 262,144", ix.max_hints == 262_144),
+        ("65,537 hints", ix.samples.len() == 65_537),
+        ("196,608 hints", ix.samples.len() == 196_608),
+        ("262,143 hints", ix.samples.len() == 262_143),
+        ("262,144 hints", ix.samples.len() == 262_144),
+        ("65,537 confirmations", ix.confirmed.len() == 65_537),
+        ("262,143 confirmations", ix.confirmed.len() == 262_143),
+        ("262,144 confirmations", ix.confirmed.len() == 262_144),
     ];
     list.iter().filter(|k| k.1).map(|k| k.0).collect()
 }

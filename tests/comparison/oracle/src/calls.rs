@@ -12,6 +12,16 @@ pub struct Frame<'a> {
     pub bytes: &'a [u8],
 }
 
+/// The index of a file of version 4, which the original does not read.
+pub fn loaded(area: &crate::toc::Area, sectors: u64, file: &[u8]) -> AreaIndex {
+    access::loaded(area, sectors, file, u64::MAX).expect("a file of version 4 is refused")
+}
+
+/// The file of an index, of version 4 where its limit is above 65,536.
+pub fn saved(ix: &AreaIndex) -> Vec<u8> {
+    access::saved(ix)
+}
+
 /// A recorder in a cursor.
 #[derive(Clone)]
 pub struct Recorder(AreaCursor);

@@ -113,7 +113,7 @@ macro_rules! or_none {
 pub const KINDS: [Kind; 60] = [
     ("magic", |f, r| spoil(f, r, 0, 8)),
     ("version", |f, r| {
-        let v = *r.pick(&[0, 4, 5, 0x100, u32::MAX]);
+        let v = *r.pick(&[0, 5, 5, 0x100, u32::MAX]);
         set(f, 8, v)
     }),
     ("version 1 for more", |f, _| set(f, 8, 1)),

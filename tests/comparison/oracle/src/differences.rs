@@ -17,7 +17,7 @@ enum Source {
 
 use Source::{Not, Run};
 
-const ROWS: [(&str, Source); 24] = [
+const ROWS: [(&str, Source); 26] = [
     ("a part that starts before the last stored one", Run(earlier_part)),
     ("a part of the last start with another number or kind", Run(other_part)),
     ("a part of the last start with fewer bytes than the last part", Run(shorter_part)),
@@ -42,6 +42,8 @@ const ROWS: [(&str, Source); 24] = [
     ("questions 3 and 4", Run(unasked_list)),
     ("questions 5, 6, 13 and 40, and the rest of 7", Run(unasked_calls)),
     ("the cost of `plan`", Not("a time: bench/ measures it")),
+    ("a new list with an M above 65,536", Run(lowered)),
+    ("a file of version 4", Run(fourth_version)),
 ];
 
 /// Runs the rows. The table in the text `paper` must have exactly these, and `script` a comment with each.
@@ -376,4 +378,17 @@ fn unasked_calls() {
     assert_eq!((ix.samples.len(), reloaded(&ix).err()), (1, Some(36)));
     // 40: the file is as long as it is.
     assert_eq!(list(0, 1, 0, 0).to_bytes().len(), 112);
+}
+
+fn lowered() {
+    assert_eq!(list(0, 1, 0, 65_537).max_hints, 65_536);
+}
+
+/// The file of an empty list with an M of 65,537.
+fn fourth_version() {
+    let mut ix = list(0, 1, 0, 0);
+    ix.max_hints = 65_537;
+    let file = crate::version4::lengthened(ix.to_bytes());
+    let area = Area::new(Slot::TwoChannel, 0, 0, 0);
+    assert_eq!((file.len(), AreaIndex::from_bytes(&area, 0, &file, usize::MAX).map_err(|e| number(&e))), (120, Err(23)));
 }

@@ -20,7 +20,7 @@ fn batch(a: &Arguments, mut number: u32, out: &mut Vec<u8>, enough: impl Fn(u32,
         let at = out.len();
         loads += generate::script(kind, number, a.seed, a.small, out);
         keep_only(a, out, at);
-        if kind != generate::Kind::Load {
+        if !matches!(kind, generate::Kind::Load | generate::Kind::Long) {
             drop_outside(out, at);
         }
         number += 1;
@@ -341,6 +341,75 @@ const LARGE_ANSWERS: [(&str, &[u64]); 7] = [
     ("take", &[0]),
 ];
 
+/// What kind version4 reaches beside the bad input: accepted files, saved versions.
+const VERSION4: [&str; 11] = [
+    "load: then saved as version 2",
+    "load: then saved as version 3",
+    "load: then saved as version 4",
+    "load: with confirmations",
+    "load: with the flag, no confirmation",
+    "load: without the flag",
+    "reload: version 4, then 2",
+    "reload: version 4, then 3",
+    "reload: version 4, then 4",
+    "save: version 2",
+    "save: version 4",
+];
+const VERSION4_ANSWERS: [(&str, &[u64]); 7] = [
+    ("add_hints", &[0, 3, 4]),
+    ("load", &[0, 20, 21, 22, 23, 24, 25, 26, 27, 28, 29, 30, 31, 32, 33, 34, 35, 36, 37, 38]),
+    ("merge", &[0, 3, 4, 41, 42, 43]),
+    ("new", &[0]),
+    ("plan", &[0, 3, 4]),
+    ("reload", &[0]),
+    ("save", &[0, 3, 4, 40]),
+];
+const VERSION4_LISTS: [&str; 12] = [
+    "load: M 65,536",
+    "load: M 65,537",
+    "load: M 262,143",
+    "load: M 262,144",
+    "merge: M 65,537",
+    "merge: M 262,144",
+    "new: M 65,536",
+    "new: M 65,537",
+    "new: M 262,143",
+    "new: M 262,144",
+    "reload: M 65,537",
+    "reload: M 262,144",
+];
+
+/// What scripts of kind long reach.
+const LONG: [&str; 27] = [
+    "add_hints: 196,608 hints",
+    "add_hints: 262,143 hints",
+    "add_hints: 262,144 hints",
+    "add_hints: 65,537 hints",
+    "load: 262,143 confirmations",
+    "load: 262,143 hints",
+    "load: 262,144 confirmations",
+    "load: 262,144 hints",
+    "load: 65,537 confirmations",
+    "load: 65,537 hints",
+    "load: M 65,536",
+    "load: M 65,537",
+    "load: M 262,143",
+    "load: M 262,144",
+    "merge: 196,608 hints",
+    "merge: 262,143 confirmations",
+    "merge: 262,144 confirmations",
+    "merge: 262,144 hints",
+    "merge: 65,537 confirmations",
+    "new: M 65,537",
+    "new: M 262,143",
+    "new: M 262,144",
+    "reload: 196,608 hints",
+    "reload: 262,144 confirmations",
+    "reload: 262,144 hints",
+    "reload: 65,537 hints",
+    "reload: M 65,536",
+];
+
 /// What calls name in scripts of kind names: each name, and each boundary from both sides.
 const NAMES: [(&str, &[&str]); 2] = [
     (
@@ -466,6 +535,20 @@ fn missing_names(stats: &Stats, a: &Arguments) -> Vec<String> {
     if a.kinds.contains(&generate::Kind::Sectors) {
         out.extend(missing_sectors(stats));
     }
+    let noted = |kind: &str, name: &str, n: u64| (format!("{kind}: {name}"), n);
+    let mut notes: Vec<(String, u64)> = Vec::new();
+    if a.kinds.contains(&generate::Kind::Version4) {
+        out.extend(VERSION4.iter().filter(|w| !stats.versions.contains_key(**w)).map(|w| w.to_string()));
+        out.extend(VERSION4_LISTS.iter().filter(|w| !stats.large.contains_key(**w)).map(|w| w.to_string()));
+        notes.extend(generate::VERSION4_BAD.iter().map(|b| noted("bad", b.0, b.1)));
+        notes.extend(generate::VERSION4_BOUNDS.iter().map(|b| noted("bound", b.0, 0)));
+        notes.extend(generate::VERSION4_LIMITS.iter().map(|b| noted("bound", b.0, 0)));
+    }
+    if a.kinds.contains(&generate::Kind::Long) {
+        out.extend(LONG.iter().filter(|w| !stats.large.contains_key(**w)).map(|w| w.to_string()));
+        notes.extend(generate::LONG_BAD.iter().map(|b| noted("bad", b.0, b.1)));
+    }
+    out.extend(notes.into_iter().filter(|n| !stats.notes.contains_key(n)).map(|(note, n)| format!("{note}: {n}")));
     if a.kinds.contains(&generate::Kind::Names) {
         let all = NAMES.iter().flat_map(|(call, list)| list.iter().map(move |what| (*call, *what)));
         out.extend(all.filter(|b| !stats.branches.contains_key(b)).map(|(call, what)| format!("{call}: {what}")));
@@ -517,6 +600,11 @@ fn missing(stats: &Stats, a: &Arguments) -> Vec<String> {
     }
     if a.kinds.contains(&generate::Kind::Large) {
         for (call, list) in LARGE_ANSWERS {
+            list.iter().for_each(|&n| need(call, n));
+        }
+    }
+    if a.kinds.contains(&generate::Kind::Version4) {
+        for (call, list) in VERSION4_ANSWERS {
             list.iter().for_each(|&n| need(call, n));
         }
     }
@@ -608,6 +696,16 @@ fn tables(stats: &Stats) -> String {
         out += "\n| large | times |\n|---|---:|\n";
         for (what, count) in &stats.large {
             out += &format!("| {what} | {count} |\n");
+        }
+    }
+    if stats.versions.keys().any(|v| v.ends_with('4')) {
+        out += "\n| version 4 | times |\n|---|---:|\n";
+        for (what, count) in &stats.versions {
+            out += &format!("| {what} | {count} |\n");
+        }
+        out += "\n| file | answer | times |\n|---|---:|---:|\n";
+        for ((note, n), count) in stats.notes.iter().filter(|n| n.0.0.starts_with("b") && n.0.0.contains(": ")) {
+            out += &format!("| {note} | {n} | {count} |\n");
         }
     }
     if !stats.lent.is_empty() {
@@ -792,7 +890,7 @@ fn without_records(b: &[u8]) -> Vec<Vec<u8>> {
         i += 24;
         section(&mut take, &mut i, field, at(field), 8);
     }
-    if at(8) == 3 {
+    if at(8) >= 3 {
         let field = i;
         i += 8;
         section(&mut take, &mut i, field, at(field), 16);

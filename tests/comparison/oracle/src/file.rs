@@ -333,7 +333,9 @@ impl List {
     }
 
     pub fn version(&self) -> u32 {
-        if self.fingerprint.is_some() && !self.confirmations.is_empty() {
+        if self.most > 65_536 {
+            4
+        } else if self.fingerprint.is_some() && !self.confirmations.is_empty() {
             3
         } else if self.fingerprint.is_some() || !self.hints.is_empty() || (self.spacing, self.most) != (8, 2048) {
             2
@@ -413,6 +415,11 @@ impl List {
         }
     }
 
+    /// A limit that only version 4 has.
+    pub fn lengthen(&mut self, rng: &mut Rng) {
+        self.most = *rng.pick(&[65_537, 65_537, 65_538, 131_072, 200_000, 262_143, 262_144, 262_144]);
+    }
+
     pub fn encode(&self) -> File {
         let version = self.version();
         let mut b: Vec<u8> = Vec::new();
@@ -469,7 +476,7 @@ impl List {
             }
         }
         let confirmation_header = b.len();
-        if version == 3 {
+        if version >= 3 {
             put(&mut b, self.confirmations.len() as u32);
             put(&mut b, 0);
             for &(lsn, u, d) in &self.confirmations {

@@ -31,6 +31,17 @@ pub enum Kind {
     Names,
     /// Where the time bytes of sectors lie: `first_bytes`, `see_first`.
     Sectors,
+    /// Limits of 65,537 to 262,144 and files of version 4, whole and broken; few hints. All calls.
+    Version4,
+    /// The same with as many hints and confirmations as there may be.
+    Long,
+}
+
+impl Kind {
+    /// Are its tables the larger ones?
+    pub fn is_large(self) -> bool {
+        matches!(self, Kind::Large | Kind::Version4 | Kind::Long)
+    }
 }
 
 pub fn kinds(names: &str) -> Option<Vec<Kind>> {
@@ -47,6 +58,8 @@ pub fn kinds(names: &str) -> Option<Vec<Kind>> {
             "lent" => Some(vec![Kind::Lent]),
             "names" => Some(vec![Kind::Names]),
             "sectors" => Some(vec![Kind::Sectors]),
+            "version4" => Some(vec![Kind::Version4]),
+            "long" => Some(vec![Kind::Long]),
             "all" => {
                 Some(vec![Kind::Load, Kind::Load, Kind::Merge, Kind::Calls, Kind::Seams, Kind::Hints, Kind::Unrelated])
             }
@@ -88,8 +101,13 @@ macro_rules! say {
 }
 
 mod lent;
+mod long;
 mod names;
 pub mod sectors;
+mod version4;
+
+pub use long::BAD as LONG_BAD;
+pub use version4::{BAD as VERSION4_BAD, BOUNDS as VERSION4_BOUNDS, LIMITS as VERSION4_LIMITS};
 
 /// Appends script `number`; answers how many files it loads. `small` keeps files short.
 pub fn script(kind: Kind, number: u32, seed: u64, small: bool, out: &mut Vec<u8>) -> u64 {
@@ -107,6 +125,8 @@ pub fn script(kind: Kind, number: u32, seed: u64, small: bool, out: &mut Vec<u8>
         Kind::Lent => lent::lent(&mut s, &mut rng),
         Kind::Names => names::names(&mut s, &mut rng),
         Kind::Sectors => sectors::sectors(&mut s, &mut rng, number),
+        Kind::Version4 => version4::version4(&mut s, &mut rng),
+        Kind::Long => long::long(&mut s, &mut rng, number),
     }
     s.loads
 }
@@ -529,7 +549,7 @@ fn calls(s: &mut Script<'_>, rng: &mut Rng, small: bool) {
         if rng.chance(1, 10) {
             let (i, g) =
                 *rng.pick(&[(0, 0), (65_537, 0), (65_536, 0), (1, 1u64 << 32), (100, 131_073), (100, 131_072)]);
-            say!(s, "new {p} {i} {g} 8 {}", *rng.pick(&[0u64, 2048, 16_384, 16_385, 65_537]));
+            say!(s, "new {p} {i} {g} 8 {}", *rng.pick(&[0u64, 2048, 16_384, 16_385, 65_536]));
         }
         let budget = *rng.pick(&[0, 10, 100, 5000, 131_072]);
         let most = *rng.pick(&[0, 1, 2, 4, 10, 40, 2048, 4096]);
@@ -816,7 +836,7 @@ fn large_hints(s: &mut Script<'_>, rng: &mut Rng) {
     let a = AreaNumbers::new(0, 1000, 1000 + rng.range(200_000, 400_000) as u32, 2, 1 << 21);
     let k = rng.below(7);
     for p in 0..2 {
-        let most = *rng.pick(&[65_537, 65_536, 65_536, 65_535, 49_152, 2048, 4, 3, 2, 1, 0]);
+        let most = *rng.pick(&[65_536, 65_536, 65_536, 65_535, 49_152, 2048, 4, 3, 2, 1, 0]);
         fresh(s, p, &a, (65_536, 0, 8, most));
         say!(s, "fingerprint {p} 5");
         if rng.chance(1, 3) {
@@ -976,13 +996,13 @@ fn large_broken(s: &mut Script<'_>, rng: &mut Rng) {
         s.load("large", p, 1 << 21, &l.encode().bytes);
     }
     for _ in 0..12 {
-        let most = *rng.pick(&[65_536, 65_537, 65_537, 66_000, 66_001]);
+        let most = *rng.pick(&[65_536, 262_145, 262_145, 262_600, 262_601, u64::from(u32::MAX)]);
         if most > 65_536 {
             say!(s, "edit 0 12 10 {most}");
         }
         let short = *rng.pick(&[0, 0, 1, 8, 16]);
-        let (t, need) = *rng.pick(&[(5, 8 * (most + 65_536)), (6, 16 * (most + 1))]);
-        if most < 66_001 {
+        let (t, need) = *rng.pick(&[(5, 8 * (most + 262_144)), (6, 16 * (most + 1))]);
+        if most < 262_601 {
             say!(s, "lend 0 {t} {}", need - short);
         }
         match rng.below(5) {

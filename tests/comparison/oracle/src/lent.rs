@@ -1,13 +1,14 @@
 //! Lists and recorders as a program that lends tables holds them: a block of 24 numbers, and the bytes of each table in the
 //! file's layout. Questions 1 to 3 of them are asked in document 01's words; of 4 the original's loader is asked, by a file
-//! of the same numbers and bytes.
+//! of the same numbers and bytes, or where M is above 65,536 the model of version 4.
 
 use crate::audio::audio_sector_range;
 use crate::error::Slot;
 use crate::file::mend;
 use crate::script::Sizes;
-use crate::seek::AreaIndex;
+use crate::seek::access;
 use crate::toc::Area;
+use crate::version4;
 
 /// A place's tables: the list's seven, the recorder's four; the hint recorder's list.
 pub const WIDTHS: [usize; 12] = [24, 8, 1, 24, 4, 8, 16, 24, 8, 1, 24, 8];
@@ -44,6 +45,8 @@ pub fn edited_name(t: usize, at: u64) -> String {
 }
 
 const MALFORMED: u64 = 4096;
+/// What question 3 wants of hints above M, and the hints of a hint recorder's list.
+const ABOVE: u64 = 262_144;
 const HINTS: u64 = 65_536;
 
 /// The bytes of every table of a place.
@@ -51,7 +54,7 @@ pub fn rooms(s: &Sizes) -> [usize; 12] {
     let mut out = WIDTHS.map(|w| w * s.boundaries);
     (out[2], out[9]) = (s.store, s.store);
     out[4] = 4 * MALFORMED as usize;
-    out[5] = 8 * (s.most + HINTS as usize);
+    out[5] = 8 * (s.most + ABOVE as usize);
     out[6] = 16 * (s.most + 1);
     out[SEEN] = 8 * HINTS as usize;
     out
@@ -59,7 +62,7 @@ pub fn rooms(s: &Sizes) -> [usize; 12] {
 
 /// The bytes that question 3 asks of a list's seven tables; a recorder has the first four.
 pub fn needs(boundaries: u64, budget: u64, most: u64) -> [u64; 7] {
-    [24 * boundaries, 8 * boundaries, budget, 24 * boundaries, 4 * MALFORMED, 8 * (most + HINTS), 16 * (most + 1)]
+    [24 * boundaries, 8 * boundaries, budget, 24 * boundaries, 4 * MALFORMED, 8 * (most + ABOVE), 16 * (most + 1)]
 }
 
 /// Question 3.
@@ -156,7 +159,7 @@ impl Raw {
         if audio_sector_range(&self.area(), w[4]) != (w[5], w[6]) {
             return None;
         }
-        Some(AreaIndex::from_bytes(&self.area(), w[4], &self.file(), usize::MAX).is_ok())
+        Some(access::loaded(&self.area(), w[4], &self.file(), u64::MAX).is_ok())
     }
 
     /// The file of its numbers and bytes. Frame bytes that are not there are 0; a frame longer than any has none.
@@ -164,7 +167,14 @@ impl Raw {
         let w = &self.words;
         let [n, f, h, m, s, c] = [11, 12, 13, 14, 15, 16].map(|i| self.count(i));
         let plain = s == 0 && w[20] == 0 && (w[9] as u32, w[10] as u32) == (8, 2048);
-        let version: u32 = if c > 0 { 3 } else { 2 - u32::from(plain) };
+        let long = w[10] as u32 > version4::SHORT;
+        let version: u32 = if long {
+            4
+        } else if c > 0 {
+            3
+        } else {
+            2 - u32::from(plain)
+        };
         let mut b = b"SBSEEKIX".to_vec();
         let four = |b: &mut Vec<u8>, v: u64| b.extend_from_slice(&(v as u32).to_le_bytes());
         four(&mut b, u64::from(version));
@@ -197,7 +207,7 @@ impl Raw {
             }
             b.extend_from_slice(&self.tables[5][..8 * s]);
         }
-        if version == 3 {
+        if version >= 3 {
             four(&mut b, w[16]);
             four(&mut b, 0);
             b.extend_from_slice(&self.tables[6][..16 * c]);

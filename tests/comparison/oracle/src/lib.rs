@@ -13,6 +13,7 @@ mod script;
 mod sectors;
 mod stubs;
 mod text;
+mod version4;
 include!(concat!(env!("OUT_DIR"), "/modules.rs"));
 
 use std::io::{BufRead, BufReader, BufWriter, Write};
@@ -28,14 +29,14 @@ pub fn jump(ix: &seek::AreaIndex, area: (u64, u64), frame: u32) -> u64 {
 }
 
 const USAGE: &str = "\
-oracle run [--show] [--large]            answers the script on standard input; --large: over the tables of kind large
+oracle run [--show] [--large]            answers the script on standard input; --large: over the tables of kinds large, version4 and long
 oracle gen [options]                     writes scripts, and on standard error how often each answer occurred
 oracle fixed SCRIPT ANSWERS [options]    writes a list of scripts and the file of their answers
 oracle sources                           which texts of the original were built: length and FNV-1a
 oracle differences PAPER SCRIPT          runs the rows of docs/DIFFERENCES.md; PAPER is that text, SCRIPT names each row too
 oracle diff COUNT|SECONDSs REPLAY [options]  runs fresh scripts through both, until the first difference
 oracle disc COUNT|SECONDSs PROGRAM [options] runs fresh disc files through the model and PROGRAM (tests/models/disc), until the first difference
-options: --seed N  --kinds load,merge,calls,seams,hints,unrelated,large,lent,names,sectors|all  --scripts N  --files N  --small  --only CALL,CALL,..
+options: --seed N  --kinds load,merge,calls,seams,hints,unrelated,large,lent,names,sectors,version4,long|all  --scripts N  --files N  --small  --only CALL,CALL,..
          --notes (counts by kind of damage)  --counts FILE (diff: tables of the counts)  --unchecked (no answer need occur)
          --shrink SECONDS (30: how long a script that shows a difference is made smaller)
 ";
@@ -82,7 +83,7 @@ fn arguments(words: impl Iterator<Item = String>) -> Option<Arguments> {
             "--seed" => a.seed = words.next()?.parse().ok()?,
             "--kinds" => {
                 a.kinds = generate::kinds(&words.next()?)?;
-                if a.kinds.contains(&generate::Kind::Large) {
+                if a.kinds.iter().any(|k| k.is_large()) {
                     script::enlarge();
                 }
             }

@@ -13,6 +13,7 @@ use crate::seek::access::{self, Twelve};
 use crate::seek::{AreaIndex, Assembling, HintRecorder, IndexOptions, Recorder, first_record};
 use crate::text::{Sum, parse_hex, parse_number, put, put_hex, put_sum, sum_of};
 use crate::toc::Area;
+use crate::version4::version;
 
 /// Places that hold a list each.
 pub const PLACES: usize = 4;
@@ -22,8 +23,8 @@ pub struct Sizes {
     pub boundaries: usize,
     /// Bytes in a place's store of frame bytes.
     pub store: usize,
-    /// The largest M whose tables of hints (M + 65,536) and confirmations (M + 1) a place has; those of kind `large` have
-    /// room for an M above 65,536, so that question 4 is asked of it.
+    /// The largest M whose tables of hints (M + 262,144) and confirmations (M + 1) a place has; those of kind `large` have
+    /// room for an M above 262,144, so that question 4 is asked of it.
     pub most: usize,
     /// The longest output that `save` lends.
     pub output: usize,
@@ -36,11 +37,11 @@ pub struct Sizes {
 const USUAL: Sizes =
     Sizes { boundaries: 1024, store: 131_072, most: 16_384, output: 262_144, line: 532_480, given_hints: 4_096 };
 
-/// The sizes of kind `large`.
+/// The sizes of kinds `large`, `version4` and `long`.
 const LARGE: Sizes = Sizes {
     boundaries: 65_536,
     store: 1_048_576,
-    most: 66_000,
+    most: 262_600,
     output: 8_388_608,
     line: 16_777_216,
     given_hints: 65_537,
@@ -48,7 +49,7 @@ const LARGE: Sizes = Sizes {
 
 static LARGER: std::sync::atomic::AtomicBool = std::sync::atomic::AtomicBool::new(false);
 
-/// From here on the tables are those of kind `large`.
+/// From here on the tables are those of kinds `large`, `version4` and `long`.
 pub fn enlarge() {
     LARGER.store(true, std::sync::atomic::Ordering::Relaxed);
 }
@@ -173,6 +174,8 @@ pub struct Stats {
     pub large: BTreeMap<String, u64>,
     /// Sectors by length and header byte, of the lengths of the table.
     pub sectors: BTreeSet<(usize, u8)>,
+    /// Accepted files and saved lists, by what version 4 has to do with them.
+    pub versions: BTreeMap<String, u64>,
     pub loads: u64,
 }
 
@@ -238,7 +241,7 @@ pub fn sections(b: &[u8]) -> Sections {
     let v = at(8);
     let (most, s) = if v >= 2 { (Some(at(i + 12)), Some(at(i + 16))) } else { (None, None) };
     let confirmations = i + 24 + 8 * s.unwrap_or(0) as usize;
-    let c = (v == 3).then(|| at(confirmations));
+    let c = (v >= 3).then(|| at(confirmations));
     Sections { version: v, budget: u64::from(at(56)), f: at(40), most, s, c, confirmations }
 }
 
@@ -1086,8 +1089,11 @@ impl Oracle {
         Some(match made {
             Err(e) => Number(number(&e), Vec::new()),
             Ok(_) if budget > u64::from(u32::MAX) => Number(2, Vec::new()),
-            Ok(ix) if self.too_large(p, &ix) => Number(3, Vec::new()),
-            Ok(ix) => {
+            Ok(mut ix) => {
+                access::raise(&mut ix, most);
+                if self.too_large(p, &ix) {
+                    return Some(Number(3, Vec::new()));
+                }
                 self.places[p].list = Some(ix);
                 accepted()
             }
@@ -1102,10 +1108,10 @@ impl Oracle {
             self.count_before("load", p, 1);
             return Some(Number(1, Vec::new()));
         }
-        let found = AreaIndex::from_bytes(&a.area(), a.image, &bytes, usize::try_from(limit).ok()?);
+        let found = access::loaded(&a.area(), a.image, &bytes, limit);
         Some(match found {
-            Err(e) => {
-                let n = wrong_number(self.wrong, number(&e), &bytes);
+            Err(n) => {
+                let n = wrong_number(self.wrong, n, &bytes);
                 if self.wrong == 14 {
                     self.places[p].list = None;
                 }
@@ -1135,6 +1141,7 @@ impl Oracle {
     fn count_accepted(&mut self, ix: &AreaIndex, bytes: &[u8]) {
         let file = sections(bytes);
         let (version, f) = (file.version, file.f);
+        self.count_version(ix, &file, bytes);
         let (most, s, c) = (file.most, file.s, file.c);
         let budget = file.budget;
         let did = access::limited(ix, budget, f, most, s, c);
@@ -1155,10 +1162,26 @@ impl Oracle {
         if did == [false; 5] {
             add("limit takes nothing");
             // Each accepted file is the saved form of its list.
-            assert_eq!(ix.to_bytes(), bytes, "an accepted file does not save as itself");
+            assert!(access::saved(ix) == bytes, "an accepted file does not save as itself");
         }
         for kind in access::kinds(ix).split(',') {
             add(kind);
+        }
+    }
+
+    /// Counts an accepted file of version 4.
+    fn count_version(&mut self, ix: &AreaIndex, file: &Sections, bytes: &[u8]) {
+        if file.version != 4 {
+            return;
+        }
+        let flag = bytes[14] & 2 != 0;
+        let what = match (flag, file.c) {
+            (false, _) => "without the flag",
+            (true, Some(0)) => "with the flag, no confirmation",
+            _ => "with confirmations",
+        };
+        for name in [format!("load: {what}"), format!("load: then saved as version {}", version(&access::saved(ix)))] {
+            *self.stats.versions.entry(name).or_default() += 1;
         }
     }
 
@@ -1169,7 +1192,7 @@ impl Oracle {
         }
         let no = self.refused("save", &[List(p)]);
         let Some(ix) = &self.places[p].list else { return Some(Nothing) };
-        let bytes = ix.to_bytes();
+        let bytes = access::saved(ix);
         let mut output = vec![0xa5u8; len];
         let mut values = Vec::new();
         let n = match no {
@@ -1177,6 +1200,9 @@ impl Oracle {
             _ if bytes.len() > len => 40,
             _ => 0,
         };
+        if n == 0 && self.count {
+            *self.stats.versions.entry(format!("save: version {}", version(&bytes))).or_default() += 1;
+        }
         if n == 0 {
             output[..bytes.len()].copy_from_slice(&bytes);
             if self.wrong == 10 {
@@ -1204,13 +1230,19 @@ impl Oracle {
         }
         let Some(ix) = &self.places[p].list else { return Some(Nothing) };
         let a = self.places[p].area?;
-        let bytes = ix.to_bytes();
+        let bytes = access::saved(ix);
         if bytes.len() > sizes().output {
             return Some(Number(40, Vec::new()));
         }
-        match AreaIndex::from_bytes(&a.area(), a.image, &bytes, usize::try_from(limit).ok()?) {
-            Err(e) => panic!("a saved list does not load: {}", number(&e)),
-            Ok(new) => self.places[p].list = Some(new),
+        match access::loaded(&a.area(), a.image, &bytes, limit) {
+            Err(n) => panic!("a saved list does not load: {n}"),
+            Ok(new) => {
+                if self.count {
+                    let (before, after) = (version(&bytes), version(&access::saved(&new)));
+                    *self.stats.versions.entry(format!("reload: version {before}, then {after}")).or_default() += 1;
+                }
+                self.places[p].list = Some(new);
+            }
         }
         Some(accepted())
     }
@@ -1223,11 +1255,10 @@ impl Oracle {
             return no;
         }
         let (Some(own), Some(other)) = (&self.places[p].list, &self.places[q].list) else { return Nothing };
-        let mut new = own.clone();
-        match new.merge(other) {
+        match access::merged(own, other) {
             Err(e) => Number(number(&e), Vec::new()),
-            Ok(()) if access::hints_clash(own, access::samples(other)) => Outside,
-            Ok(()) => match access::loadable(&new) {
+            Ok(_) if access::hints_clash(own, access::samples(other)) => Outside,
+            Ok(mut new) => match access::loadable(&new) {
                 Ok(()) => {
                     let branches = if self.count { access::merge_branches(own, other) } else { Vec::new() };
                     access::wrong_merge(self.wrong, &mut new, own, other);
@@ -1236,8 +1267,8 @@ impl Oracle {
                     accepted()
                 }
                 // Only a part that 01's added test passes over.
-                Err("seek index frame under assembly invalid") => Outside,
-                Err(text) => panic!("a merged list does not load: {text}"),
+                Err(32) => Outside,
+                Err(n) => panic!("a merged list does not load: {n}"),
             },
         }
     }
@@ -1254,7 +1285,7 @@ impl Oracle {
         for what in if self.count { access::large_hints(ix, &list, branch) } else { Vec::new() } {
             *self.stats.large.entry(format!("add_hints: {what}")).or_default() += 1;
         }
-        ix.add_hints(list);
+        access::add_hints(ix, list);
         self.branch("add_hints", branch);
         accepted()
     }

@@ -31,6 +31,9 @@ pub fn source(rng: &mut Rng, small: bool) -> Source {
             while small && l.encode().bytes.len() > 600 {
                 l = generate::list(rng, &reading, sizes().most as u64);
             }
+            if rng.chance(1, 4) {
+                l.lengthen(rng);
+            }
             lists.push(l);
         }
         (area, lists)
@@ -165,7 +168,7 @@ pub fn load_case(rng: &mut Rng, src: &Source, counts: &mut Counts) -> Result<Cas
     }
     let found = load.find(read);
     let held = (0..2).filter_map(|s| found.list(s, found.number != 0));
-    let length = 4 + held.map(|ix| 12 + ix.to_bytes().len() as u64).sum::<u64>();
+    let length = 4 + held.map(|ix| 12 + access::saved(ix).len() as u64).sum::<u64>();
     load.out = output_for(rng, length);
     let (answer, saved) = load.answer(&found);
     counts.load(&load, &found, &ways);
@@ -220,7 +223,7 @@ pub fn pair_case(rng: &mut Rng, src: &Source, counts: &mut Counts) -> Option<Cas
         return None;
     }
     let edits = [0, 1].map(|i| if rng.chance(1, 4) { Some(edit(rng, &areas[i], &loaded[i])) } else { None });
-    let saved = [loaded[0].to_bytes(), loaded[1].to_bytes()];
+    let saved = [access::saved(&loaded[0]), access::saved(&loaded[1])];
     let (first, second) = (saved[0].len() as u64, saved[1].len() as u64);
     let lengths = [28 + first + second, 16 + first, 16 + second];
     let near = *rng.pick(&lengths);

@@ -7,6 +7,7 @@ use super::cases::Ways;
 use super::model::{Found, Load, Pair, area_ok, wides};
 use crate::script::sections;
 use crate::seek::access;
+use crate::version4::version;
 
 /// How often each thing occurred, by group and name.
 #[derive(Default)]
@@ -55,11 +56,26 @@ impl Counts {
         };
         self.add("accepted", which);
         let mut same = true;
-        for e in entries {
+        for e in entries.clone() {
             let bytes = &load.file[e.offset as usize..(e.offset + e.length) as usize];
             let Some(ix) = found.list(e.slot as usize, false) else { continue };
-            same &= ix.to_bytes() == bytes;
+            let saved = access::saved(ix);
+            same &= saved == bytes;
             let x = sections(bytes);
+            if x.version == 4 {
+                let at = entries.clone().position(|b| b.slot == e.slot);
+                let beside = entries.clone().filter(|b| version(&load.file[b.offset as usize..]) == 4).count();
+                self.add(
+                    "a body of version 4",
+                    match (slots.len(), beside, at) {
+                        (1, ..) => "the only one",
+                        (_, 2, _) => "one of two",
+                        (_, _, Some(0)) => "the first, beside another version",
+                        _ => "the second, beside another version",
+                    },
+                );
+                self.add("a body of version 4", format!("then saved as version {}", version(&saved)));
+            }
             let took = access::limited(ix, x.budget, x.f, x.most, x.s, x.c);
             for name in LIMITS.iter().zip(took).filter(|l| l.1).map(|l| *l.0) {
                 self.add("the limit", name);
@@ -133,6 +149,11 @@ pub fn expected() -> Vec<(&'static str, String)> {
     need("accepted", &["the list of slot 0", "the list of slot 1", "both lists"]);
     need("accepted", &["saved as its own bytes", "saved as other bytes, by the limit"]);
     need("the limit", &LIMITS);
+    need("a body of version 4", &["the only one", "one of two"]);
+    need("a body of version 4", &["the first, beside another version", "the second, beside another version"]);
+    for n in 2..=4 {
+        need("a body of version 4", &[&format!("then saved as version {n}")]);
+    }
     need("not saved", &["a checked mark", "an image id"]);
     need(
         "both bodies fail",

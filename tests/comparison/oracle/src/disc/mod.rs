@@ -55,7 +55,7 @@ fn differing(program: &str, cases: &[Case]) -> Result<Vec<(usize, String)>, Stri
 /// Of the cases around these, the shortest that differs by itself.
 fn shortest(program: &str, cases: &[Case], found: &[(usize, String)]) -> Result<(usize, String), String> {
     let program = format!("{program} whole");
-    let mut at: Vec<usize> = found.iter().take(400).flat_map(|f| f.0.saturating_sub(15)..=f.0).collect();
+    let mut at: Vec<usize> = found.iter().take(400).flat_map(|f| f.0.saturating_sub(63)..=f.0).collect();
     at.sort_unstable();
     at.dedup();
     let mut best: Option<(usize, String)> = None;

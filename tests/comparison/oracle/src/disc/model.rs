@@ -1,15 +1,14 @@
-//! The calls for disc files in the words of change request 14. The original has none of them: it judges the bodies and gives the bytes of the lists.
+//! The calls for disc files in the words of change request 14. The original has none of them: it judges the bodies and gives the bytes of the lists, but for version 4.
 
 use crate::error::Slot;
 use crate::file::AreaNumbers;
-use crate::script::number;
 use crate::seek::{AreaIndex, access};
 use crate::text::{put, put_hex, sum_of};
 use crate::toc::Area;
 
 pub const MAX32: u64 = u32::MAX as u64;
 /// The room of each table of the program, in bytes: checkpoints, frames, frame bytes, parts, malformed LSNs, hints, confirmations.
-pub const ROOM: [u64; 7] = [24 * 1024, 8 * 1024, 131_072, 24 * 1024, 4 * 4096, 8 * 81_920, 16 * 16_385];
+pub const ROOM: [u64; 7] = [24 * 1024, 8 * 1024, 131_072, 24 * 1024, 4 * 4096, 8 * 524_288, 16 * 262_145];
 /// The longest output of the program.
 pub const OUTPUT: u64 = 1 << 20;
 
@@ -102,18 +101,18 @@ pub fn area_ok(a: &AreaNumbers, slot: u8) -> bool {
     a.slot == slot && a.start <= a.end && a.end <= MAX32
 }
 
-/// A body by the original: the list, or one of 20 to 38.
+/// A body by the original, or of version 4 by its model: the list, or one of 20 to 38.
 pub fn body(a: &AreaNumbers, bytes: &[u8], limit: u64) -> Result<AreaIndex, u32> {
     let slot = if a.slot == 0 { Slot::TwoChannel } else { Slot::Multichannel };
     let area = Area::new(slot, a.key_start, a.key_end, a.channels);
-    AreaIndex::from_bytes(&area, a.image, bytes, limit as usize).map_err(|e| number(&e))
+    access::loaded(&area, a.image, bytes, limit)
 }
 
 /// The bytes of each table that a list needs, by question 3.
 pub fn needs(ix: &AreaIndex) -> [u64; 7] {
     let (boundaries, budget, most) = access::sizes(ix);
     let (b, m) = (boundaries as u64, most as u64);
-    [24 * b, 8 * b, budget as u64, 24 * b, 4 * 4096, 8 * (m + 65_536), 16 * (m + 1)]
+    [24 * b, 8 * b, budget as u64, 24 * b, 4 * 4096, 8 * (m + 262_144), 16 * (m + 1)]
 }
 
 pub fn enough(lent: &[u64; 7], need: &[u64; 7]) -> bool {
@@ -236,7 +235,8 @@ impl Load {
                 access::put_list(&mut t, ix);
             }
         }
-        let saved: Vec<(u64, Vec<u8>)> = (0..2).filter_map(|s| held(s).map(|ix| (s as u64, ix.to_bytes()))).collect();
+        let saved: Vec<(u64, Vec<u8>)> =
+            (0..2).filter_map(|s| held(s).map(|ix| (s as u64, access::saved(ix)))).collect();
         let lists: Vec<(u64, &[u8])> = saved.iter().map(|l| (l.0, &l.1[..])).collect();
         // Two lists are saved in either order.
         let mut answer = None;

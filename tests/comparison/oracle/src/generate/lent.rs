@@ -132,7 +132,7 @@ fn edit_list(s: &mut Script<'_>, rng: &mut Rng, p: usize, l: &List) {
         9 => edit_record(s, rng, p, 6, counts[5], 8),
         10 => {
             let most = *rng.pick(&[counts[4], counts[5], 1]) as u64;
-            edit(s, p, HEAD, 10, *rng.pick(&[most.saturating_sub(1), 0, 65_537]));
+            edit(s, p, HEAD, 10, *rng.pick(&[most.saturating_sub(1), 0, 262_145, u64::from(u32::MAX)]));
         }
         11 => {
             let i = rng.below(6);
