@@ -929,8 +929,8 @@ fn shrink(replay: &str, lines: Vec<Vec<u8>>, time: Duration) -> Vec<Vec<u8>> {
             put_hex(&mut l, bytes);
             l
         };
-        // Records first.
-        'records: while Instant::now() < until {
+        // Records first, where a copy of the file for each of them is not too much.
+        'records: while Instant::now() < until && bytes.len() <= 1 << 16 {
             for mut less in without_records(&bytes) {
                 mend(&mut less);
                 let mut lines = best.clone();
