@@ -355,6 +355,14 @@ const VERSION4: [&str; 11] = [
     "save: version 2",
     "save: version 4",
 ];
+const VERSION4_LENT: [&str; 6] = [
+    "a list's confirmations: exactly long enough",
+    "a list's confirmations: one record short",
+    "a list's hints: exactly long enough",
+    "a list's hints: one byte short",
+    "a list's hints: one record short",
+    "edit: 4 by word 10 of a list's head",
+];
 const VERSION4_ANSWERS: [(&str, &[u64]); 7] = [
     ("add_hints", &[0, 3, 4]),
     ("load", &[0, 20, 21, 22, 23, 24, 25, 26, 27, 28, 29, 30, 31, 32, 33, 34, 35, 36, 37, 38]),
@@ -489,6 +497,13 @@ fn missing_sectors(stats: &Stats) -> Vec<String> {
     never.chain(refused.map(|n| format!("see_first: {n}"))).chain(lacks).collect()
 }
 
+/// Tables of hints of a list that keeps none, which need room for what a merge may bring all the same.
+const NO_HINTS: [&str; 3] = [
+    "a list's hints, M 0: exactly long enough",
+    "a list's hints, M 0: one byte short",
+    "a list's hints, M 0: one record short",
+];
+
 /// What lines of kind lent are to lend and edit, as the oracle counts it.
 fn lent_names() -> Vec<String> {
     let mut out = Vec::new();
@@ -496,6 +511,7 @@ fn lent_names() -> Vec<String> {
         let short = if width > 1 { &["one byte short", "one record short"][..] } else { &["one byte short"] };
         out.extend(["exactly long enough"].iter().chain(short).map(|how| format!("{name}: {how}")));
     }
+    out.extend(NO_HINTS.map(str::to_string));
     let asked = LENT.iter().filter(|c| c.1.contains(&4)).map(|c| c.0).chain(OF_ONE_LIST);
     out.extend(asked.map(|call| format!("{call}: 3 before 4")));
     for call in ["merge", "absorb"] {
@@ -540,6 +556,13 @@ fn missing_names(stats: &Stats, a: &Arguments) -> Vec<String> {
     if a.kinds.contains(&generate::Kind::Version4) {
         out.extend(VERSION4.iter().filter(|w| !stats.versions.contains_key(**w)).map(|w| w.to_string()));
         out.extend(VERSION4_LISTS.iter().filter(|w| !stats.large.contains_key(**w)).map(|w| w.to_string()));
+        let lent = VERSION4_LENT.iter().chain(&NO_HINTS);
+        out.extend(lent.filter(|w| !stats.lent.contains_key(**w)).map(|w| w.to_string()));
+        let kept =
+            [("merge", "confirmations kept"), ("confirm", "a new one"), ("hint", "a confirmed one, another is nearer")];
+        out.extend(
+            kept.iter().filter(|b| !stats.branches.contains_key(b)).map(|(call, what)| format!("{call}: {what}")),
+        );
         notes.extend(generate::VERSION4_BAD.iter().map(|b| noted("bad", b.0, b.1)));
         notes.extend(generate::VERSION4_BOUNDS.iter().map(|b| noted("bound", b.0, 0)));
         notes.extend(generate::VERSION4_LIMITS.iter().map(|b| noted("bound", b.0, 0)));

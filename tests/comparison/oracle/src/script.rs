@@ -705,7 +705,8 @@ impl Oracle {
                 _ => continue,
             };
             if (q == p || t == lent::SEEN) && (n != need || need > 0) {
-                self.count_lent(format!("{}: {how}", lent::NAMES[t]));
+                let none = if t == 5 && need == 8 * 262_144 { ", M 0" } else { "" };
+                self.count_lent(format!("{}{none}: {how}", lent::NAMES[t]));
             }
         }
     }

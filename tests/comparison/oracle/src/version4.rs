@@ -60,22 +60,14 @@ impl<'a> Rest<'a> {
 
 /// 20 to 38 of a file of versions 1 to 4, asked in 01's order; of a file that passes, its hints.
 pub fn judge(a: &AreaNumbers, file: &[u8]) -> Result<Hinting, u32> {
-    let Some(n) = file.len().checked_sub(8) else { return Err(20) };
-    let mut rest = Rest { body: &file[..n], at: 80.min(n) };
+    let Some(end) = file.len().checked_sub(8) else { return Err(20) };
     header(a, file)?;
+    let mut rest = Rest { body: &file[..end], at: 80 };
     let (complete, interval) = (file[14] & 1 == 1, u64::from(four(file, 32)));
     let last = records(a, &mut rest, interval)?;
-    let (end_threshold, end_malformed) = (four(file, 64), eight(file, 72));
-    let end_bad =
-        end_threshold < last.0 || end_threshold > LIM || end_malformed < last.1 || end_malformed > a.end - a.start;
-    match (complete, end_bad, end_threshold != 0 || end_malformed != 0) {
-        (true, true, _) => return Err(34),
-        (false, _, true) => return Err(28),
-        _ => {}
-    }
-    let counted = if complete { end_malformed } else { last.1 };
-    let n = u64::from(four(file, 36));
-    let frontier = if complete { a.end } else { a.start + n.saturating_sub(1) * interval };
+    let counted = end_state(a, file, complete, last)?;
+    let read = u64::from(four(file, 36)).saturating_sub(1) * interval;
+    let frontier = if complete { a.end } else { a.start + read };
     malformed(a, &mut rest, frontier, counted)?;
     let mut found = Hinting {
         spacing: 8,
@@ -88,6 +80,18 @@ pub fn judge(a: &AreaNumbers, file: &[u8]) -> Result<Hinting, u32> {
     hint_section(a, file, &mut rest, &mut found)?;
     confirmation_section(a, file, &mut rest, &mut found)?;
     if rest.left() == 0 { Ok(found) } else { Err(38) }
+}
+
+/// 34, or 28 of a list that is not complete. How many malformed sectors are counted in all.
+fn end_state(a: &AreaNumbers, file: &[u8], complete: bool, last: (u32, u64)) -> Result<u64, u32> {
+    let (threshold, malformed) = (four(file, 64), eight(file, 72));
+    let bad = threshold < last.0 || threshold > LIM || malformed < last.1 || malformed > a.end - a.start;
+    match (complete, bad, threshold != 0 || malformed != 0) {
+        (true, true, _) => Err(34),
+        (true, ..) => Ok(malformed),
+        (false, _, true) => Err(28),
+        (false, ..) => Ok(last.1),
+    }
 }
 
 /// 21 to 30: the header.
@@ -123,46 +127,48 @@ fn header(a: &AreaNumbers, file: &[u8]) -> Result<(), u32> {
     if counts && fixed <= end as u64 - 80 { Ok(()) } else { Err(30) }
 }
 
-/// 31 to 33: checkpoints, frames, parts. The last checkpoint's threshold and malformed count.
-fn records(a: &AreaNumbers, rest: &mut Rest<'_>, interval: u64) -> Result<(u32, u64), u32> {
-    let [n, f, h] = [36, 40, 44].map(|at| u64::from(four(rest.body, at)));
-    let (mut last, mut backs) = ((0, 0), Vec::new());
-    for j in 0..n {
+/// 31: the checkpoints; threshold, malformed count and back of each.
+fn checkpoints(rest: &mut Rest<'_>, interval: u64) -> Result<Vec<(u32, u64, u64)>, u32> {
+    let mut all: Vec<(u32, u64, u64)> = Vec::new();
+    for j in 0..u64::from(four(rest.body, 36)) {
         let c = rest.take(24)?;
-        let (threshold, back, counted) = (four(c, 0), four(c, 4), eight(c, 8));
-        let read = j * interval;
-        if threshold < last.0 || threshold > LIM || counted < last.1 || counted > read || u64::from(back) > read {
+        let (threshold, back, counted) = (four(c, 0), u64::from(four(c, 4)), eight(c, 8));
+        let (before, read) = (all.last().map_or((0, 0), |c| (c.0, c.1)), j * interval);
+        if threshold < before.0 || threshold > LIM || counted < before.1 || counted > read || back > read {
             return Err(31);
         }
-        last = (threshold, counted);
-        backs.push(u64::from(back));
+        all.push((threshold, counted, back));
     }
-    let (mut frames, mut used): (Vec<(u64, u32)>, u64) = (Vec::new(), 0);
-    for _ in 0..f {
+    Ok(all)
+}
+
+/// 32: the frames; start and length of each.
+fn frames(a: &AreaNumbers, rest: &mut Rest<'_>) -> Result<Vec<(u64, u32)>, u32> {
+    let (mut all, mut used): (Vec<(u64, u32)>, u64) = (Vec::new(), 0);
+    for _ in 0..four(rest.body, 40) {
         let header = rest.take(8)?;
         let (start, length) = (u64::from(four(header, 0)), four(header, 4));
         used += u64::from(length);
-        let rises = frames.last().is_none_or(|l| l.0 < start);
+        let rises = all.last().is_none_or(|l| l.0 < start);
         if !rises || start < a.start || start >= a.end || length > 65_536 || used > eight(rest.body, 56) {
             return Err(32);
         }
         rest.take(u64::from(length))?;
-        frames.push((start, length));
+        all.push((start, length));
     }
+    Ok(all)
+}
+
+/// 32 and 33: the parts. `starts` says of a checkpoint, a frame and a length whether the frame starts where the checkpoint's does and is as long.
+fn parts(rest: &mut Rest<'_>, starts: impl Fn(u32, u32, u32) -> bool) -> Result<(), u32> {
     // Of the last part: its checkpoint, frame, length, number and kind.
     let mut before: Option<[u32; 5]> = None;
-    for _ in 0..h {
+    for _ in 0..four(rest.body, 44) {
         let p = rest.take(24)?;
         let [at, frame, length, number, kind] = [0, 4, 8, 12, 20].map(|i| four(p, i));
         if kind > 1 {
             return Err(33);
         }
-        let starts = match (backs.get(at as usize), frames.get(frame as usize)) {
-            (Some(&back), Some(held)) => {
-                back > 0 && a.start + u64::from(at) * interval - back == held.0 && length <= held.1
-            }
-            _ => false,
-        };
         let follows = match before {
             None => frame == 0,
             Some(b) => {
@@ -170,12 +176,26 @@ fn records(a: &AreaNumbers, rest: &mut Rest<'_>, interval: u64) -> Result<(u32, 
                 at > b[0] && (same || u64::from(frame) == u64::from(b[1]) + 1)
             }
         };
-        if !starts || !follows || number >= LIM {
+        if !starts(at, frame, length) || !follows || number >= LIM {
             return Err(32);
         }
         before = Some([at, frame, length, number, kind]);
     }
-    if before.map_or(0, |b| u64::from(b[1]) + 1) == f { Ok(last) } else { Err(32) }
+    let held = before.map_or(0, |b| u64::from(b[1]) + 1);
+    if held == u64::from(four(rest.body, 40)) { Ok(()) } else { Err(32) }
+}
+
+/// 31 to 33: checkpoints, frames, parts. The last checkpoint's threshold and malformed count.
+fn records(a: &AreaNumbers, rest: &mut Rest<'_>, interval: u64) -> Result<(u32, u64), u32> {
+    let checkpoints = checkpoints(rest, interval)?;
+    let frames = frames(a, rest)?;
+    parts(rest, |at, frame, length| match (checkpoints.get(at as usize), frames.get(frame as usize)) {
+        (Some(&(_, _, back)), Some(held)) => {
+            back > 0 && a.start + u64::from(at) * interval - back == held.0 && length <= held.1
+        }
+        _ => false,
+    })?;
+    Ok(checkpoints.last().map_or((0, 0), |c| (c.0, c.1)))
 }
 
 /// 35: the malformed LSNs.

@@ -113,6 +113,10 @@ fn a_list(rng: &mut Rng, reading: &Reading) -> List {
     if rng.chance(5, 6) {
         l.lengthen(rng);
     }
+    if l.fingerprint.is_some() && rng.chance(5, 6) {
+        // One that the calls state.
+        l.fingerprint = Some(rng.below(2));
+    }
     l
 }
 
@@ -176,7 +180,11 @@ fn created(s: &mut Script<'_>, rng: &mut Rng, p: usize, reading: &Reading) {
 
 /// A table one record or a byte too short for its list, or as long as it must be; or a limit in the head that 4 refuses.
 fn lent(s: &mut Script<'_>, rng: &mut Rng, p: usize, l: &List) {
-    let most = u64::from(l.most);
+    let mut most = u64::from(l.most);
+    if rng.chance(1, 3) {
+        say!(s, "new {p} {} 0 8 0", l.k);
+        most = 0;
+    }
     if rng.chance(1, 3) {
         say!(s, "edit {p} 12 10 {}", *rng.pick(&[262_145, 262_600, 262_601, u64::from(u32::MAX)]));
     } else {
@@ -195,7 +203,14 @@ fn lent(s: &mut Script<'_>, rng: &mut Rng, p: usize, l: &List) {
 fn call(s: &mut Script<'_>, rng: &mut Rng, p: usize, reading: &Reading) {
     let (a, b) = (reading.area, reading.checkpoints.len());
     match rng.below(7) {
-        0 => say!(s, "fingerprint {p} {}", rng.below(2)),
+        0 => {
+            say!(s, "fingerprint {p} {}", rng.below(2));
+            say!(s, "merge {p} {}", (p + 1) % 3);
+            if a.end > a.start {
+                confirmations(s, rng, p, &a, 3);
+                hint_calls(s, rng, p, &a, reading.k, 2);
+            }
+        }
         1 if a.end > a.start => confirmations(s, rng, p, &a, 3),
         2 if a.end > a.start => {
             let list = hint_list(rng, &a, reading.k, 40);
