@@ -1,7 +1,7 @@
 //! Calls on one list that leave it as it is, or make it: three lists.
 
 use crate::limits::Work;
-use crate::lists::{List, their_area, theirs, three};
+use crate::lists::{List, longest, their_area, theirs, three};
 use crate::raw::BLOCK;
 use crate::report::{Report, Row};
 use crate::rounds::{Round, fresh, repeat};
@@ -20,6 +20,11 @@ pub fn rows(r: &Report) {
     }
     for (case, list) in three() {
         Case { r, case, list: &list, file: list.file() }.rows();
+    }
+    let case = "262,144 hints and confirmations";
+    if r.has(case) && r.wants_any(&["load", "save"]) {
+        let list = longest(0, true);
+        Case { r, case, list: &list, file: list.file() }.version4();
     }
 }
 
@@ -60,6 +65,16 @@ impl Case<'_> {
         if self.r.wants_any(&RECORDERS) {
             self.recorders(&theirs);
         }
+    }
+
+    /// Load and save of a file that the original does not read.
+    fn version4(&self) {
+        let (mut ours, a) = (Tables::new(self.list), self.list.area());
+        assert_eq!(Tables::loaded(self.list).file(), self.file, "{}: saved bytes differ", self.case);
+        let load = repeat(move || ours.load(black_box(&a), &self.file));
+        self.row("load", self.bytes(), false, load, None);
+        let (mut ours, mut out) = (Tables::loaded(self.list), vec![0; self.file.len()]);
+        self.row("save", self.bytes(), true, repeat(move || black_box(&mut ours).save(&mut out)), None);
     }
 
     /// Each byte of the file, once.

@@ -57,9 +57,26 @@ pub fn three() -> [(&'static str, List); 3] {
     [("7,400 checkpoints, 2,048 hints", hints), ("475,000 checkpoints", list(475_000, 1)), ("1 MiB of frame bytes", frames)]
 }
 
+/// A list of as many hints as there may be, every second one from `odd` on, and as many confirmations where asked for. The original reads no such file.
+pub fn longest(odd: u32, confirmations: bool) -> List {
+    let n = if confirmations { 262_144 } else { 0 };
+    List {
+        most: 262_144,
+        hints: (0..262_144).map(|i| close(2 * i + odd)).collect(),
+        confirmed: (0..n).map(|i| confirmation(2 * i + odd)).map(|(lsn, t, d)| (lsn, t % 1_000_000, d)).collect(),
+        fingerprint: Some(7),
+        ..list(25_000, 64)
+    }
+}
+
 /// Frame numbers that rise by 1 to 15.
 fn number(i: u32) -> u32 {
     8 * i + (i.wrapping_mul(0x9e37_79b9) >> 29)
+}
+
+/// The hint numbered `i`, of frame numbers that rise by 1 to 3: 524,288 of them are below the largest.
+fn close(i: u32) -> (u32, u32) {
+    (START + 3 * i, 2 * i + (i.wrapping_mul(0x9e37_79b9) >> 31))
 }
 
 /// The hint numbered `i`: every third sector.
@@ -86,6 +103,9 @@ impl List {
     }
 
     fn version(&self) -> u32 {
+        if self.most > 65_536 {
+            return 4;
+        }
         match (self.confirmed.is_empty(), self.fingerprint.is_none() && self.hints.is_empty() && self.most == 2048) {
             (false, _) => 3,
             (true, false) => 2,
@@ -148,9 +168,9 @@ impl List {
         }
     }
 
-    /// The original's index of the file.
+    /// The original's index of the file; of a limit above 65,536 the same index with that limit, which the original can hold and not read.
     pub fn theirs(&self) -> oracle::seek::AreaIndex {
-        theirs(&self.area(), &self.file())
+        if self.most > 65_536 { oracle::calls::loaded(&their_area(&self.area()), self.area().sectors, &self.file()) } else { theirs(&self.area(), &self.file()) }
     }
 }
 

@@ -1,7 +1,7 @@
 //! merge, adds and lacks.
 
 use crate::limits::Work;
-use crate::lists::{List, confirmation, hint, list};
+use crate::lists::{List, confirmation, hint, list, longest};
 use crate::raw::BLOCK;
 use crate::report::{Report, Row};
 use crate::rounds::{fresh, repeat, restored};
@@ -13,7 +13,33 @@ pub fn rows(r: &Report) {
         checkpoints(r);
         confirmations(r, 4_096, 2_048);
         confirmations(r, 65_536, 65_536);
+        both(r, "262,144 hints and 262,144, thinned from 524,288 to 196,608", &longest(0, false), &longest(1, false));
+        full(r);
     }
+}
+
+/// Two lists of as many hints and confirmations as there may be. The original would move its confirmations 262,144 times.
+fn full(r: &Report) {
+    let case = "262,144 hints and confirmations each, none common";
+    if !r.has(case) {
+        return;
+    }
+    let (mut start, other) = (Tables::loaded(&longest(0, true)), Tables::loaded(&longest(1, true)));
+    assert_eq!(start.fingerprint(7), 0, "the fingerprint is refused");
+    let mut ours = start.copy();
+    assert_eq!(ours.merge(&other), 0, "{case}: refused");
+    let copy = start.used()[5..].iter().chain(&other.used()[5..]).sum();
+    let least = Work { read: start.read() + other.read(), copy, ..Work::default() };
+    let (mut one, mut two) = (start.copy(), other.copy());
+    r.row(Row {
+        call: "merge",
+        case: case.to_string(),
+        ours: restored(ours, |t| t.restore(&start), |t| t.merge(&other)),
+        theirs: None,
+        four: Some(repeat(move || (one.four(), two.four()))),
+        least,
+        goal: None,
+    });
 }
 
 fn hints(from: u32, n: u32) -> Vec<(u32, u32)> {
@@ -66,7 +92,7 @@ fn both(r: &Report, case: &str, own: &List, other: &List) {
     let (mut ours, mut same) = (start.copy(), theirs.clone());
     assert_eq!(ours.merge(&other_ours), 0, "{case}: refused");
     assert!(same.merge(&other_theirs).is_ok(), "{case}: the original refuses");
-    assert_eq!(ours.file(), same.to_bytes(), "{case}: the merged lists differ");
+    assert_eq!(ours.file(), calls::saved(&same), "{case}: the merged lists differ");
     let (a, b) = (start.used(), other_ours.used());
     let common = a[0].min(b[0]);
     let rest = b[0] - common;

@@ -41,7 +41,7 @@ pub struct Tables {
 /// How many bytes each table of a list needs.
 fn sizes(list: &List) -> [usize; 7] {
     let (n, most) = (list.boundaries as usize, list.most as usize);
-    [24 * n, 8 * n, list.budget as usize, 24 * n, 4 * 4096, 8 * (most + 65_536), 16 * (most + 1)]
+    [24 * n, 8 * n, list.budget as usize, 24 * n, 4 * 4096, 8 * (most + 262_144), 16 * (most + 1)]
 }
 
 impl Tables {
