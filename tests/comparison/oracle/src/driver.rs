@@ -342,7 +342,8 @@ const LARGE_ANSWERS: [(&str, &[u64]); 7] = [
 ];
 
 /// What kind version4 reaches beside the bad input: accepted files, saved versions.
-const VERSION4: [&str; 11] = [
+const VERSION4: [&str; 12] = [
+    "load: a file of version 4, with a twin",
     "load: then saved as version 2",
     "load: then saved as version 3",
     "load: then saved as version 4",
@@ -386,6 +387,9 @@ const VERSION4_LISTS: [&str; 12] = [
     "reload: M 65,537",
     "reload: M 262,144",
 ];
+
+/// Files of kind long.
+const LONG_FILES: [&str; 2] = ["load: a file of version 4, by the model alone", "load: then saved as version 4"];
 
 /// What scripts of kind long reach.
 const LONG: [&str; 27] = [
@@ -568,6 +572,7 @@ fn missing_names(stats: &Stats, a: &Arguments) -> Vec<String> {
         notes.extend(generate::VERSION4_LIMITS.iter().map(|b| noted("bound", b.0, 0)));
     }
     if a.kinds.contains(&generate::Kind::Long) {
+        out.extend(LONG_FILES.iter().filter(|w| !stats.versions.contains_key(**w)).map(|w| w.to_string()));
         out.extend(LONG.iter().filter(|w| !stats.large.contains_key(**w)).map(|w| w.to_string()));
         notes.extend(generate::LONG_BAD.iter().map(|b| noted("bad", b.0, b.1)));
     }
@@ -721,7 +726,7 @@ fn tables(stats: &Stats) -> String {
             out += &format!("| {what} | {count} |\n");
         }
     }
-    if stats.versions.keys().any(|v| v.ends_with('4')) {
+    if stats.versions.keys().any(|v| v.contains('4')) {
         out += "\n| version 4 | times |\n|---|---:|\n";
         for (what, count) in &stats.versions {
             out += &format!("| {what} | {count} |\n");

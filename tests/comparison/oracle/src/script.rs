@@ -13,7 +13,7 @@ use crate::seek::access::{self, Twelve};
 use crate::seek::{AreaIndex, Assembling, HintRecorder, IndexOptions, Recorder, first_record};
 use crate::text::{Sum, parse_hex, parse_number, put, put_hex, put_sum, sum_of};
 use crate::toc::Area;
-use crate::version4::version;
+use crate::version4::{twin, version};
 
 /// Places that hold a list each.
 pub const PLACES: usize = 4;
@@ -1110,6 +1110,10 @@ impl Oracle {
             return Some(Number(1, Vec::new()));
         }
         let found = access::loaded(&a.area(), a.image, &bytes, limit);
+        if self.count && version(&bytes) == 4 {
+            let judge = if twin(&bytes).is_some() { "with a twin" } else { "by the model alone" };
+            *self.stats.versions.entry(format!("load: a file of version 4, {judge}")).or_default() += 1;
+        }
         Some(match found {
             Err(n) => {
                 let n = wrong_number(self.wrong, n, &bytes);
