@@ -13,7 +13,7 @@ use Rattle.rules.specs.Hints.{joinedHints, keepAll}
 use Rattle.rules_lacks.specs.Lacks.{sameHint}
 use Rattle.adds.specs.declared.compare.Turn.{Turn}
 use Rattle.adds.specs.Same.{sameList, sameConfirmation}
-use Rattle.adds.specs.Marks.{marked, mark, lsnFrom}
+use Rattle.adds.specs.Marks.{Marked, marked, lsnFrom}
 
 -- r is the LSN of hint i of the n hints xs, above every LSN where there is none
 pub record LsnAt (xs : List Hint) (n i r : ℕ) : Type 0 where
@@ -23,9 +23,11 @@ pub record LsnAt (xs : List Hint) (n i r : ℕ) : Type 0 where
 
 -- r is the next of n and m hints merged, from numbers i and j on
 pub record Turned (xs ys : List Hint) (n m i j : ℕ) (r : Turn) : Type 0 where
-  pub hint : Hint
-  pub next : marked (drop i xs) (drop j ys) ≡ mark (r .new) hint ∷ marked (drop (r .own) xs) (drop (r .other) ys)
-  pub number : hint .number ≡ r .number
+  pub first : Marked
+  pub next : marked (drop i xs) (drop j ys) ≡ first ∷ marked (drop (r .own) xs) (drop (r .other) ys)
+  pub new : first .new ≡ r .new
+  pub replaced : first .replaced ≡ r .replaced
+  pub number : first .hint .number ≡ r .number
   pub own : r .own ≤ n
   pub other : r .other ≤ m
   pub on : i + j < r .own + r .other

@@ -1,4 +1,4 @@
--- Two lists of hints merged, each hint marked as held or new, and what thinning the merged list to the held ones' number would drop.
+-- Two lists of hints together, each hint marked as held, new, or one whose number is replaced, and what thinning to the held ones' number would drop.
 use Prim.Native.Nat.{ℕ, _+_, _-_, _/_}
 use mathlib.Core.Bool.{Bool, true, false, _&&_, _||_, not, cond}
 use mathlib.Core.List.{List, [], _∷_}
@@ -12,9 +12,15 @@ use Rattle.adds.specs.declared.compare.Weighed.{Weighed}
 pub record Marked : Type 0 where
   pub hint : Hint
   pub new : Bool
+  -- has the other list another number at its LSN?
+  pub replaced : Bool
 
 abbrev pub mark : Bool → Hint → Marked
-mark b h = record { hint = h; new = b }
+mark b h = record { hint = h; new = b; replaced = false }
+
+-- the held x where the other list has y
+abbrev pub markBoth : Hint → Hint → Marked
+markBoth x y = record { hint = x; new = false; replaced = not (eqb (x .number) (y .number)) }
 
 unfoldable pub marksOf : Bool → List Hint → List Marked
 marksOf b [] = []
@@ -26,7 +32,7 @@ marked [] ys = marksOf true ys
 marked (x ∷ xs) [] = marksOf false (x ∷ xs)
 marked (x ∷ xs) (y ∷ ys) =
     cond (ltb (x .lsn) (y .lsn)) (mark false x ∷ marked xs (y ∷ ys))
-    (cond (ltb (y .lsn) (x .lsn)) (mark true y ∷ marked (x ∷ xs) ys) (mark false x ∷ marked xs ys))
+    (cond (ltb (y .lsn) (x .lsn)) (mark true y ∷ marked (x ∷ xs) ys) (markBoth x y ∷ marked xs ys))
 
 -- the LSN of the first, above every LSN where there is none
 unfoldable pub lsnFrom : List Hint → ℕ
@@ -42,24 +48,26 @@ lower p q = ltb (p .gap) (q .gap) || (eqb (p .gap) (q .gap) && ltb (p .place) (q
 
 -- before the first: the largest pair of a new one and the smallest of a held one are yet unknown
 abbrev pub unweighed : Weighed
-unweighed = record { place = 0; before = max32; new = pair 0 0; held = pair (max32 + 1) 0 }
+unweighed = record { place = 0; before = max32; new = pair 0 0; held = pair (max32 + 1) 0; replaced = false }
 
 -- one hint more
-unfoldable pub weighOne : Weighed → Bool → ℕ → Weighed
-weighOne s new number =
+unfoldable pub weighOne : Weighed → Bool → Bool → ℕ → Weighed
+weighOne s new replaced number =
     let g = rise (s .before) number in
     record {
       place = s .place + 1;
       before = number;
       new = cond (new && leb (s .new .gap) g) (pair g (s .place)) (s .new);
       held = cond (not new && ltb g (s .held .gap)) (pair g (s .place)) (s .held);
+      replaced = s .replaced || replaced;
     }
 
 unfoldable pub weighed : Weighed → List Marked → Weighed
 weighed s [] = s
-weighed s (m ∷ ms) = weighed (weighOne s (m .new) (m .hint .number)) ms
+weighed s (m ∷ ms) = weighed (weighOne s (m .new) (m .replaced) (m .hint .number)) ms
 
--- would n held hints change, at the limit most?
+-- would n held hints change, at the limit most? One whose number is replaced does, or is dropped
 unfoldable pub changedBy : Weighed → ℕ → ℕ → Bool
 changedBy w n most =
-    cond (eqb (w .place) n) false (cond (leb (w .place) most) true (cond (eqb n (most - most / 4)) (not (lower (w .new) (w .held))) true))
+    cond (w .replaced) true
+    (cond (eqb (w .place) n) false (cond (leb (w .place) most) true (cond (eqb n (most - most / 4)) (not (lower (w .new) (w .held))) true)))

@@ -24,17 +24,19 @@ pub struct Pair {
     pub place: u64,
 }
 
-// Of the hints passed so far: how many, the last one's number, the largest pair of a new one and the smallest of a held one.
+// Of the hints passed so far: how many, the last one's number, the largest pair of a new one, the smallest of a held one, and whether a held number is replaced.
 pub struct Weighed {
     pub place: u64,
     pub before: u32,
     pub new: Pair,
     pub held: Pair,
+    pub replaced: bool,
 }
 
-// The next hint of two lists merged: whether it is new, its number, and how many of each list are passed then.
+// The next hint of two lists: whether it is new, whether the other list has another number at its LSN, its number, and how many of each list are passed then.
 pub struct Turn {
     pub new: bool,
+    pub replaced: bool,
     pub number: u32,
     pub own: usize,
     pub other: usize,
@@ -64,6 +66,7 @@ fn next_hint(own: &[u8], n: usize, other: &[u8], m: usize, i: usize, j: usize) -
         let y = read_hint(other, j);
         return Turn {
             new: true,
+            replaced: false,
             number: y.number,
             own: i,
             other: j + 1,
@@ -73,13 +76,16 @@ fn next_hint(own: &[u8], n: usize, other: &[u8], m: usize, i: usize, j: usize) -
     if a < b {
         return Turn {
             new: false,
+            replaced: false,
             number: x.number,
             own: i + 1,
             other: j,
         };
     }
+    let y = read_hint(other, j);
     Turn {
         new: false,
+        replaced: x.number != y.number,
         number: x.number,
         own: i + 1,
         other: j + 1,
@@ -100,9 +106,9 @@ fn smaller(go: bool, p: Pair, q: Pair) -> Pair
     if and(go, p.gap < q.gap) { p } else { q }
 }
 
-fn weigh_one(s: Weighed, new: bool, number: u32) -> Weighed
+fn weigh_one(s: Weighed, new: bool, replaced: bool, number: u32) -> Weighed
     requires { ⌜ s .place < 18446744073709551615 ⌝ }
-    ensures { λ r. ⌜ r ≡ weighOne s new number ⌝ }
+    ensures { λ r. ⌜ r ≡ weighOne s new replaced number ⌝ }
 {
     let p = Pair {
         gap: rise_of(s.before, number),
@@ -115,6 +121,7 @@ fn weigh_one(s: Weighed, new: bool, number: u32) -> Weighed
         before: number,
         new: larger(new, p, a),
         held: smaller(!new, p, b),
+        replaced: or(s.replaced, replaced),
     }
 }
 
@@ -129,6 +136,7 @@ fn nothing_weighed() -> Weighed
             gap: MAX_U32 + 1,
             place: 0,
         },
+        replaced: false,
     }
 }
 
@@ -142,7 +150,7 @@ fn weigh(own: &[u8], n: usize, other: &[u8], m: usize) -> Weighed
     let mut j = 0;
     while i + j < n + m {
         let t = next_hint(own, n, other, m, i, j);
-        s = weigh_one(s, t.new, t.number);
+        s = weigh_one(s, t.new, t.replaced, t.number);
         i = t.own;
         j = t.other;
     }
@@ -158,6 +166,9 @@ fn lower_pair(p: Pair, q: Pair) -> bool
 fn changed_by(w: Weighed, n: u32, most: u32) -> bool
     ensures { λ r. ⌜ r ≡ changedBy w n most ⌝ }
 {
+    if w.replaced {
+        return true;
+    }
     if w.place == n as u64 {
         return false;
     }

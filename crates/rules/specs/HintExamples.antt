@@ -67,8 +67,20 @@ fingerprints =
 
 unfoldable pub additions : List Example
 additions =
-    -- "sorts by LSN"; "Of two hints at one LSN the held one stays, then the earlier in the list"
-    example (added (hinting Unknown 2048 (hintAt 100 10 ∷ []) []) (hintAt 100 11 ∷ hintAt 50 3 ∷ hintAt 50 4 ∷ [])) (0 ∷ 50 ∷ 3 ∷ 100 ∷ 10 ∷ [])
+    -- "sorts by LSN"; change request 5: "Of two hints at one LSN the one that arrives stays, and within one list the later pair"
+    example (added (hinting Unknown 2048 (hintAt 100 10 ∷ []) []) (hintAt 100 11 ∷ hintAt 50 3 ∷ hintAt 50 4 ∷ [])) (0 ∷ 50 ∷ 4 ∷ 100 ∷ 11 ∷ [])
+    -- the same list again changes nothing
+    ∷ example (added (hinting Unknown 2048 (hintAt 50 4 ∷ hintAt 100 11 ∷ []) []) (hintAt 100 11 ∷ hintAt 50 3 ∷ hintAt 50 4 ∷ [])) (0 ∷ 50 ∷ 4 ∷ 100 ∷ 11 ∷ [])
+    -- three at one LSN in one list
+    ∷ example (added (hinting Unknown 2048 [] []) (hintAt 70 1 ∷ hintAt 70 9 ∷ hintAt 70 5 ∷ [])) (0 ∷ 70 ∷ 5 ∷ [])
+    -- a replaced number is thinned by its own gap: 12 and 23 go, where 21 and 23 went
+    ∷ example (added three4 (hintAt 30 12 ∷ hintAt 40 21 ∷ hintAt 50 23 ∷ [])) (0 ∷ 10 ∷ 0 ∷ 20 ∷ 10 ∷ 40 ∷ 21 ∷ [])
+    -- and changes its neighbour's: 20 goes, and 19 as the first of the next smallest
+    ∷ example (added three4 (hintAt 20 19 ∷ hintAt 40 39 ∷ hintAt 50 58 ∷ [])) (0 ∷ 10 ∷ 0 ∷ 40 ∷ 39 ∷ 50 ∷ 58 ∷ [])
+    -- M = 1: replaced, then thinned
+    ∷ example (added (hinting Unknown 1 (hintAt 100 10 ∷ []) []) (hintAt 100 11 ∷ hintAt 200 12 ∷ [])) (0 ∷ 100 ∷ 11 ∷ [])
+    -- a refused list replaces nothing
+    ∷ example (added (hinting Unknown 2048 (hintAt 100 10 ∷ []) []) (hintAt 100 1166881 ∷ [])) (13 ∷ [])
     -- "add_hints drops LSNs outside the area"
     ∷ example
     (added (indexOf (area 100 1000) 100 [] none Unknown 2048 [] []) (hintAt 1000 4 ∷ hintAt 999 3 ∷ hintAt 100 2 ∷ hintAt 99 1 ∷ []))

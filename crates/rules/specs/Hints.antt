@@ -109,14 +109,14 @@ thin most hs = kept (λ i. leb (length hs - most) (rank hs i)) hs (length hs)
 unfoldable pub inArea : Area → ℕ → Bool
 inArea a n = leb (a .start) n && ltb n (a .end)
 
--- of two hints at one LSN the held one stays
-abbrev pub heldHint : Hint → Hint → Hint
-heldHint h new = h
+-- of two hints at one LSN the one that arrives stays
+abbrev pub arrivedHint : Hint → Hint → Hint
+arrivedHint h new = new
 
 -- each of the list in turn, LSNs outside the area dropped
 unfoldable pub insertAll : Area → List Hint → List Hint → List Hint
 insertAll a hs [] = hs
-insertAll a hs (x ∷ xs) = insertAll a (cond (inArea a (x .lsn)) (insert hintLsn heldHint x hs) hs) xs
+insertAll a hs (x ∷ xs) = insertAll a (cond (inArea a (x .lsn)) (insert hintLsn arrivedHint x hs) hs) xs
 
 -- above the limit M the list is thinned to M − M/4
 unfoldable pub limitedTo : ℕ → List Hint → List Hint

@@ -145,12 +145,17 @@ merges =
     ∷ example (numbersOf restNumbers (merge ample (hinting Unknown 2048 [] []) ample (hinting (Checked 9) 2048 [] []))) (0 ∷ 1 ∷ 9 ∷ 0 ∷ [])
     ∷ example (numbersOf restNumbers (merge ample (hinting (fingerprint.Held 9) 2048 [] []) ample (hinting (Checked 9) 2048 [] []))) (0 ∷ 1 ∷ 9 ∷ 0 ∷ [])
     ∷ example (numbersOf restNumbers (merge ample (hinting (Checked 9) 2048 [] []) ample (hinting (fingerprint.Held 9) 2048 [] []))) (0 ∷ 2 ∷ 9 ∷ 0 ∷ [])
-    -- "adds its hints and confirmations by their rules": the held hint stays; confirmations only beside the own checked mark
+    -- "adds its hints and confirmations by their rules": the other's hint stays (change request 5); confirmations only beside the own checked mark
     ∷ example
     (numbersOf restNumbers
     (merge ample (hinting (Checked 9) 2048 (hintAt 100 10 ∷ []) []) ample
     (hinting (fingerprint.Held 9) 2048 (hintAt 100 11 ∷ hintAt 200 12 ∷ []) (confirmedAt 10 5 1 ∷ []))))
-    (0 ∷ 2 ∷ 9 ∷ 0 ∷ 100 ∷ 10 ∷ 200 ∷ 12 ∷ 10 ∷ 5 ∷ 1 ∷ [])
+    (0 ∷ 2 ∷ 9 ∷ 0 ∷ 100 ∷ 11 ∷ 200 ∷ 12 ∷ 10 ∷ 5 ∷ 1 ∷ [])
+    -- the other way round the number of the first stays
+    ∷ example
+    (numbersOf restNumbers
+    (merge ample (hinting (fingerprint.Held 9) 2048 (hintAt 100 11 ∷ hintAt 200 12 ∷ []) []) ample (hinting (Checked 9) 2048 (hintAt 100 10 ∷ []) [])))
+    (0 ∷ 1 ∷ 9 ∷ 0 ∷ 100 ∷ 10 ∷ 200 ∷ 12 ∷ [])
     ∷ example
     (numbersOf restNumbers
     (merge ample (hinting (fingerprint.Held 9) 2048 [] []) ample (hinting (Checked 9) 2048 [] (confirmedAt 10 5 1 ∷ []))))

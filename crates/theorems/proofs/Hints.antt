@@ -5,7 +5,7 @@ use mathlib.Core.Logic.{⊎-elim, _⊎_, inl, inr}
 use mathlib.Core.List.{List, [], _∷_}
 use Prim.Native.Nat.{ℕ, zero, suc, _<_}
 use native.Mathlib.Omega.{arith}
-use borrow.Author.Tests.{eqb-true, eq-eqb, le-leb, lt-ltb}
+use borrow.Author.Tests.{eqb-true, eqb-false, le-leb, lt-ltb}
 use lib.Dec.{eqb, leb, ltb}
 use lib.ListN.{length, getD}
 use Rattle.rules.specs.declared.Area.{Area}
@@ -13,15 +13,15 @@ use Rattle.rules.specs.declared.Hint.{Hint}
 use Rattle.rules.specs.Tests.{each}
 use Rattle.rules.specs.Values.{Index, lim, maxList, noHint}
 use Rattle.rules.specs.Sections.{hintLsn, hintOk, hintsOk}
-use Rattle.rules.specs.Hints.{insert, heldHint, inArea, insertAll, question13, addHints}
-use Rattle.rules.proofs.Tests.{test, both, never, order, and-right}
+use Rattle.rules.specs.Hints.{insert, arrivedHint, inArea, insertAll, question13, addHints}
+use Rattle.rules.proofs.Tests.{test, both, order, and-right}
 use Rattle.rules.proofs.Walk.{rising-at, rising-rises}
 use Rattle.laws.proofs.hint_lists.Lists.{Sub, empty, same, skip, All, Passes, each→, all-at, all-insert, insert-none, insert-cases}
 use Rattle.laws.proofs.hint_lists.Hints.{insertAll-keeps, hints-insert}
 use Rattle.laws.proofs.hint_lists.Thinning as thinning
 use Rattle.laws.proofs.hint_lists.Closure.{hinting→}
 use Rattle.laws.proofs.hint_lists.Calls.{holds-of, four→}
-use Rattle.theorems.specs.Hints.{One, AtLsn, FirstAt, Joined, HintsJoined, ThinLength, ThinAmong}
+use Rattle.theorems.specs.Hints.{One, AtLsn, LastAt, Joined, HintsJoined, ThinLength, ThinAmong}
 
 -- ---- P holds of one, by cases
 abbrev pub Any : {A : Type 0} → (A → Type 0) → List A → Type 0
@@ -48,57 +48,64 @@ module _ (P : Hint → Type 0) where
   any-sub (same s) h = ⊎-elim (λ p. inl p) (λ r. inr (any-sub s r)) h
   any-sub (skip s) h = inr (any-sub s h)
 
-  -- what is held stays
-  any-insert : (x : Hint) (ys : List Hint) → Any P ys → Any P (insert hintLsn heldHint x ys)
-  any-insert x [] h = absurd h
-  any-insert x (y ∷ ys) h =
-      insert-cases hintLsn heldHint x y ys (Any P) (λ e. inr h) (λ e. ⊎-elim (λ p. inl p) (λ r. inr (any-insert x ys r)) h) (λ e. h)
+  -- what holds of a held one holds of one afterwards, if it goes over to a hint that arrives at its LSN
+  any-insert : (x : Hint) → ((y : Hint) → y .lsn ≡ x .lsn → P y → P x) → (ys : List Hint) → Any P ys → Any P (insert hintLsn arrivedHint x ys)
+  any-insert x f [] h = absurd h
+  any-insert x f (y ∷ ys) h =
+      insert-cases hintLsn arrivedHint x y ys (Any P) (λ e. inr h) (λ e. ⊎-elim (λ p. inl p) (λ r. inr (any-insert x f ys r)) h)
+      (λ e. ⊎-elim (λ p. inl (f y e p)) (λ r. inr r) h)
 
-  pub any-all : (a : Area) (hs list : List Hint) → Any P hs → Any P (insertAll a hs list)
+  any-new : (x : Hint) (ys : List Hint) → P x → Any P (insert hintLsn arrivedHint x ys)
+  any-new x [] p = rw (insert-none hintLsn arrivedHint x) (inl p)
+  any-new x (y ∷ ys) p = insert-cases hintLsn arrivedHint x y ys (Any P) (λ e. inl p) (λ e. inr (any-new x ys p)) (λ e. inl p)
+
+  pub any-all : (a : Area) (hs list : List Hint) → All (λ x. (y : Hint) → y .lsn ≡ x .lsn → P y → P x) list → Any P hs → Any P (insertAll a hs list)
   unfolding insertAll
-  any-all a hs [] h = h
-  any-all a hs (x ∷ xs) h = any-all a (cond (inArea a (x .lsn)) (insert hintLsn heldHint x hs) hs) xs (test (inArea a (x .lsn)) (λ e. rw e (any-insert x hs h)) (λ e. rw e h))
+  any-all a hs [] f h = h
+  any-all a hs (x ∷ xs) f h =
+      any-all a (cond (inArea a (x .lsn)) (insert hintLsn arrivedHint x hs) hs) xs (f .1) (test (inArea a (x .lsn)) (λ e. rw e (any-insert x (f .0) hs h)) (λ e. rw e h))
+
+all-places : (P : Hint → Type 0) (hs : List Hint) → ((i : ℕ) → i < length hs → P (getD hs i noHint)) → All P hs
+all-places P [] f = tt
+all-places P (x ∷ xs) f = (f zero (omega arith), all-places P xs (λ i l. f (suc i) (omega arith)))
 
 -- ---- LSNs
 abbrev HasLsn : ℕ → List Hint → Type 0
 HasLsn n hs = Any (λ x. x .lsn ≡ n) hs
 
--- that of an inserted hint is there
-lsn-insert : (n : ℕ) (x : Hint) (ys : List Hint) → x .lsn ≡ n → HasLsn n (insert hintLsn heldHint x ys)
-lsn-insert n x [] h = rw (insert-none hintLsn heldHint x) (inl h)
-lsn-insert n x (y ∷ ys) h = insert-cases hintLsn heldHint x y ys (HasLsn n) (λ e. inl h) (λ e. inr (lsn-insert n x ys h)) (λ e. inl (e ∙ h))
+-- an LSN stays where a hint arrives there
+lsns-stay : (n : ℕ) (list : List Hint) → All (λ x. (y : Hint) → y .lsn ≡ x .lsn → y .lsn ≡ n → x .lsn ≡ n) list
+lsns-stay n list = all-places (λ x. (y : Hint) → y .lsn ≡ x .lsn → y .lsn ≡ n → x .lsn ≡ n) list (λ i l y e p. sym e ∙ p)
 
-pub lsn-all : (n : ℕ) (a : Area) (hs list : List Hint) → inArea a n ≡ true → HasLsn n list → HasLsn n (insertAll a hs list)
+lsn-all : (n : ℕ) (a : Area) (hs list : List Hint) → inArea a n ≡ true → HasLsn n list → HasLsn n (insertAll a hs list)
 unfolding insertAll
 lsn-all n a hs [] i h = absurd h
 lsn-all n a hs (x ∷ xs) i h =
     ⊎-elim
     (λ (e : x .lsn ≡ n).
-    let j : inArea a (x .lsn) ≡ true = ap (inArea a) e ∙ i in rw j (any-all (λ y. y .lsn ≡ n) a (insert hintLsn heldHint x hs) xs (lsn-insert n x hs e)))
+    let j : inArea a (x .lsn) ≡ true = ap (inArea a) e ∙ i in
+    rw j (any-all (λ y. y .lsn ≡ n) a (insert hintLsn arrivedHint x hs) xs (lsns-stay n xs) (any-new (λ y. y .lsn ≡ n) x hs e)))
     (λ r. lsn-all n a _ xs i r) h
 
 -- and no other comes in
-all-places : (P : Hint → Type 0) (hs : List Hint) → ((i : ℕ) → i < length hs → P (getD hs i noHint)) → All P hs
-all-places P [] f = tt
-all-places P (x ∷ xs) f = (f zero (omega arith), all-places P xs (λ i l. f (suc i) (omega arith)))
-
 abbrev From : Area → List Hint → List Hint → ℕ → Type 0
 From a hs list n = AtLsn hs n ⊎ ((inArea a n ≡ true) × AtLsn list n)
 
 from-all : (a : Area) (hs list : List Hint) → All (λ x. From a hs list (x .lsn)) (insertAll a hs list)
 from-all a hs list =
     insertAll-keeps a (All (λ x. From a hs list (x .lsn))) (λ x. AtLsn list (x .lsn))
-    (λ x ys i p q. all-insert hintLsn heldHint x (λ x. From a hs list (x .lsn)) (inr (i, p)) (λ y e w. w) ys q) hs list
+    (λ x ys i p q. all-insert hintLsn arrivedHint x (λ x. From a hs list (x .lsn)) (inr (i, p)) (λ y e w. inr (i, p)) ys q) hs list
     (all-places (λ x. From a hs list (x .lsn)) hs (λ i l. inl (record { place = i; inside = l; holds = refl })))
     (all-places (λ x. AtLsn list (x .lsn)) list (λ i l. record { place = i; inside = l; holds = refl }))
 
 -- ---- where each comes from
 -- of an inserted hint and those held
-any-from : (P : Hint → Type 0) (x : Hint) (ys : List Hint) → Any P (insert hintLsn heldHint x ys) → P x ⊎ Any P ys
-any-from P x [] h = rw (insert-none hintLsn heldHint x) at h
+any-from : (P : Hint → Type 0) (x : Hint) (ys : List Hint) → Any P (insert hintLsn arrivedHint x ys) → P x ⊎ Any P ys
+any-from P x [] h = rw (insert-none hintLsn arrivedHint x) at h
 any-from P x (y ∷ ys) h =
-    insert-cases hintLsn heldHint x y ys (λ l. Any P l → P x ⊎ Any P (y ∷ ys)) (λ e g. g)
-    (λ e g. ⊎-elim (λ p. inr (inl p)) (λ r. ⊎-elim (λ p. inl p) (λ q. inr (inr q)) (any-from P x ys r)) g) (λ e g. inr g) h
+    insert-cases hintLsn arrivedHint x y ys (λ l. Any P l → P x ⊎ Any P (y ∷ ys)) (λ e g. g)
+    (λ e g. ⊎-elim (λ p. inr (inl p)) (λ r. ⊎-elim (λ p. inl p) (λ q. inr (inr q)) (any-from P x ys r)) g)
+    (λ e g. ⊎-elim (λ p. inl p) (λ r. inr (inr r)) g) h
 
 -- at one LSN there is one
 pub unique : (a : Area) (hs : List Hint) → hintsOk a hs ≡ true → (i j : ℕ) → i < length hs → j < length hs → getD hs i noHint .lsn ≡ getD hs j noHint .lsn
@@ -109,61 +116,105 @@ unique a hs ok i j l m e =
     (λ b. let w = rising-rises hintLsn hintOk (a .end) noHint (a .start) hs j i ok b l in let z : ⊥ = omega arith in absurd z)
     (λ b. ap (λ (k : ℕ). getD hs k noHint) b)
 
+abbrev Is : Hint → Hint → Type 0
+Is h y = y ≡ h
+
 -- of a list that rises
-module _ (a : Area) (all : List Hint) (ok : hintsOk a all ≡ true) (h : Hint) (m : Any (λ y. y ≡ h) all) where
+module _ (a : Area) (all : List Hint) (ok : hintsOk a all ≡ true) (h : Hint) (m : Any (Is h) all) where
   pub lsn-inside : inArea a (h .lsn) ≡ true
   unfolding hintsOk inArea
   lsn-inside =
-      let o = →one (λ y. y ≡ h) all m in
+      let o = →one (Is h) all m in
       let r = rising-at hintLsn hintOk (a .end) noHint (a .start) all (o .place) ok (o .inside) in
       let q : getD all (o .place) noHint .lsn ≡ h .lsn = ap hintLsn (o .holds) in
       both (le-leb (a .start) (h .lsn) (rw q at (r .0))) (lt-ltb (h .lsn) (a .end) (rw q at (r .1)))
 
-  -- where some of it, ws, have the LSN of h, h is one of them
-  one-there : (ws : List Hint) → ((k : Hint) → Any (λ y. y ≡ k) ws → Any (λ y. y ≡ k) all) → HasLsn (h .lsn) ws → Any (λ y. y ≡ h) ws
-  one-there ws s w =
-      let o = →one (λ y. y ≡ h) all m in
-      let v = →one (λ y. y .lsn ≡ h .lsn) ws w in
-      let k = getD ws (v .place) noHint in
-      let n = →one (λ y. y ≡ k) all (s k (any-at (λ y. y ≡ k) ws (v .place) (v .inside) refl)) in
-      let e : getD all (n .place) noHint .lsn ≡ getD all (o .place) noHint .lsn = ap hintLsn (n .holds) ∙ v .holds ∙ sym (ap hintLsn (o .holds)) in
-      any-at (λ y. y ≡ h) ws (v .place) (v .inside) (sym (n .holds) ∙ unique a all ok (n .place) (o .place) (n .inside) (o .inside) e ∙ o .holds)
+  one-at : (k : Hint) → Any (Is k) all → k .lsn ≡ h .lsn → k ≡ h
+  one-at k w e =
+      let o = →one (Is h) all m in let n = →one (Is k) all w in
+      sym (n .holds) ∙ unique a all ok (n .place) (o .place) (n .inside) (o .inside) (ap hintLsn (n .holds) ∙ e ∙ sym (ap hintLsn (o .holds))) ∙ o .holds
+
+  pub last-of : LastAt all h
+  unfolding hintsOk
+  last-of =
+      let o = →one (Is h) all m in
+      record {
+        place = o .place;
+        inside = o .inside;
+        is = o .holds;
+        last = λ i l w e. let r = rising-rises hintLsn hintOk (a .end) noHint (a .start) all (o .place) i ok l w in let q = ap hintLsn (o .holds) in omega arith;
+      }
+
+-- ---- whether a list has an LSN
+pub unmet-cons : (x : Hint) (xs : List Hint) (n : ℕ) → (x .lsn ≡ n → ⊥) → (AtLsn xs n → ⊥) → AtLsn (x ∷ xs) n → ⊥
+unmet-cons x xs n f g o = ⊎-elim (λ e. f e) (λ r. g (→one (λ y. y .lsn ≡ n) xs r)) (one→ (λ y. y .lsn ≡ n) (x ∷ xs) o)
+
+pub met-or-not : (hs : List Hint) (n : ℕ) → AtLsn hs n ⊎ (AtLsn hs n → ⊥)
+met-or-not [] n = inr (λ o. one→ (λ y. y .lsn ≡ n) [] o)
+met-or-not (x ∷ xs) n =
+    test (eqb (x .lsn) n) (λ e. inl (→one (λ y. y .lsn ≡ n) (x ∷ xs) (inl (eqb-true (x .lsn) n e))))
+    (λ e. ⊎-elim (λ o. inl (→one (λ y. y .lsn ≡ n) (x ∷ xs) (inr (one→ (λ y. y .lsn ≡ n) xs o)))) (λ f. inr (unmet-cons x xs n (eqb-false (x .lsn) n e) f)) (met-or-not xs n))
+
+-- a hint whose LSN the list does not have stays
+pub unmet-stays : (a : Area) (hs list : List Hint) (h : Hint) → (AtLsn list (h .lsn) → ⊥) → Any (Is h) hs → Any (Is h) (insertAll a hs list)
+unmet-stays a hs list h n m =
+    any-all (Is h) a hs list
+    (all-places (λ x. (y : Hint) → y .lsn ≡ x .lsn → y ≡ h → x ≡ h) list (λ i l y e p. absurd (n (record { place = i; inside = l; holds = sym e ∙ ap hintLsn p })))) m
+
+-- ---- the last of the list at an LSN
+given-at : (a : Area) (hs list : List Hint) (h : Hint) (i : ℕ) → i < length list → getD list i noHint ≡ h
+    → ((j : ℕ) → i < j → j < length list → getD list j noHint .lsn ≡ h .lsn → ⊥) → inArea a (h .lsn) ≡ true → Any (Is h) (insertAll a hs list)
+unfolding insertAll
+given-at a hs [] h i l e f w = let z : ⊥ = omega arith in absurd z
+given-at a hs (x ∷ xs) h zero l e f w =
+    let j : inArea a (x .lsn) ≡ true = ap (λ (z : Hint). inArea a (z .lsn)) e ∙ w in
+    rw j
+    (unmet-stays a (insert hintLsn arrivedHint x hs) xs h (λ o. let k = o .inside in f (suc (o .place)) (omega arith) (omega arith) (o .holds)) (any-new (Is h) x hs e))
+given-at a hs (x ∷ xs) h (suc i) l e f w =
+    given-at a (cond (inArea a (x .lsn)) (insert hintLsn arrivedHint x hs) hs) xs h i (omega arith) e (λ j m k. f (suc j) (omega arith) (omega arith)) w
+
+pub given-all : (a : Area) (hs list : List Hint) (h : Hint) → LastAt list h → inArea a (h .lsn) ≡ true → Any (Is h) (insertAll a hs list)
+given-all a hs list h f w = given-at a hs list h (f .place) (f .inside) (f .is) (f .last) w
 
 module _ (a : Area) (hs : List Hint) (x : Hint) (xs : List Hint) (h : Hint) where
   abbrev with-first : List Hint
-  with-first = cond (inArea a (x .lsn)) (insert hintLsn heldHint x hs) hs
+  with-first = cond (inArea a (x .lsn)) (insert hintLsn arrivedHint x hs) hs
 
-  abbrev Is : Hint → Type 0
-  Is y = y ≡ h
+  with-ok : hintsOk a hs ≡ true → hintOk x ≡ true → hintsOk a with-first ≡ true
+  with-ok ok p = test (inArea a (x .lsn)) (λ i. rw i (hints-insert a x hs i p ok)) (λ i. rw i ok)
 
-  first-from : Any Is with-first → Any Is hs ⊎ FirstAt (x ∷ xs) h
-  first-from p =
-      test (inArea a (x .lsn))
-      (λ i. ⊎-elim (λ (e : x ≡ h). inr (record { place = 0; inside = omega arith; is = e; first = λ k l g. let z : ⊥ = omega arith in absurd z })) (λ q. inl q)
-      (any-from Is x hs (rw i at p)))
-      (λ i. inl (rw i at p))
+  last-first : (AtLsn xs (h .lsn) → ⊥) → (i : ℕ) → 0 < i → i < suc (length xs) → getD (x ∷ xs) i noHint .lsn ≡ h .lsn → ⊥
+  last-first n zero l m e = omega arith
+  last-first n (suc i) l m e = n (record { place = i; inside = omega arith; holds = e })
 
-  -- a hint of the result at the LSN of x was there once x was
-  first-there : hintsOk a (insertAll a with-first xs) ≡ true → Any Is (insertAll a with-first xs) → x .lsn ≡ h .lsn → Any Is with-first
-  first-there ok m e =
-      let i : inArea a (x .lsn) ≡ true = ap (inArea a) e ∙ lsn-inside a (insertAll a with-first xs) ok h m in
-      one-there a (insertAll a with-first xs) ok h m with-first (λ k q. any-all (λ y. y ≡ k) a with-first xs q) (rw i (lsn-insert (h .lsn) x hs e))
+  -- a hint that is there once x is, and whose LSN the rest does not have
+  first-from : hintsOk a with-first ≡ true → Any (Is h) with-first → (AtLsn xs (h .lsn) → ⊥) → LastAt (x ∷ xs) h ⊎ (Any (Is h) hs × (AtLsn (x ∷ xs) (h .lsn) → ⊥))
+  first-from ok m n =
+      test (eqb (x .lsn) (h .lsn))
+      (λ e. let q = eqb-true (x .lsn) (h .lsn) e in
+      let i : inArea a (x .lsn) ≡ true = ap (inArea a) q ∙ lsn-inside a with-first ok h m in
+      let t : Any (Is x) with-first = rw i (any-new (Is x) x hs refl) in
+      inl (record { place = 0; inside = omega arith; is = one-at a with-first ok h m x t q; last = last-first n }))
+      (λ e. let q = eqb-false (x .lsn) (h .lsn) e in
+      inr (
+        test (inArea a (x .lsn)) (λ i. ⊎-elim (λ w. absurd (q (ap hintLsn w))) (λ w. w) (any-from (Is h) x hs (rw i at m))) (λ i. rw i at m),
+        unmet-cons x xs (h .lsn) q n,
+      ))
 
-  later-first : (f : FirstAt xs h) → eqb (x .lsn) (h .lsn) ≡ false → (i : ℕ) → i < suc (f .place) → getD (x ∷ xs) i noHint .lsn ≡ h .lsn → ⊥
-  later-first f e zero l q = never (eq-eqb (x .lsn) (h .lsn) q) e
-  later-first f e (suc i) l q = f .first i (omega arith) q
+  later-last : (f : LastAt xs h) (i : ℕ) → suc (f .place) < i → i < suc (length xs) → getD (x ∷ xs) i noHint .lsn ≡ h .lsn → ⊥
+  later-last f zero l m e = omega arith
+  later-last f (suc i) l m e = f .last i (omega arith) (omega arith) e
 
-  later : FirstAt xs h → eqb (x .lsn) (h .lsn) ≡ false → FirstAt (x ∷ xs) h
-  later f e = let l = f .inside in record { place = suc (f .place); inside = omega arith; is = f .is; first = later-first f e }
+  later : LastAt xs h → LastAt (x ∷ xs) h
+  later f = let l = f .inside in record { place = suc (f .place); inside = omega arith; is = f .is; last = later-last f }
 
-pub origin-all : (a : Area) (hs list : List Hint) → hintsOk a (insertAll a hs list) ≡ true → (h : Hint) → Any (λ y. y ≡ h) (insertAll a hs list)
-    → Any (λ y. y ≡ h) hs ⊎ FirstAt list h
+origin-all : (a : Area) (hs list : List Hint) → hintsOk a hs ≡ true → Passes hintOk list → (h : Hint) → Any (Is h) (insertAll a hs list)
+    → LastAt list h ⊎ (Any (Is h) hs × (AtLsn list (h .lsn) → ⊥))
 unfolding insertAll
-origin-all a hs [] ok h m = inl m
-origin-all a hs (x ∷ xs) ok h m =
-    ⊎-elim (λ p. first-from a hs x xs h p)
-    (λ f. test (eqb (x .lsn) (h .lsn)) (λ e. first-from a hs x xs h (first-there a hs x xs h ok m (eqb-true (x .lsn) (h .lsn) e))) (λ e. inr (later a hs x xs h f e)))
-    (origin-all a (with-first a hs x xs h) xs ok h m)
+origin-all a hs [] ok p h m = inr (m, λ o. one→ (λ y. y .lsn ≡ h .lsn) [] o)
+origin-all a hs (x ∷ xs) ok p h m =
+    let ok' = with-ok a hs x xs h ok (p .0) in
+    ⊎-elim (λ f. inl (later a hs x xs h f)) (λ q. first-from a hs x xs h ok' (q .0) (q .1)) (origin-all a (with-first a hs x xs h) xs ok' (p .1) h m)
 
 passing : (list : List Hint) → question13 list ≡ true → Passes hintOk list
 unfolding question13
@@ -180,10 +231,12 @@ joined x list ok q =
       lsns = λ n. (
         (λ o. rw (o .holds) at (all-at (λ y. From a hs list (y .lsn)) all (o .place) noHint (o .inside) (from-all a hs list))),
         (λ s. →one (λ y. y .lsn ≡ n) all
-            (⊎-elim (λ o. any-all (λ y. y .lsn ≡ n) a hs list (one→ (λ y. y .lsn ≡ n) hs o)) (λ o. lsn-all n a hs list (o .0) (one→ (λ y. y .lsn ≡ n) list (o .1))) s)),
+            (⊎-elim (λ o. any-all (λ y. y .lsn ≡ n) a hs list (lsns-stay n list) (one→ (λ y. y .lsn ≡ n) hs o))
+            (λ o. lsn-all n a hs list (o .0) (one→ (λ y. y .lsn ≡ n) list (o .1))) s)),
       );
-      held = λ h o. →one (λ y. y ≡ h) all (any-all (λ y. y ≡ h) a hs list (one→ (λ y. y ≡ h) hs o));
-      origin = λ h o. ⊎-elim (λ p. inl (→one (λ y. y ≡ h) hs p)) (λ f. inr f) (origin-all a hs list r h (one→ (λ y. y ≡ h) all o));
+      held = λ h o n. →one (Is h) all (unmet-stays a hs list h n (one→ (Is h) hs o));
+      given = λ h f i. →one (Is h) all (given-all a hs list h f i);
+      origin = λ h o. ⊎-elim (λ f. inl f) (λ p. inr (→one (Is h) hs (p .0), p .1)) (origin-all a hs list ok (passing list q) h (one→ (Is h) all o));
     }
 
 pub hints-joined : HintsJoined

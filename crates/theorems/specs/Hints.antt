@@ -1,4 +1,4 @@
--- Document 01, "Hint": what add_hints holds before thinning, and what thinning keeps.
+-- Document 01, "Hint", with change request 5: what add_hints holds before thinning, and what thinning keeps.
 use Prim.Native.Nat.{ℕ, min, _<_}
 use mathlib.Core.Path.{_≡_}
 use mathlib.Core.Logic.{_⊎_, _↔_}
@@ -24,12 +24,12 @@ AtLsn hs n = One (λ x. x .lsn ≡ n) hs
 abbrev pub Among : List Hint → Hint → Type 0
 Among hs h = One (λ x. x ≡ h) hs
 
--- h is the first of a list at its LSN
-pub record FirstAt (list : List Hint) (h : Hint) : Type 0 where
+-- h is the last of a list at its LSN
+pub record LastAt (list : List Hint) (h : Hint) : Type 0 where
   pub place : ℕ
   pub inside : place < length list
   pub is : getD list place noHint ≡ h
-  pub first : (i : ℕ) → i < place → getD list i noHint .lsn ≡ h .lsn → ⊥
+  pub last : (i : ℕ) → place < i → i < length list → getD list i noHint .lsn ≡ h .lsn → ⊥
 
 -- what an accepted add_hints thins, all, for the index x and a list
 pub record Joined (x : Index) (list all : List Hint) : Type 0 where
@@ -37,10 +37,12 @@ pub record Joined (x : Index) (list all : List Hint) : Type 0 where
   pub rises : hintsOk (x .scan .area) all ≡ true
   -- its LSNs are those held and those of the list that lie in the area
   pub lsns : (n : ℕ) → AtLsn all n ↔ (AtLsn (x .hinting .hints) n ⊎ ((inArea (x .scan .area) n ≡ true) × AtLsn list n))
-  -- every held hint stays
-  pub held : (h : Hint) → Among (x .hinting .hints) h → Among all h
-  -- every other hint is the first of the list at its LSN
-  pub origin : (h : Hint) → Among all h → Among (x .hinting .hints) h ⊎ FirstAt list h
+  -- a held hint stays whose LSN the list does not have
+  pub held : (h : Hint) → Among (x .hinting .hints) h → (AtLsn list (h .lsn) → ⊥) → Among all h
+  -- the last of the list at an LSN of the area is there
+  pub given : (h : Hint) → LastAt list h → inArea (x .scan .area) (h .lsn) ≡ true → Among all h
+  -- every hint is one of these
+  pub origin : (h : Hint) → Among all h → LastAt list h ⊎ (Among (x .hinting .hints) h × (AtLsn list (h .lsn) → ⊥))
 
 abbrev pub HintsJoined : Type 0
 HintsJoined =

@@ -175,8 +175,11 @@ admitted own other xs q =
     stores (own .scan .budget) (addParts (own .scan .budget) (other .scan .frames) (count (own .scan)) xs (storedIn (own .scan))) (piece (other .scan .frames) q)
 
 pub record MergeLeaves (own other y : Index) : Type 0 where
-  -- of the own list: thinned hints; confirmations of which the other list has another digest, or that are pushed out
-  pub hints : (h : Hint) → Among (own .hinting .hints) h → Among (y .hinting .hints) h ⊎ Thinned own other y
+  -- of the own list: hints whose LSN the other has with another number, or that are thinned; confirmations of which the other list has another digest, or
+  -- that are pushed out
+  pub hints :
+      (h : Hint) → Among (own .hinting .hints) h
+      → Among (y .hinting .hints) h ⊎ (One (λ x. (x .lsn ≡ h .lsn) × (x .number ≡ h .number → ⊥)) (other .hinting .hints) ⊎ Thinned own other y)
   pub confirmed :
       (i : ℕ) → i < length (own .hinting .confirmed)
       → Confirms (y .hinting .confirmed) (getD (own .hinting .confirmed) i noConfirmation)
@@ -185,11 +188,8 @@ pub record MergeLeaves (own other y : Index) : Type 0 where
   pub parts' :
       (xs ys : List Held) (q : Held) → other .scan .parts ≡ xs ++ (q ∷ ys)
       → Holds (storedIn (y .scan)) (q .at) (contentOf (other .scan .frames) q) ⊎ ((q .at < count (own .scan)) ⊎ (admitted own other xs q ≡ false))
-  -- hints where M is 0, or whose LSN the own list has with another number, or that are thinned
-  pub hints' :
-      (h : Hint) → Among (other .hinting .hints) h
-      → Among (y .hinting .hints) h
-      ⊎ ((own .hinting .most ≡ 0) ⊎ (One (λ x. (x .lsn ≡ h .lsn) × (x .number ≡ h .number → ⊥)) (own .hinting .hints) ⊎ Thinned own other y))
+  -- hints where M is 0, or that are thinned
+  pub hints' : (h : Hint) → Among (other .hinting .hints) h → Among (y .hinting .hints) h ⊎ ((own .hinting .most ≡ 0) ⊎ Thinned own other y)
   -- confirmations, all of them where the own fingerprint is unchecked or M is 0, else those that are pushed out
   pub confirmed' :
       (i : ℕ) → i < length (other .hinting .confirmed)

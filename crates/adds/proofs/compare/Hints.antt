@@ -27,16 +27,24 @@ use Rattle.adds.specs.Same.{sameList}
 use Rattle.adds.specs.Marks.{marked, lower, unweighed, weighed, changedBy}
 use Rattle.adds.proofs.compare.Same.{differ, sameList-self, sameList-eq}
 use Rattle.adds.proofs.compare.Counts.{count-full}
-use Rattle.adds.proofs.compare.Marks.{hintsOf, noMark, newAt, hints-length, hints-at, marked-hints, kept-all-held}
-use Rattle.adds.proofs.compare.Weighing.{Numbered, weighed-all, leaves, changes}
+use Rattle.adds.proofs.compare.Marks.{hintsOf, noMark, newAt, someReplaced, hints-length, hints-at, marked-hints, kept-all-held}
+use Rattle.adds.proofs.compare.Weighing.{Numbered, weighed-replaced, weighed-all, leaves, changes}
+use Rattle.adds.proofs.compare.Replaced.{replaced-changes}
 
-module _ (a : Area) (hs xs : List Hint) (h : hintsOk a hs ≡ true) (g : hintsOk a xs ≡ true) where
+changed : (hs l : List Hint) → (l ≡ hs → ⊥) → not (sameList sameHint hs l) ≡ true
+changed hs l e = rw (differ (sameList sameHint) (sameList-eq sameHint sameHint-eq) hs l (λ p. e (sym p)))
+
+unchanged : (hs l : List Hint) → l ≡ hs → not (sameList sameHint hs l) ≡ false
+unchanged hs l e = rw (e, sameList-self sameHint sameHint-self hs)
+
+-- where no number is replaced
+module _ (a : Area) (hs xs : List Hint) (h : hintsOk a hs ≡ true) (g : hintsOk a xs ≡ true) (none : someReplaced (marked hs xs) ≡ false) where
   abbrev all : List Hint
   all = hintsOf (marked hs xs)
 
   all-inserted : all ≡ insertAll a hs xs
   unfolding hintsOk
-  all-inserted = marked-hints hs xs ∙ sym (insertAll-rising a (a .start) hs xs (omega arith) g)
+  all-inserted = marked-hints hs xs none ∙ sym (insertAll-rising a (a .start) hs xs (omega arith) g)
 
   all-ok : hintsOk a all ≡ true
   unfolding hintsOk
@@ -69,12 +77,6 @@ module _ (a : Area) (hs xs : List Hint) (h : hintsOk a hs ≡ true) (g : hintsOk
       let t : kept stays all n ≡ all = f ∙ rw (← m) (take-length all) in
       sym t ∙ k
 
-  changed : (l : List Hint) → (l ≡ hs → ⊥) → not (sameList sameHint hs l) ≡ true
-  changed l e = rw (differ (sameList sameHint) (sameList-eq sameHint sameHint-eq) hs l (λ p. e (sym p)))
-
-  unchanged : (l : List Hint) → l ≡ hs → not (sameList sameHint hs l) ≡ false
-  unchanged l e = rw (e, sameList-self sameHint sameHint-self hs)
-
   module _ (most : ℕ) (few : length hs ≤ most) (some : 1 ≤ most) where
     abbrev w : Weighed
     w = weighed unweighed (marked hs xs)
@@ -91,24 +93,34 @@ module _ (a : Area) (hs xs : List Hint) (h : hintsOk a hs ≡ true) (g : hintsOk
     unfolding limitedTo
     over l = joined ∙ rw (hints-length (marked hs xs), lt-leb _ _ l)
 
-    pub hints-change : not (sameList sameHint hs (joinedHints a most hs xs)) ≡ changedBy w (length hs) most
+    none-replaced : not (sameList sameHint hs (joinedHints a most hs xs)) ≡ changedBy w (length hs) most
     unfolding changedBy
-    hints-change =
+    none-replaced =
         let n = length (marked hs xs) in
         let len = hints-length (marked hs xs) in
-        rw (weighed-all (marked hs xs) small)
+        let f : weighed unweighed (marked hs xs) .replaced ≡ false = weighed-replaced unweighed (marked hs xs) ∙ none in
+        rw (f, weighed-all (marked hs xs) small)
         (test (eqb n (length hs))
-        (λ e. let q = eqb-true n (length hs) e in rw e (unchanged _ (under (omega arith) ∙ none-new q)))
+        (λ e. let q = eqb-true n (length hs) e in rw e (unchanged hs _ (under (omega arith) ∙ none-new q)))
         (λ e. let q = eqb-false n (length hs) e in
         rw e (test (leb n most)
-        (λ f. rw f (changed _ (λ z. q (sym len ∙ ap length (sym (under (leb-true n most f)) ∙ z)))))
+        (λ f. rw f (changed hs _ (λ z. q (sym len ∙ ap length (sym (under (leb-true n most f)) ∙ z)))))
         (λ f. let l = leb-false n most f in
         rw f (test (eqb (length hs) (most - most / 4))
         (λ c. let s = eqb-true (length hs) (most - most / 4) c in
         rw c (test (lower (w .new) (w .held))
-        (λ d. rw d (unchanged _ (over l ∙ rw (← s) (leaves (marked hs xs) small (a .start) all-rise hs (kept-all-held hs xs) d))))
-        (λ d. rw d (changed _ (λ z. changes (marked hs xs) small (a .start) all-rise hs (kept-all-held hs xs) (omega arith) (omega arith) d (rw s (sym (over l) ∙ z)))))))
+        (λ d. rw d (unchanged hs _ (over l ∙ rw (← s) (leaves (marked hs xs) small (a .start) all-rise hs (kept-all-held hs xs) d))))
+        (λ d. rw d (changed hs _ (λ z. changes (marked hs xs) small (a .start) all-rise hs (kept-all-held hs xs) (omega arith) (omega arith) d (rw s (sym (over l) ∙ z)))))))
         (λ c. let s = eqb-false (length hs) (most - most / 4) c in
-        rw c (changed _ (λ z. let t = thin-length (most - most / 4) all in
+        rw c (changed hs _ (λ z. let t = thin-length (most - most / 4) all in
         let y : length (thin (most - most / 4) all) ≡ length hs = ap length (sym (over l) ∙ z) in
         s (omega arith)))))))))
+
+pub hints-change : (a : Area) (hs xs : List Hint) → hintsOk a hs ≡ true → hintsOk a xs ≡ true → (most : ℕ) → length hs ≤ most → 1 ≤ most
+    → not (sameList sameHint hs (joinedHints a most hs xs)) ≡ changedBy (weighed unweighed (marked hs xs)) (length hs) most
+unfolding changedBy
+hints-change a hs xs h g most few some =
+    test (someReplaced (marked hs xs))
+    (λ e. let f : weighed unweighed (marked hs xs) .replaced ≡ true = weighed-replaced unweighed (marked hs xs) ∙ e in
+    rw f (changed hs _ (replaced-changes a most hs xs h g some e)))
+    (λ e. none-replaced a hs xs h g e most few some)

@@ -1,21 +1,22 @@
--- The marked list: its hints are the merged list's, and its held ones the held list. Assumes nothing.
+-- The marked list: its held ones are the held list, and where no number is replaced its hints are the merged list's. Assumes nothing.
 use mathlib.Core.Path.{_≡_, refl, sym, ap, _∙_}
-use mathlib.Core.Bool.{Bool, true, false, not, cond}
+use mathlib.Core.Bool.{Bool, true, false, _||_, not, cond}
 use mathlib.Core.List.{List, [], _∷_, _++_, append-nil}
 use Prim.Native.Nat.{ℕ, zero, suc, _+_, _<_, _≤_}
 use native.Mathlib.Omega.{arith}
 use lib.ListN.{length, getD, take}
 use lib.Seq.{take-suc, take-length}
-use borrow.Author.Tests.{lt-ltb, le-ltb}
+use lib.Dec.{eqb}
+use borrow.Author.Tests.{eqb-true, lt-ltb, le-ltb, not-false}
 use Rattle.rules.specs.declared.Hint.{Hint}
 use Rattle.rules.specs.Values.{noHint, max32}
 use Rattle.rules.specs.Sections.{hintLsn}
-use Rattle.rules.specs.Hints.{kept}
-use Rattle.rules.proofs.Tests.{test, order, never}
-use Rattle.laws.specs.Adding.{mergedBy}
-use Rattle.laws.proofs.hint_lists.Adding.{nil-merged, merged-nil, merged-left, merged-right, merged-both}
+use Rattle.rules.specs.Hints.{kept, arrivedHint}
+use Rattle.rules.proofs.Tests.{test, order, or-none}
+use Rattle.laws.specs.Merging.{mergedWith}
+use Rattle.laws.proofs.hint_lists.Merging.{nil-with, with-nil, with-left, with-right, with-both}
 use Rattle.laws.proofs.hint_lists.Thinning.{kept-none, kept-yes, kept-no}
-use Rattle.adds.specs.Marks.{Marked, mark, marksOf, marked, lsnFrom}
+use Rattle.adds.specs.Marks.{Marked, mark, markBoth, marksOf, marked, lsnFrom}
 
 -- ---- one step of the merge
 pub nil-marked : (ys : List Hint) → marked [] ys ≡ marksOf true ys
@@ -28,15 +29,15 @@ marked-nil [] = refl
 marked-nil (x ∷ xs) = refl
 
 module _ (x y : Hint) (xs ys : List Hint) where
-  marked-left : x .lsn < y .lsn → marked (x ∷ xs) (y ∷ ys) ≡ mark false x ∷ marked xs (y ∷ ys)
+  pub marked-left : x .lsn < y .lsn → marked (x ∷ xs) (y ∷ ys) ≡ mark false x ∷ marked xs (y ∷ ys)
   unfolding marked
   marked-left h = rw (lt-ltb (x .lsn) (y .lsn) h)
 
-  marked-right : y .lsn < x .lsn → marked (x ∷ xs) (y ∷ ys) ≡ mark true y ∷ marked (x ∷ xs) ys
+  pub marked-right : y .lsn < x .lsn → marked (x ∷ xs) (y ∷ ys) ≡ mark true y ∷ marked (x ∷ xs) ys
   unfolding marked
   marked-right h = rw (le-ltb (x .lsn) (y .lsn) (omega arith), lt-ltb (y .lsn) (x .lsn) h)
 
-  marked-both : x .lsn ≡ y .lsn → marked (x ∷ xs) (y ∷ ys) ≡ mark false x ∷ marked xs ys
+  pub marked-both : x .lsn ≡ y .lsn → marked (x ∷ xs) (y ∷ ys) ≡ markBoth x y ∷ marked xs ys
   unfolding marked
   marked-both h = rw (le-ltb (x .lsn) (y .lsn) (omega arith), le-ltb (y .lsn) (x .lsn) (omega arith))
 
@@ -51,7 +52,7 @@ unfolding lsnFrom marked marksOf
 next-held x xs [] h = rw (marked-nil xs)
 next-held x xs (y ∷ ys) h = marked-left x y xs ys h
 
-pub next-both : (x y : Hint) (xs ys : List Hint) → lsnFrom (x ∷ xs) ≡ lsnFrom (y ∷ ys) → marked (x ∷ xs) (y ∷ ys) ≡ mark false x ∷ marked xs ys
+pub next-both : (x y : Hint) (xs ys : List Hint) → lsnFrom (x ∷ xs) ≡ lsnFrom (y ∷ ys) → marked (x ∷ xs) (y ∷ ys) ≡ markBoth x y ∷ marked xs ys
 unfolding lsnFrom
 next-both x y xs ys h = marked-both x y xs ys h
 
@@ -68,9 +69,17 @@ heldOf (m ∷ ms) = cond (m .new) (heldOf ms) (m .hint ∷ heldOf ms)
 abbrev pub noMark : Marked
 noMark = mark false noHint
 
--- is the one at place i new?
+-- is the one at place i new? Is its number replaced?
 abbrev pub newAt : List Marked → ℕ → Bool
 newAt ms i = getD ms i noMark .new
+
+abbrev pub replacedAt : List Marked → ℕ → Bool
+replacedAt ms i = getD ms i noMark .replaced
+
+-- is a number replaced?
+abbrev pub someReplaced : List Marked → Bool
+someReplaced [] = false
+someReplaced (m ∷ ms) = m .replaced || someReplaced ms
 
 pub hints-length : (ms : List Marked) → length (hintsOf ms) ≡ length ms
 hints-length [] = refl
@@ -86,15 +95,24 @@ unfolding marksOf
 marks-hints b [] = refl
 marks-hints b (h ∷ hs) = rw (marks-hints b hs)
 
--- the merged list
-pub marked-hints : (xs ys : List Hint) → hintsOf (marked xs ys) ≡ mergedBy hintLsn xs ys
-marked-hints [] ys = rw (nil-marked ys, marks-hints true ys, nil-merged hintLsn ys)
-marked-hints (x ∷ xs) [] = rw (marked-nil (x ∷ xs), marks-hints false (x ∷ xs), merged-nil hintLsn (x ∷ xs))
-marked-hints (x ∷ xs) (y ∷ ys) =
+-- where no number is replaced: the merged list, since two of one LSN and number are the same hint
+same-hint : (x y : Hint) → x .lsn ≡ y .lsn → x .number ≡ y .number → x ≡ y
+same-hint x y e d = λ i. record { lsn = e i; number = d i }
+
+pub marked-hints : (xs ys : List Hint) → someReplaced (marked xs ys) ≡ false → hintsOf (marked xs ys) ≡ mergedWith hintLsn arrivedHint xs ys
+marked-hints [] ys f = rw (nil-marked ys, marks-hints true ys, nil-with hintLsn arrivedHint ys)
+marked-hints (x ∷ xs) [] f = rw (marked-nil (x ∷ xs), marks-hints false (x ∷ xs), with-nil hintLsn arrivedHint (x ∷ xs))
+marked-hints (x ∷ xs) (y ∷ ys) f =
     order (x .lsn) (y .lsn)
-    (λ l. rw (marked-left x y xs ys l, merged-left hintLsn x y xs ys l) (ap (λ (z : List Hint). x ∷ z) (marked-hints xs (y ∷ ys))))
-    (λ l. rw (marked-right x y xs ys l, merged-right hintLsn x y xs ys l) (ap (λ (z : List Hint). y ∷ z) (marked-hints (x ∷ xs) ys)))
-    (λ e. rw (marked-both x y xs ys e, merged-both hintLsn x y xs ys e) (ap (λ (z : List Hint). x ∷ z) (marked-hints xs ys)))
+    (λ l. let g : someReplaced (marked xs (y ∷ ys)) ≡ false = rw (marked-left x y xs ys l) at f in
+    rw (marked-left x y xs ys l, with-left hintLsn arrivedHint x y xs ys l) (ap (λ (z : List Hint). x ∷ z) (marked-hints xs (y ∷ ys) g)))
+    (λ l. let g : someReplaced (marked (x ∷ xs) ys) ≡ false = rw (marked-right x y xs ys l) at f in
+    rw (marked-right x y xs ys l, with-right hintLsn arrivedHint x y xs ys l) (ap (λ (z : List Hint). y ∷ z) (marked-hints (x ∷ xs) ys g)))
+    (λ e. let g : (not (eqb (x .number) (y .number)) || someReplaced (marked xs ys)) ≡ false = rw (marked-both x y xs ys e) at f in
+    let o = or-none (not (eqb (x .number) (y .number))) (someReplaced (marked xs ys)) g in
+    let s = same-hint x y e (eqb-true (x .number) (y .number) (not-false (eqb (x .number) (y .number)) (o .0))) in
+    let r = marked-hints xs ys (o .1) in
+    rw (marked-both x y xs ys e, with-both hintLsn arrivedHint x y xs ys e) (λ i. s i ∷ r i))
 
 -- the held list
 none-held : (ys : List Hint) → heldOf (marksOf true ys) ≡ []

@@ -29,7 +29,7 @@ use Rattle.rules_lacks.proofs.Laws.{sameHint-self}
 use Rattle.adds.specs.declared.compare.Turn.{Turn}
 use Rattle.adds.specs.declared.compare.Weighed.{Weighed}
 use Rattle.adds.specs.Same.{sameList, sameConfirmation}
-use Rattle.adds.specs.Marks.{mark, marked, marksOf, lsnFrom, unweighed, weighOne, weighed, changedBy}
+use Rattle.adds.specs.Marks.{mark, markBoth, marked, marksOf, lsnFrom, unweighed, weighOne, weighed, changedBy}
 use Rattle.adds.specs.Confirmed.{absorbed, unmovedBy, fromLow, arriving, confirmedChange}
 use Rattle.adds.specs.Answers.{LsnAt, Turned, HintsAnswered, ConfirmedAnswered}
 use Rattle.adds.proofs.compare.Same.{sameList-self}
@@ -77,19 +77,21 @@ module _ {xs ys : List Hint} {n m i j a b : ℕ} (p : LsnAt xs n i a) (q : LsnAt
       let z : ⊥ = test (leb m j) (λ f. let v = leb-true m j f in let w = leb-true n i e in omega arith) (λ f. let v = q .inside (leb-false m j f) in omega arith) in absurd z)
       (λ e. leb-false n i e)
 
-  both-inside : i < n → a ≡ b → j < m
-  both-inside h e =
+  pub both-inside : i < n → b ≤ a → a ≤ b → j < m
+  both-inside h l g =
       let u = p .inside h in
       test (leb m j) (λ f. let v = q .past (leb-true m j f) in let z : ⊥ = omega arith in absurd z) (λ f. leb-false m j f)
 
   module _ (hi : i ≤ n) (hj : j ≤ m) where
-    pub turn-new : {y : Hint} → b < a → drop j ys ≡ y ∷ drop (j + 1) ys → Turned xs ys n m i j (record { new = true; number = y .number; own = i; other = j + 1 })
+    pub turn-new : {y : Hint} → b < a → drop j ys ≡ y ∷ drop (j + 1) ys → Turned xs ys n m i j (record { new = true; replaced = false; number = y .number; own = i; other = j + 1 })
     turn-new {y} l d =
         let k = other-inside hi l in
         let w : lsnFrom (y ∷ drop (j + 1) ys) < lsnFrom (drop i xs) = rw (← d, ← q .is, ← p .is) l in
         record {
-          hint = y;
+          first = mark true y;
           next = ap (marked (drop i xs)) d ∙ next-new (drop i xs) y (drop (j + 1) ys) w;
+          new = refl;
+          replaced = refl;
           number = refl;
           own = hi;
           other = omega arith;
@@ -97,29 +99,31 @@ module _ {xs ys : List Hint} {n m i j a b : ℕ} (p : LsnAt xs n i a) (q : LsnAt
         }
 
     module _ {x : Hint} (k : i < n) (d : drop i xs ≡ x ∷ drop (i + 1) xs) where
-      pub turn-held : a < b → Turned xs ys n m i j (record { new = false; number = x .number; own = i + 1; other = j })
+      pub turn-held : a < b → Turned xs ys n m i j (record { new = false; replaced = false; number = x .number; own = i + 1; other = j })
       turn-held l =
           let w : lsnFrom (x ∷ drop (i + 1) xs) < lsnFrom (drop j ys) = rw (← d, ← q .is, ← p .is) l in
           record {
-            hint = x;
+            first = mark false x;
             next = ap (λ (z : List Hint). marked z (drop j ys)) d ∙ next-held x (drop (i + 1) xs) (drop j ys) w;
+            new = refl;
+            replaced = refl;
             number = refl;
             own = omega arith;
             other = hj;
             on = omega arith;
           }
 
-      pub turn-both : length ys ≡ m → b ≤ a → a ≤ b → Turned xs ys n m i j (record { new = false; number = x .number; own = i + 1; other = j + 1 })
-      turn-both len l g =
+      pub turn-both : {y : Hint} → drop j ys ≡ y ∷ drop (j + 1) ys → b ≤ a → a ≤ b
+          → Turned xs ys n m i j (record { new = false; replaced = not (eqb (x .number) (y .number)); number = x .number; own = i + 1; other = j + 1 })
+      turn-both {y} c l g =
           let z : a ≡ b = omega arith in
-          let f = both-inside k z in
-          let y = getD ys j noHint in
-          let f' : j < length ys = omega arith in
-          let c : drop j ys ≡ y ∷ drop (j + 1) ys = drop-cons ys j noHint f' ∙ rw (add-one j) in
+          let f = both-inside k l g in
           let w : lsnFrom (x ∷ drop (i + 1) xs) ≡ lsnFrom (y ∷ drop (j + 1) ys) = sym (ap lsnFrom d) ∙ sym (p .is) ∙ z ∙ q .is ∙ ap lsnFrom c in
           record {
-            hint = x;
+            first = markBoth x y;
             next = ap (λ (u : List Hint). marked u (drop j ys)) d ∙ ap (marked (x ∷ drop (i + 1) xs)) c ∙ next-both x y (drop (i + 1) xs) (drop (j + 1) ys) w;
+            new = refl;
+            replaced = refl;
             number = refl;
             own = omega arith;
             other = omega arith;
@@ -136,17 +140,18 @@ pub record Weighing (xs ys : List Hint) (n m : ℕ) (s : Weighed) (i j : ℕ) : 
 pub weigh-start : {s : Weighed} (xs ys : List Hint) (n m : ℕ) → s ≡ unweighed → Weighing xs ys n m s 0 0
 weigh-start xs ys n m e = record { own = omega arith; other = omega arith; few = rw e (omega arith); rest = rw e }
 
-weigh-place : (s : Weighed) (b : Bool) (k : ℕ) → weighOne s b k .place ≡ s .place + 1
+weigh-place : (s : Weighed) (b c : Bool) (k : ℕ) → weighOne s b c k .place ≡ s .place + 1
 unfolding weighOne
-weigh-place s b k = refl
+weigh-place s b c k = refl
 
-pub weigh-on : {xs ys : List Hint} {n m i j : ℕ} {s s' : Weighed} {r : Turn} → Weighing xs ys n m s i j → Turned xs ys n m i j r → s' ≡ weighOne s (r .new) (r .number)
+pub weigh-on : {xs ys : List Hint} {n m i j : ℕ} {s s' : Weighed} {r : Turn} → Weighing xs ys n m s i j → Turned xs ys n m i j r → s' ≡ weighOne s (r .new) (r .replaced) (r .number)
     → Weighing xs ys n m s' (r .own) (r .other)
 unfolding weighed
 weigh-on {xs} {ys} {n} {m} {i} {j} {s} {s'} {r} w t e =
-    let f = w .few in let o = t .on in let q = weigh-place s (r .new) (r .number) in
+    let f = w .few in let o = t .on in let q = weigh-place s (r .new) (r .replaced) (r .number) in
     let z = sym (ap (weighed s) (t .next)) ∙ w .rest in
-    let y : weighed (weighOne s (r .new) (r .number)) (marked (drop (r .own) xs) (drop (r .other) ys)) ≡ weighed unweighed (marked xs ys) = rw (t .number) at z in
+    let y : weighed (weighOne s (r .new) (r .replaced) (r .number)) (marked (drop (r .own) xs) (drop (r .other) ys)) ≡ weighed unweighed (marked xs ys) =
+    rw (t .new, t .replaced, t .number) at z in
     record { own = t .own; other = t .other; few = rw e (omega arith); rest = rw e y }
 
 pub weigh-end : {xs ys : List Hint} {n m i j : ℕ} {s : Weighed} → length xs ≡ n → length ys ≡ m → Weighing xs ys n m s i j → n + m ≤ i + j → s ≡ weighed unweighed (marked xs ys)

@@ -1,6 +1,6 @@
 -- What one pass over the marked list finds: whether thinning drops exactly the new hints. Assumes nothing.
 use mathlib.Core.Path.{_≡_, refl, sym, ap, subst, _∙_}
-use mathlib.Core.Bool.{Bool, true, false, _&&_, not, cond}
+use mathlib.Core.Bool.{Bool, true, false, _&&_, _||_, not, cond}
 use mathlib.Core.Logic.{_⊎_, inl, inr, ⊎-elim}
 use mathlib.Core.List.{List, [], _∷_}
 use Prim.Native.Nat.{ℕ, zero, suc, _+_, _-_, _<_, _≤_}
@@ -23,7 +23,7 @@ use Rattle.adds.specs.declared.compare.Pair.{Pair}
 use Rattle.adds.specs.declared.compare.Weighed.{Weighed}
 use Rattle.adds.specs.Marks.{Marked, pair, lower, unweighed, weighOne, weighed}
 use Rattle.adds.proofs.compare.Counts.{Passing, count-some, count-under, count-strict, kept-places}
-use Rattle.adds.proofs.compare.Marks.{hintsOf, noMark, newAt, hints-length, hints-at}
+use Rattle.adds.proofs.compare.Marks.{hintsOf, noMark, newAt, replacedAt, someReplaced, hints-length, hints-at}
 
 -- ---- gaps by the number before
 rise-some : (p t : ℕ) → t ≤ max32 → (1 ≤ rise p t) × (rise p t ≤ max32)
@@ -34,6 +34,20 @@ rise-some p t h =
 -- numbers are no more than 32 bits
 abbrev pub Numbered : List Marked → Type 0
 Numbered ms = (i : ℕ) → getD ms i noMark .hint .number ≤ max32
+
+-- whether a number is replaced
+or-nothing : (a : Bool) → a ≡ (a || false)
+or-nothing true = refl
+or-nothing false = refl
+
+or-assoc : (a b c : Bool) → ((a || b) || c) ≡ (a || (b || c))
+or-assoc true b c = refl
+or-assoc false b c = refl
+
+pub weighed-replaced : (s : Weighed) (ms : List Marked) → weighed s ms .replaced ≡ (s .replaced || someReplaced ms)
+unfolding weighed weighOne
+weighed-replaced s [] = or-nothing (s .replaced)
+weighed-replaced s (m ∷ ms) = weighed-replaced (weighOne s (m .new) (m .replaced) (m .hint .number)) ms ∙ or-assoc (s .replaced) (m .replaced) (someReplaced ms)
 
 -- pairs in order: the first no larger than the second, that smaller than the third, and that no larger than the fourth
 between : {g i n p h q m k : ℕ} → (g < n) ⊎ ((g ≡ n) × (i ≤ p)) → (n < h) ⊎ ((n ≡ h) × (p < q)) → (h < m) ⊎ ((m ≡ h) × (q ≤ k)) → (g < m) ⊎ ((g ≡ m) × (i < k))
@@ -96,7 +110,7 @@ module _ (ms : List Marked) (small : Numbered ms) where
     p = s .place
 
     abbrev goes : Pair → Pair → Weighed
-    goes new held = record { place = p + 1; before = number p; new = new; held = held }
+    goes new held = record { place = p + 1; before = number p; new = new; held = held; replaced = s .replaced || replacedAt ms p }
 
     new-was : (s .new .gap ≡ 0) ⊎ ((s .new .place < p + 1) × (newAt ms (s .new .place) ≡ true) × (gap us (s .new .place) ≡ s .new .gap))
     new-was = ⊎-elim (λ z. inl z) (λ t. let w = t .0 in inr (omega arith, t .1, t .2)) (u .new-is)
@@ -167,7 +181,7 @@ module _ (ms : List Marked) (small : Numbered ms) where
     here : rise (s .before) (number p) ≡ gap us p
     here = sym (gap-is p ∙ rw (u .last))
 
-    step : Upto (weighOne s (newAt ms p) (number p))
+    step : Upto (weighOne s (newAt ms p) (replacedAt ms p) (number p))
     unfolding weighOne
     step =
         test (newAt ms p)
@@ -178,7 +192,7 @@ module _ (ms : List Marked) (small : Numbered ms) where
   abbrev Whole : Weighed → Type 0
   Whole s = Upto s × (s .place ≡ length ms)
 
-  next-place : (s : Weighed) (m : Marked) → weighOne s (m .new) (m .hint .number) .place ≡ suc (s .place)
+  next-place : (s : Weighed) (m : Marked) → weighOne s (m .new) (m .replaced) (m .hint .number) .place ≡ suc (s .place)
   unfolding weighOne
   next-place s m = add-one (s .place)
 
@@ -192,8 +206,8 @@ module _ (ms : List Marked) (small : Numbered ms) where
       let d : getD ms (s .place) noMark ∷ drop (suc (s .place)) ms ≡ m ∷ rest = sym (drop-cons ms (s .place) noMark l) ∙ e in
       let q : getD ms (s .place) noMark ≡ m = cc in
       let r : drop (suc (s .place)) ms ≡ rest = cc in
-      let u' : Upto (weighOne s (m .new) (m .hint .number)) = subst (λ (x : Marked). Upto (weighOne s (x .new) (x .hint .number))) q (step s u l) in
-      weigh-from rest (weighOne s (m .new) (m .hint .number)) u' (rw (next-place s m) r)
+      let u' : Upto (weighOne s (m .new) (m .replaced) (m .hint .number)) = subst (λ (x : Marked). Upto (weighOne s (x .new) (x .replaced) (x .hint .number))) q (step s u l) in
+      weigh-from rest (weighOne s (m .new) (m .replaced) (m .hint .number)) u' (rw (next-place s m) r)
 
   abbrev all-weighed : Weighed
   all-weighed = weighed unweighed ms

@@ -24,8 +24,8 @@ pub thinned : thin 2 (hintAt 10 5 ∷ hintAt 20 8 ∷ hintAt 30 9 ∷ hintAt 40 
 unfolding thin kept rank sooner gap rise countOf
 thinned = refl
 
--- a hint outside the area and one at a held LSN change nothing
-pub joined : joinedHints place 8 (hintAt 10 5 ∷ hintAt 30 9 ∷ []) (hintAt 20 8 ∷ hintAt 60 40 ∷ hintAt 30 7 ∷ []) ≡ hintAt 10 5 ∷ hintAt 20 8 ∷ hintAt 30 9 ∷ []
+-- a hint outside the area is dropped, and one at a held LSN replaces it
+pub joined : joinedHints place 8 (hintAt 10 5 ∷ hintAt 30 9 ∷ []) (hintAt 20 8 ∷ hintAt 60 40 ∷ hintAt 30 7 ∷ []) ≡ hintAt 10 5 ∷ hintAt 20 8 ∷ hintAt 30 7 ∷ []
 unfolding joinedHints limitedTo insertAll insert inArea
 joined = refl
 

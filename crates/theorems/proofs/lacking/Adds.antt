@@ -1,5 +1,5 @@
 -- A merge changes nothing but the image id where nothing is lacking. Assumes nothing.
-use mathlib.Core.Path.{_≡_, refl, ap, _∙_}
+use mathlib.Core.Path.{_≡_, refl, sym, ap, _∙_}
 use mathlib.Core.Bool.{Bool, true, false, cond}
 use mathlib.Core.List.{List, [], _∷_}
 use mathlib.Core.Option.{Option}
@@ -18,7 +18,7 @@ use Rattle.rules.specs.Tests.{isSome, orElse, Accepted}
 use Rattle.rules.specs.Values.{Scan, Index, Lengths, noHint, noConfirmation, count, complete, stated, isChecked}
 use Rattle.rules.specs.Sections.{hintLsn, hintOk, hintsOk, confirmedLsn, confirmationOk, confirmationsOk}
 use Rattle.rules.specs.Questions.{question4}
-use Rattle.rules.specs.Hints.{insert, heldHint, inArea, insertAll, limitedTo, joinedHints, heldConfirmation, lastOnes, keepsNothing, keep, keepAll}
+use Rattle.rules.specs.Hints.{insert, arrivedHint, inArea, insertAll, limitedTo, joinedHints, heldConfirmation, lastOnes, keepsNothing, keep, keepAll}
 use Rattle.rules.specs.Merge.{further, mergedScan, heldFrom, mergedFingerprint, merged, merge}
 use Rattle.rules.proofs.Tests.{test, never, and-left, choose, →after}
 use Rattle.laws.specs.Order.{Rises}
@@ -50,8 +50,8 @@ module _ (a : Area) (hs : List Hint) (b : ℕ) (r : Rises hintLsn b hs) where
   all-held [] f = refl
   all-held (x ∷ xs) f =
       let h = f zero (omega arith) in let e = sameHint-eq _ x (h .holds) in
-      let s : insert hintLsn heldHint x hs ≡ hs = insert-held hintLsn heldHint noHint x b hs r (h .place) (h .inside) (ap hintLsn e) refl in
-      let t : cond (inArea a (x .lsn)) (insert hintLsn heldHint x hs) hs ≡ hs = choose (λ z. z ≡ hs) (inArea a (x .lsn)) _ _ (λ w. s) (λ w. refl) in
+      let s : insert hintLsn arrivedHint x hs ≡ hs = insert-held hintLsn arrivedHint noHint x b hs r (h .place) (h .inside) (ap hintLsn e) (sym e) in
+      let t : cond (inArea a (x .lsn)) (insert hintLsn arrivedHint x hs) hs ≡ hs = choose (λ z. z ≡ hs) (inArea a (x .lsn)) _ _ (λ w. s) (λ w. refl) in
       rw t (all-held xs (λ i l. f (suc i) (omega arith)))
 
 pub joined-same : (a : Area) (most : ℕ) (hs list : List Hint) → hintsOk a hs ≡ true → length hs ≤ most → covers sameHint hs list ≡ true → joinedHints a most hs list ≡ hs

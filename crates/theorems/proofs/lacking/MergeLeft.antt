@@ -14,7 +14,7 @@ use Rattle.rules.specs.declared.Held.{Held}
 use Rattle.rules.specs.declared.Hint.{Hint}
 use Rattle.rules.specs.Tests.{Accepted}
 use Rattle.rules.specs.Values.{Scan, Index, Lengths, noHeld, noHint, noConfirmation, boundaries, count, complete, isChecked}
-use Rattle.rules.specs.Sections.{hintLsn, hintOk, hintsOk, confirmedLsn}
+use Rattle.rules.specs.Sections.{hintsOk, confirmedLsn}
 use Rattle.rules.specs.Hints.{insert, insertAll, limitedTo, joinedHints, heldConfirmation, lastOnes, keepsNothing, keep, keepAll}
 use Rattle.rules.specs.PartRule.{stores, addParts, piece}
 use Rattle.rules.specs.Merge.{further, merged, mergeNumber, merge}
@@ -22,9 +22,8 @@ use Rattle.rules.specs.Run.{contentOf}
 use Rattle.rules.proofs.Tests.{test, never, order, or-right, accepted→}
 use Rattle.laws.specs.Order.{Rises}
 use Rattle.laws.specs.Merging.{insertedWith}
-use Rattle.laws.proofs.hint_lists.Lists.{All, Passes, all-at, all-map, all-sub, sub-last, last-length, insert-none, insert-cases}
-use Rattle.laws.proofs.hint_lists.Rising.{Inside, rises-all, rises-insert, rising→}
-use Rattle.laws.proofs.hint_lists.Hints.{insertAll-keeps, hints-insert}
+use Rattle.laws.proofs.hint_lists.Lists.{All, all-at, all-map, all-sub, sub-last, last-length, insert-none, insert-cases}
+use Rattle.laws.proofs.hint_lists.Rising.{rises-all, rises-insert}
 use Rattle.laws.proofs.scans.Parts.{part-at}
 use Rattle.laws.proofs.hint_lists.Merging.{inserted-with}
 use Rattle.laws.proofs.hint_lists.Confirmations.{met-lsn}
@@ -38,7 +37,7 @@ use Rattle.theorems.specs.Useful.{MergeOf}
 use Rattle.theorems.specs.Lacks.{Confirms, together, Thinned, PushedOut, OtherDigest, MergeLeaves, MergeLeft}
 use Rattle.theorems.proofs.Jump.{Joinable, joinable}
 use Rattle.theorems.proofs.ScanLaws.{counts}
-use Rattle.theorems.proofs.Hints.{Any, any-at, one→, →one, any-all, lsn-all, lsn-inside, origin-all, unique}
+use Rattle.theorems.proofs.Hints.{Any, any-at, one→, →one, lsn-inside, last-of, met-or-not, unmet-stays, given-all}
 use Rattle.theorems.proofs.Useful.{merge-takes}
 
 -- ---- one of a list, by cases
@@ -209,39 +208,29 @@ module _ (own other y : Index) (k : HintingIs (own .scan .area) (own .fingerprin
       (λ e. ⊎-elim (λ q. inl q) (λ q. inr (inr q)) (stays-or-out (getD ds i noConfirmation) e (new-all cs ds 0 i rises' l)))
 
 -- ---- hints
--- of a rising list each passes
-passing : (a : Area) (hs : List Hint) → hintsOk a hs ≡ true → Passes hintOk hs
-unfolding hintsOk
-passing a hs ok = all-map (Inside hintLsn hintOk (a .end)) (λ x. hintOk x ≡ true) (λ x i. i .1) hs (rising→ hintLsn hintOk (a .start) (a .end) hs ok .each)
-
 same-hint : (h k : Hint) → k .lsn ≡ h .lsn → k .number ≡ h .number → k ≡ h
 same-hint h k e d = λ i. record { lsn = e i; number = d i }
 
-module _ (a : Area) (hs gs : List Hint) (ok : hintsOk a hs ≡ true) (ok' : hintsOk a gs ≡ true) (h : Hint) (m : Any (λ z. z ≡ h) gs) where
-  abbrev joint : List Hint
-  joint = insertAll a hs gs
+-- has x the LSN of h, with another number?
+abbrev Renumbers : Hint → Hint → Type 0
+Renumbers h x = (x .lsn ≡ h .lsn) × (x .number ≡ h .number → ⊥)
 
-  all-ok : hintsOk a joint ≡ true
-  all-ok = insertAll-keeps a (λ ys. hintsOk a ys ≡ true) (λ y. hintOk y ≡ true) (λ y ys i p w. hints-insert a y ys i p w) hs gs ok (passing a gs ok')
+-- what is there before thinning
+module _ (a : Area) (hs gs : List Hint) (ok : hintsOk a gs ≡ true) (h : Hint) where
+  -- a hint of the other list
+  other-there : Any (λ z. z ≡ h) gs → Any (λ z. z ≡ h) (insertAll a hs gs)
+  other-there m = given-all a hs gs h (last-of a gs ok h m) (lsn-inside a gs ok h m)
 
-  -- the hint of the result at the LSN of h is h, or an own one
-  met-there : Any (λ z. z ≡ h) joint ⊎ One (λ x. (x .lsn ≡ h .lsn) × (x .number ≡ h .number → ⊥)) hs
-  met-there =
-      let o = →one (λ z. z ≡ h) gs m in
-      let v = →one (λ z. z .lsn ≡ h .lsn) joint (lsn-all (h .lsn) a hs gs (lsn-inside a gs ok' h m) (any-at (λ z. z .lsn ≡ h .lsn) gs (o .place) (o .inside) (ap hintLsn (o .holds)))) in
-      let k = getD joint (v .place) noHint in
-      let same : k ≡ h → Any (λ z. z ≡ h) joint = λ e. any-at (λ z. z ≡ h) joint (v .place) (v .inside) e in
+  -- a hint of the own list, unless the other has another number at its LSN
+  own-there : Any (λ z. z ≡ h) hs → Any (λ z. z ≡ h) (insertAll a hs gs) ⊎ One (Renumbers h) gs
+  own-there m =
       ⊎-elim
-      (λ p.
-      let w = →one (λ z. z ≡ k) hs p in let e : getD hs (w .place) noHint .lsn ≡ h .lsn = ap hintLsn (w .holds) ∙ v .holds in
-      test (eqb (k .number) (h .number)) (λ q. inl (same (same-hint h k (v .holds) (eqb-true (k .number) (h .number) q))))
-      (λ q. inr (record {
-        place = w .place;
-        inside = w .inside;
-        holds = (e, λ d. eqb-false (k .number) (h .number) q (ap (λ (z : Hint). z .number) (sym (w .holds)) ∙ d));
-      })))
-      (λ f. inl (same (sym (f .is) ∙ unique a gs ok' (f .place) (o .place) (f .inside) (o .inside) (ap hintLsn (f .is) ∙ v .holds ∙ sym (ap hintLsn (o .holds))) ∙ o .holds)))
-      (origin-all a hs gs all-ok k (any-at (λ z. z ≡ k) joint (v .place) (v .inside) refl))
+      (λ v.
+      let k = getD gs (v .place) noHint in
+      test (eqb (k .number) (h .number))
+      (λ q. inl (other-there (any-at (λ z. z ≡ h) gs (v .place) (v .inside) (same-hint h k (v .holds) (eqb-true (k .number) (h .number) q)))))
+      (λ q. inr (record { place = v .place; inside = v .inside; holds = (v .holds, eqb-false (k .number) (h .number) q) })))
+      (λ n. inl (unmet-stays a hs gs h n m)) (met-or-not gs (h .lsn))
 
 module _ (own other y : Index) (k : HintingIs (own .scan .area) (own .fingerprint) (own .hinting)) (o : HintingIs (other .scan .area) (other .fingerprint) (other .hinting))
     (area : own .scan .area ≡ other .scan .area) (is : y .hinting .hints ≡ joinedHints (own .scan .area) (own .hinting .most) (own .hinting .hints) (other .hinting .hints)) where
@@ -258,20 +247,21 @@ module _ (own other y : Index) (k : HintingIs (own .scan .area) (own .fingerprin
       test (leb (length found) ms) (λ w. inl (subst (λ (z : List Hint). Among z h) (sym (is ∙ rw (e, w))) (→one (λ z. z ≡ h) found a)))
       (λ w. let l = leb-false (length found) ms w in inr (record { above = omega arith; left = is ∙ rw (e, w) }))
 
-  own-hint : (h : Hint) → Among (own .hinting .hints) h → Among (y .hinting .hints) h ⊎ Thinned own other y
+  ok-there : hintsOk (own .scan .area) (other .hinting .hints) ≡ true
+  ok-there = subst (λ (z : Area). hintsOk z (other .hinting .hints) ≡ true) (sym area) (o .hints)
+
+  own-hint : (h : Hint) → Among (own .hinting .hints) h → Among (y .hinting .hints) h ⊎ (One (Renumbers h) (other .hinting .hints) ⊎ Thinned own other y)
   unfolding joinedHints
   own-hint h a =
       test (eqb ms 0) (λ e. inl (subst (λ (z : List Hint). Among z h) (sym (is ∙ rw e)) a))
-      (λ e. there h e (any-all (λ z. z ≡ h) (own .scan .area) (own .hinting .hints) (other .hinting .hints) (one→ (λ z. z ≡ h) (own .hinting .hints) a)))
+      (λ e. ⊎-elim (λ p. ⊎-elim (λ q. inl q) (λ q. inr (inr q)) (there h e p)) (λ p. inr (inl p))
+      (own-there (own .scan .area) (own .hinting .hints) (other .hinting .hints) ok-there h (one→ (λ z. z ≡ h) (own .hinting .hints) a)))
 
-  -- a hint of the other: the one at its LSN is itself, or an own one
-  other-hint : (h : Hint) → Among (other .hinting .hints) h
-      → Among (y .hinting .hints) h ⊎ ((own .hinting .most ≡ 0) ⊎ (One (λ x. (x .lsn ≡ h .lsn) × (x .number ≡ h .number → ⊥)) (own .hinting .hints) ⊎ Thinned own other y))
+  other-hint : (h : Hint) → Among (other .hinting .hints) h → Among (y .hinting .hints) h ⊎ ((own .hinting .most ≡ 0) ⊎ Thinned own other y)
   other-hint h a =
       test (eqb ms 0) (λ e. inr (inl (eqb-true ms 0 e)))
-      (λ e.
-      let v = met-there (own .scan .area) (own .hinting .hints) (other .hinting .hints) (k .hints) (subst (λ (z : Area). hintsOk z (other .hinting .hints) ≡ true) (sym area) (o .hints)) h (one→ (λ z. z ≡ h) (other .hinting .hints) a) in
-      ⊎-elim (λ p. ⊎-elim (λ q. inl q) (λ q. inr (inr (inr q))) (there h e p)) (λ p. inr (inr (inl p))) v)
+      (λ e. ⊎-elim (λ q. inl q) (λ q. inr (inr q))
+      (there h e (other-there (own .scan .area) (own .hinting .hints) (other .hinting .hints) ok-there h (one→ (λ z. z ≡ h) (other .hinting .hints) a))))
 
 -- ---- parts
 at-length : (xs ys : List Held) (q : Held) → getD (xs ++ (q ∷ ys)) (length xs) noHeld ≡ q

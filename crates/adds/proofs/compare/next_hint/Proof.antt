@@ -1,6 +1,5 @@
-use Rattle.adds.proofs.compare.Passing.{read-turn, other-inside, own-inside, turn-new, turn-held, turn-both}
+use Rattle.adds.proofs.compare.Passing.{read-turn, other-inside, own-inside, both-inside, turn-new, turn-held, turn-both}
 use Rattle.rules.specs.File.{decodeHint}
-use Rattle.field.proofs.Records.{records-length}
 use native.Mathlib.Omega.{arith}
 use borrow.Author.Needs.{needs}
 use Rattle.adds.proofs.compare.next_hint.Statement.{statement}
@@ -42,16 +41,29 @@ returns-2 c =
     turn-held (after-lsn-at .lsn-at .ensures) (after-lsn-at2 .lsn-at2 .ensures) (start .pre .2) (start .pre .3) l
     (read-turn 8 decodeHint _ _ _ l (after-read-hint2 .read-hint2 .ensures)) (c .if2 .taken)
 
+read-hint-requires-3 : tie.Need-read-hint-requires-3
+read-hint-requires-3 c κs =
+    let else1 : tie.Else1 = search in
+    let after-lsn-at2 : tie.After-lsn-at2 = search in
+    let after-lsn-at : tie.After-lsn-at = search in
+    let start : tie.Start = search in
+    let l = own-inside (after-lsn-at .lsn-at .ensures) (after-lsn-at2 .lsn-at2 .ensures) (start .pre .3) (start .pre .4) (else1 .if1 .left) in
+    let g = both-inside (after-lsn-at .lsn-at .ensures) (after-lsn-at2 .lsn-at2 .ensures) l (c .if2 .left) (else1 .if1 .left) in
+    omega (arith, g)
+
 returns-3 : tie.Need-returns-3
 returns-3 c =
+    let after-read-hint3 : tie.After-read-hint3 = search in
+    let else2 : tie.Else2 = search in
     let after-read-hint2 : tie.After-read-hint2 = search in
     let else1 : tie.Else1 = search in
     let after-lsn-at2 : tie.After-lsn-at2 = search in
     let after-lsn-at : tie.After-lsn-at = search in
     let start : tie.Start = search in
     let l = own-inside (after-lsn-at .lsn-at .ensures) (after-lsn-at2 .lsn-at2 .ensures) (start .pre .3) (start .pre .4) (else1 .if1 .left) in
+    let g = both-inside (after-lsn-at .lsn-at .ensures) (after-lsn-at2 .lsn-at2 .ensures) l (else2 .if2 .left) (else1 .if1 .left) in
     turn-both (after-lsn-at .lsn-at .ensures) (after-lsn-at2 .lsn-at2 .ensures) (start .pre .2) (start .pre .3) l
-    (read-turn 8 decodeHint _ _ _ l (after-read-hint2 .read-hint2 .ensures)) (records-length 8 decodeHint _ _) (c .if2 .left) (else1 .if1 .left)
+    (read-turn 8 decodeHint _ _ _ l (after-read-hint2 .read-hint2 .ensures)) (read-turn 8 decodeHint _ _ _ g (after-read-hint3 .read-hint3 .ensures)) (else2 .if2 .left) (else1 .if1 .left)
 
 pub next-hint-spec : {M : Type 1} → statement M
 next-hint-spec =
@@ -65,6 +77,7 @@ next-hint-spec =
     read-hint-requires-2
     (λ c. search needs)
     returns-2
+    read-hint-requires-3
     (λ c. search needs)
     (λ c. search needs)
     returns-3)
