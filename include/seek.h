@@ -645,13 +645,15 @@ static inline uint64_t seek_save(const seek_list *l, uint8_t *out, size_t length
     return seek_raw_save(l->head, SEEK_BLOCK, SEEK_LENT_SEVEN_(l), out, length);
 }
 
-/* Merges the other list, which is only read, into l. */
+/* Merges the other list, which is only read, into l. A sector of which both have a hint then has the other list's frame number: merge the newer list into the
+ * older one. */
 static inline uint32_t seek_merge(seek_list *l, const seek_list *other)
 {
     return seek_raw_merge(l->head, SEEK_BLOCK, other->head, SEEK_BLOCK, SEEK_LENT_SEVEN_(l), SEEK_LENT_SEVEN_(other));
 }
 
-/* What merging the other list would change in l. Where nothing but image is set, whatever the frame, the jump's start, the part's bytes and the hint are those
+/* What merging the other list would change in l. A hint of l whose number the other list has otherwise is a change: of two such lists each brings hints to
+ * the other. Where nothing but image is set, whatever the frame, the jump's start, the part's bytes and the hint are those
  * of the merged list. It does not promise that the other list holds nothing else: a merge takes no parts for checkpoints that l has, no hints above its limit
  * and no confirmations while its fingerprint is unchecked. seek_lacks below says what the other list holds. */
 typedef struct {
@@ -874,7 +876,8 @@ static inline uint32_t seek_hint(const seek_list *l, uint32_t first, uint32_t en
     return n;
 }
 
-/* Adds hints, 8 bytes each: sector and frame number, lowest byte first. Sectors that do not rise are sorted, with about 52,000 bytes of the stack. */
+/* Adds hints, 8 bytes each: sector and frame number, lowest byte first. Of a sector that is held, or given more than once, the last number given stays. Sectors
+ * that do not rise are sorted, with about 52,000 bytes of the stack. */
 static inline uint32_t seek_add_hints(seek_list *l, const uint8_t *list, size_t length)
 {
     return seek_raw_add_hints(l->head, SEEK_BLOCK, list, length, SEEK_LENT_SEVEN_(l));

@@ -78,7 +78,8 @@ static seek_lacking taken(const seek_lacking *before, const seek_lacking *after)
     return l;
 }
 
-static int merge_one(List *own, const List *other)
+/* again: the list that the merge began with. */
+static int merge_one(List *own, const List *other, int again)
 {
     Beside before = ask_beside(own, other), after;
     uint32_t number = before.number ? before.number : seek_merge(&own->list, &other->list);
@@ -88,8 +89,8 @@ static int merge_one(List *own, const List *other)
         return cannot(own, other, number);
     after = ask_beside(own, other);
     l = taken(&before.more, &after.more);
-    if (!opt.json) {
-        add(&t, "%s brought ", other->name);
+    if (!opt.json && (!again || all_of(&l))) {
+        add(&t, again ? "%s, taken in again at its place, brought " : "%s brought ", other->name);
         if (all_of(&l))
             holds(&t, other, &l, 0);
         else
@@ -114,10 +115,11 @@ static void begun_with(const List *begin, const List *first)
     free_text(&t);
 }
 
-/* Merges the files' lists of a slot, with slot -1 the lists of list files. */
+/* Merges the files' lists of a slot, with slot -1 the lists of list files. Where two lists have another frame number for one sector, that of the list given
+ * later stays: the list that the merge began with is taken in again behind those given before it. */
 static int merge_lists(File *f, int n, int slot, Merged *m)
 {
-    List *begin = to_begin_with(f, n, slot);
+    List *begin = to_begin_with(f, n, slot), *first;
     int i, status;
     if (!begin)
         return DONE;
@@ -127,13 +129,14 @@ static int merge_lists(File *f, int n, int slot, Merged *m)
         return status;
     for (i = 0; !list_of(&f[i], slot);)
         i++;
-    begun_with(begin, list_of(&f[i], slot));
+    first = list_of(&f[i], slot);
+    begun_with(begin, first);
     m->own.number = state_fingerprint(&m->own, f, n, slot);
     if (m->own.number)
         return refused_list(&m->own);
     for (i = 0; i < n && status == DONE; i++)
-        if (list_of(&f[i], slot) && list_of(&f[i], slot) != begin)
-            status = merge_one(&m->own, list_of(&f[i], slot));
+        if (list_of(&f[i], slot) && (list_of(&f[i], slot) != begin || begin != first))
+            status = merge_one(&m->own, list_of(&f[i], slot), list_of(&f[i], slot) == begin);
     return status;
 }
 

@@ -27,6 +27,7 @@ typedef struct {
     int other_part;           /* other bytes of the part at this checkpoint */
     int hints;                /* how many, -1 for none */
     int later_hints;          /* this many sectors later */
+    int other_number;         /* this one, counted from 1, has the next frame number */
     int confirmations;        /* how many, -1 for none */
     int lower;                /* thresholds of confirmations, lower by so much */
     uint64_t fingerprint;     /* 1 none; 0 that of the disc */
@@ -49,6 +50,8 @@ static const Spec specs[] = {
     {.name = "most-0", .hints = -1, .confirmations = -1, .most = 1},
     {.name = "other-part", .other_part = 4},
     {.name = "later-hints", .later_hints = 3},
+    {.name = "renumbered", .other_number = 4},
+    {.name = "renumbered-more-room", .other_number = 4, .most = 4096},
     {.name = "confirmed", .confirmations = 5},
     {.name = "lower", .lower = 7},
     {.name = "no-fingerprint", .fingerprint = 1, .confirmations = -1},
@@ -133,7 +136,7 @@ static void add_all(const Spec *s, const seek_area *a, seek_list *l)
     int i, kept, n = s->hints < 0 ? 0 : s->hints ? s->hints : 10, c = s->confirmations < 0 ? 0 : s->confirmations ? s->confirmations : 2;
     for (i = 0; i < n; i++) {
         put(hints + 8 * i, a->start + 5 + (uint64_t)i + (uint64_t)s->later_hints);
-        put(hints + 8 * i + 4, (uint64_t)(450 + 90 * i));
+        put(hints + 8 * i + 4, (uint64_t)(450 + 90 * i + (i + 1 == s->other_number)));
     }
     accepted(s->name, seek_add_hints(l, hints, 8 * (size_t)n));
     if (s->fingerprint != 1)

@@ -134,7 +134,7 @@ impl List {
         Ok(Some(HintRecorder { block, list: zeros(LIST)? }))
     }
 
-    /// Adds hints by their rules.
+    /// Adds hints by their rules: of a sector that is held, or given more than once, the last number given stays.
     pub fn add_hints(&mut self, hints: &[Hint]) -> Result<(), Error> {
         let mut list = Vec::new();
         list.try_reserve_exact(8 * hints.len()).map_err(|_| Error::Memory)?;

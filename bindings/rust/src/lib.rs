@@ -455,7 +455,7 @@ impl List {
         })
     }
 
-    /// Merges another list into this one.
+    /// Merges another list into this one. A sector of which both have a hint then has the other list's frame number.
     pub fn merge(&mut self, other: &List) -> Result<(), Error> {
         let [u0, u1, u2, u3, u4, u5, u6] = other.tables();
         let (head, [t0, t1, t2, t3, t4, t5, t6]) = self.tables_mut();
@@ -469,7 +469,7 @@ impl List {
         })
     }
 
-    /// What merging another list would change in this one.
+    /// What merging another list would change in this one; a hint whose number the other list has otherwise is a change.
     pub fn adds(&self, other: &List) -> Result<Brings, Error> {
         let mut b = [0; BLOCK];
         let [u0, u1, u2, u3, u4, u5, u6] = other.tables();
