@@ -179,13 +179,17 @@ fn no_bytes() {
 fn two_numbers() {
     let mut short = list(1, 1, 0, 1);
     short.add_hints(vec![(0, 1), (0, 0)]);
+    let mut held = list(1, 1, 0, 1);
+    held.add_hints(vec![(0, 0)]);
+    held.add_hints(vec![(0, 1)]);
     let mut long = list(2, 1, 0, 2);
     long.add_hints([vec![(1, 0), (0, 1)], vec![(0, 0); 19]].concat());
     let lsns = |ix: &AreaIndex| ix.samples.iter().map(|s| s.0).collect::<Vec<_>>();
-    assert!(lsns(&short) == [0] && lsns(&long) == [0, 1] && short.samples[0].1 < 2 && long.samples[0].1 < 2);
+    assert!(lsns(&short) == [0] && lsns(&held) == [0] && lsns(&long) == [0, 1]);
+    assert!([&short, &held, &long].iter().all(|ix| ix.samples[0].1 < 2));
     println!(
-        "of (0,1) and (0,0) stays {:?}; with (1,0) before and 19 of (0,0) {:?}",
-        short.samples[0], long.samples[0]
+        "of (0,1) and (0,0) stays {:?}; where (0,0) is held, with (0,1), {:?}; of (0,1) and 19 of (0,0), with (1,0) before, {:?}",
+        short.samples[0], held.samples[0], long.samples[0]
     );
 }
 
