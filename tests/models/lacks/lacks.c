@@ -625,9 +625,21 @@ static int look_nothing(int own, int other)
 }
 
 /* ---- what a merged list can lack */
+/* Of how many hints of l has the other list another number? */
+static uint64_t renumbered(const seek_list *l, const seek_list *other)
+{
+    uint64_t i, j, n = 0;
+    uint32_t lsn, number, at, to;
+    for (i = 0; seek_hint_at(l, i, &lsn, &number); i++)
+        for (j = 0; seek_hint_at(other, j, &at, &to); j++)
+            n += at == lsn && to != number;
+    return n;
+}
+
 static int look_merged(int own, int other)
 {
     seek_lacking a, b;
+    uint64_t most = seek_hint_limit(&lists[own]);
     copy(3, own);
     if (seek_merge(&lists[3], &lists[other]))
         return fail("a merge is refused that lacks accepts");
@@ -638,8 +650,10 @@ static int look_merged(int own, int other)
         return fail("the merged list lacks something of the own");
     if (b.checkpoints || b.end_state || b.fingerprint || b.image)
         return fail("the merged list lacks something of the other");
-    if (a.hints && seek_hint_count(&lists[3]) != seek_hint_limit(&lists[3]) - seek_hint_limit(&lists[3]) / 4)
-        return fail("an own hint is lacking though nothing is thinned");
+    if (seek_hint_count(&lists[3]) != most - most / 4 && a.hints != (most ? renumbered(&lists[own], &lists[other]) : 0))
+        return fail("own hints are lacking, and others than those whose number is replaced, though nothing is thinned");
+    if (b.hints && seek_hint_count(&lists[3]) != most - most / 4)
+        return fail("a hint of the other is lacking though nothing is thinned");
     if (b.confirmations && seek_fingerprint_checked(&lists[own]) && seek_hint_limit(&lists[own]) && seek_confirmation_count(&lists[3]) != seek_hint_limit(&lists[3]))
         return fail("a confirmation of the other is lacking though there is room");
     merge_lacks += !seek_lacks_nothing(&a) || !seek_lacks_nothing(&b);
