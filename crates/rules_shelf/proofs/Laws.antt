@@ -1,17 +1,16 @@
 -- Laws of the records of a shelf. Assumes nothing.
-use mathlib.Core.Path.{_≡_, refl, sym, ap, ap₂, _∙_}
-use mathlib.Core.Bool.{Bool, true, false, _&&_, not, cond}
+use mathlib.Core.Path.{_≡_, refl, ap, ap₂, _∙_}
+use mathlib.Core.Bool.{true, false, _&&_, not, cond}
 use mathlib.Core.List.{List, [], _∷_, _++_}
 use Prim.Native.Nat.{ℕ, zero, suc, _+_, _-_, _<_, _≤_}
 use native.Mathlib.Omega.{arith}
-use borrow.Author.Tests.{ltb-true, ltb-false, leb-true, lt-ltb, le-leb}
+use borrow.Author.Tests.{le-leb}
 use lib.Dec.{leb, ltb}
 use lib.ListN.{length, getD, take, drop, length-append, length-take, length-drop, take-append-drop}
-use lib.Seq.{drop-cons, take-suc, take-all, getD-take, drop-nil}
+use lib.Seq.{drop-cons, take-suc, take-all, take-nil, getD-take, drop-nil}
 use Rattle.rules.specs.declared.Area.{Area}
-use Rattle.rules.specs.Tests.{all}
 use Rattle.rules.specs.Values.{sameArea}
-use Rattle.rules.proofs.Tests.{test, choose, all→, →all}
+use Rattle.rules.proofs.Tests.{choose, →all}
 use Rattle.rules_shelf.specs.declared.ShelfRecord.{ShelfRecord}
 use Rattle.rules_shelf.specs.Shelf.{noRecord, areaOf, sum, placeOf, among, noTwo, dropAt, stampAt, older, oldestOf, oldest, roomy, makeRoom}
 
@@ -110,3 +109,32 @@ made-more n room rs e = rw e
 pub roomy-none : (room : ℕ) → roomy room [] ≡ true
 unfolding roomy sum
 roomy-none room = →all (ltb 0 64 ∷ leb 0 room ∷ []) (refl, (le-leb 0 room (omega arith), tt))
+
+-- ---- dropping, among the first records
+pub drop-at-suc : (i : ℕ) (r : ShelfRecord) (rs : List ShelfRecord) → dropAt (suc i) (r ∷ rs) ≡ r ∷ dropAt i rs
+unfolding dropAt
+drop-at-suc i r rs = refl
+
+pub take-drop : (i m : ℕ) (rs : List ShelfRecord) → i ≤ m → take m (dropAt i rs) ≡ dropAt i (take (suc m) rs)
+unfolding dropAt
+take-drop zero m [] l = take-nil m
+take-drop zero m (r ∷ rs) l = refl
+take-drop (suc i) zero rs l = let f : ⊥ = omega arith in absurd f
+take-drop (suc i) (suc m) [] l = refl
+take-drop (suc i) (suc m) (r ∷ rs) l = ap (λ (t : List ShelfRecord). r ∷ t) (take-drop i m rs (omega arith))
+
+-- before the place nothing moves
+pub take-before : (i : ℕ) (rs : List ShelfRecord) → take i (dropAt i rs) ≡ take i rs
+unfolding dropAt
+take-before zero rs = refl
+take-before (suc i) [] = refl
+take-before (suc i) (r ∷ rs) = ap (λ (t : List ShelfRecord). r ∷ t) (take-before i rs)
+
+-- from it on each record is the next one
+pub drop-next : (i j : ℕ) (rs : List ShelfRecord) → i ≤ j → getD (dropAt i rs) j noRecord ≡ getD rs (suc j) noRecord
+unfolding dropAt
+drop-next zero j [] l = refl
+drop-next zero j (r ∷ rs) l = refl
+drop-next (suc i) zero rs l = let f : ⊥ = omega arith in absurd f
+drop-next (suc i) (suc j) [] l = refl
+drop-next (suc i) (suc j) (r ∷ rs) l = drop-next i j rs (omega arith)

@@ -3,7 +3,7 @@ use mathlib.Core.Path.{_≡_, refl, sym, ap, ap₂, _∙_}
 use mathlib.Core.Bool.{Bool, true, false, _&&_, not, cond, and-true}
 use mathlib.Core.Option.{Option, none, some}
 use mathlib.Core.List.{List, [], _∷_, _++_}
-use Prim.Native.Nat.{ℕ, zero, suc, _+_, _-_, _<_, _≤_}
+use Prim.Native.Nat.{ℕ, suc, _+_, _-_, _<_, _≤_}
 use native.Mathlib.Omega.{arith}
 use native.Mathlib.Numerals.{add-one}
 use borrow.Author.Tests.{ltb-true, ltb-false, leb-true, eqb-true, eqb-false, ne-eqb, lt-ltb, le-ltb, le-leb, lt-leb}
@@ -24,7 +24,6 @@ use Rattle.shelf.specs.declared.Change.{Change}
 use Rattle.shelf.specs.declared.Kept.{Kept}
 use Rattle.shelf.specs.Change.{answer, told, newOf, someOf, Changes}
 use Rattle.shelf.specs.Kept.{Sound, Stands, listOf}
-use Rattle.shelf.specs.Table.{written}
 
 -- ---- one record more
 -- what `pushed` ensures

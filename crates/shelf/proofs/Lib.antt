@@ -1,2 +1,3 @@
 mod Again
+pub mod Calls
 pub mod Laws

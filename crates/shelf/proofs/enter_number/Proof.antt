@@ -1,5 +1,5 @@
-use mathlib.Core.Path.{refl}
 use mathlib.Core.List.{[]}
+use mathlib.Core.Path.{refl}
 use Rattle.rules_shelf.specs.Shelf.{areaOf, questions}
 use Rattle.shelf.specs.Kept.{listOf}
 use Rattle.shelf.proofs.Laws.{asked-last}

@@ -1,7 +1,6 @@
 use borrow.Author.Tests.{not-true, not-false}
 use native.Mathlib.Omega.{arith}
 use Rattle.shelf.proofs.Laws.{Making, make-start, make-oldest, make-on, make-end}
-use borrow.Author.Needs.{needs}
 use Rattle.shelf.proofs.make_room.Statement.{statement}
 use Rattle.shelf.proofs.make_room.Tie as tie
 

@@ -1,6 +1,6 @@
 use mathlib.Core.Path.{_≡_, refl}
 use native.Mathlib.Omega.{arith}
-use Prim.Native.Nat.{ℕ, _-_, _≤_}
+use Prim.Native.Nat.{_-_, _≤_}
 use Rattle.rules_shelf.specs.Shelf.{oldestOf}
 use Rattle.shelf.proofs.Laws.{oldest-on, oldest-end}
 use borrow.Author.Needs.{needs}

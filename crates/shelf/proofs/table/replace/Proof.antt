@@ -1,5 +1,5 @@
 -- `shelf::table::replace` meets its contract: a walk of its MIR, by hand. The borrow is opened, record i is taken out of the row and stored to, and the borrow is closed at the list with r at i.
-use mathlib.Core.Path.{_≡_, refl, sym, ap, subst}
+use mathlib.Core.Path.{refl, sym, ap, subst}
 use Prim.Native.Nat.{ℕ, _*_, _<_, _^_}
 use native.Mathlib.Omega.{arith}
 use mathlib.Core.List.{List, [], _∷_}
