@@ -26,6 +26,7 @@ pub mod Recorders
 pub mod RoundTrip
 pub mod RoundTripInBlocks
 pub mod RoundTripInTables
+pub mod Shelf
 pub mod TableRun
 pub mod Terms
 pub mod Useful

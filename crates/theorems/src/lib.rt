@@ -1,3 +1,4 @@
 // Every statement that answers the three demands and the change requests: on values, in tables, about the calls for C; no function.
 pub mod disc;
 pub mod lacking;
+pub mod shelves;
