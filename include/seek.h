@@ -132,6 +132,8 @@ enum {
     SEEK_NO_MERGE_IDS = 42,
     SEEK_NO_MERGE_CHECKPOINTS = 43,
     SEEK_NO_FOLD = 49,               /* the bits that a sum is folded to */
+    SEEK_NO_SHELF_LIST = 50,         /* the new list alone exceeds the shelf's limit */
+    SEEK_NO_SHELF_COUNT = 51,        /* the shelf's count is at its largest */
     SEEK_NO_DISC = 54
 };
 
@@ -224,6 +226,8 @@ static inline const char *seek_text(uint32_t number)
     case SEEK_NO_MERGE_IDS: return "the lists have different image ids or fingerprints";
     case SEEK_NO_MERGE_CHECKPOINTS: return "the lists disagree about a checkpoint or the end state";
     case SEEK_NO_FOLD: return "k is not between half the width and the width less one";
+    case SEEK_NO_SHELF_LIST: return "the new list alone exceeds the shelf's limit";
+    case SEEK_NO_SHELF_COUNT: return "the shelf's count is at its largest";
     case SEEK_NO_DISC: return "the disc file's contents table breaks its rules, or two lists share a slot, or one is too long";
     default: return "no such number";
     }
@@ -297,6 +301,47 @@ typedef struct {
     seek_table list;          /* 8 bytes each */
 } seek_hint_recorder;
 
+/* ---- a shelf
+ * The numbers of a shelf of saved lists, and the records of its table, one for each list: its area, the length of its file, and the stamp of its last entry or
+ * jump. The first present records of the table count. The table is lent to each call and has room for at least 64 records.
+ */
+#define SEEK_SHELF_RECORDS 64
+typedef struct {
+    uint64_t present;
+    uint64_t count;      /* of entries and jumps: the last stamp given */
+    uint64_t limit;      /* the most that the lengths of the present lists may sum up to */
+} seek_shelf;
+
+typedef struct {
+    uint8_t slot;        /* the area, as in seek_area */
+    uint8_t channels;
+    uint32_t key_start;
+    uint32_t key_end;
+    uint64_t sectors;
+    uint64_t start;
+    uint64_t end;
+    uint64_t length;     /* of the list's file, in bytes */
+    uint64_t stamp;
+} seek_shelf_record;
+
+/* What a call on a shelf answers: 0 or a refusal number, 1 where the area of a jump is absent, and the shelf's numbers afterwards. */
+typedef struct {
+    uint32_t number;
+    uint32_t absent;
+    uint64_t present;
+    uint64_t count;
+} seek_shelf_answer;
+
+/* The library was proved and compiled with these sizes and places. */
+#define SEEK_LAID_(name, test) typedef char seek_laid_##name[(test) ? 1 : -1]
+SEEK_LAID_(shelf, sizeof(seek_shelf) == 24 && offsetof(seek_shelf, count) == 8 && offsetof(seek_shelf, limit) == 16);
+SEEK_LAID_(answer, sizeof(seek_shelf_answer) == 24 && offsetof(seek_shelf_answer, absent) == 4 && offsetof(seek_shelf_answer, present) == 8 &&
+                       offsetof(seek_shelf_answer, count) == 16);
+SEEK_LAID_(record, sizeof(seek_shelf_record) == 56 && offsetof(seek_shelf_record, channels) == 1 && offsetof(seek_shelf_record, key_start) == 4 &&
+                       offsetof(seek_shelf_record, key_end) == 8 && offsetof(seek_shelf_record, sectors) == 16 && offsetof(seek_shelf_record, start) == 24 &&
+                       offsetof(seek_shelf_record, end) == 32 && offsetof(seek_shelf_record, length) == 40 && offsetof(seek_shelf_record, stamp) == 48);
+#undef SEEK_LAID_
+
 /* ---- the library's functions, over pointers and lengths; the functions below them take lists */
 #define SEEK_IN(t) const uint8_t *t, size_t t##_length
 #define SEEK_OUT(t) uint8_t *t, size_t t##_length
@@ -349,6 +394,8 @@ uint64_t seek_raw_disc_save_both(SEEK_IN(head), SEEK_IN(other), SEEK_TABLES_IN, 
 uint32_t seek_raw_sum32(SEEK_IN(bytes));
 uint32_t seek_raw_fold32(uint32_t sum, uint32_t k, SEEK_OUT(answer));
 uint32_t seek_raw_fold64(uint64_t sum, uint32_t k, SEEK_OUT(answer));
+seek_shelf_answer seek_raw_shelf_enter(seek_shelf_record *table, size_t records, seek_shelf shelf, seek_shelf_record list);
+seek_shelf_answer seek_raw_shelf_jump(seek_shelf_record *table, size_t records, seek_shelf shelf, seek_shelf_record list);
 uint32_t seek_raw_due(SEEK_IN(block), SEEK_OUT(answer));
 uint32_t seek_raw_boundary(SEEK_IN(head), uint32_t number, SEEK_OUT(answer));
 uint32_t seek_raw_version(void);
@@ -1033,6 +1080,47 @@ static inline int seek_lacks_nothing(const seek_lacking *lacking)
 {
     return lacking->checkpoints == 0 && lacking->end_state == 0 && lacking->parts == 0 && lacking->malformed == 0 && lacking->hints == 0 &&
            lacking->confirmations == 0 && lacking->fingerprint == 0;
+}
+
+/* ---- one shelf for many discs
+ * A player keeps up to 64 saved lists under a limit of bytes, and drops those not used for longest. table has records records, at least 64; past
+ * shelf->present they are the caller's own. Records that a call does not change, it leaves as they are.
+ */
+static inline seek_shelf_record seek_shelf_record_(const seek_area *a, uint64_t length)
+{
+    seek_shelf_record r = {a->slot, a->channels, a->key_start, a->key_end, a->sectors, a->start, a->end, length, 0};
+    return r;
+}
+
+/* Is the record of this area? */
+static inline int seek_shelf_is(const seek_shelf_record *r, const seek_area *a)
+{
+    return r->slot == a->slot && r->channels == a->channels && r->key_start == a->key_start && r->key_end == a->key_end && r->sectors == a->sectors &&
+           r->start == a->start && r->end == a->end;
+}
+
+/* The list of an area, with a file of so many bytes, is entered. The record of its area, if there is one, is removed first. Then, while 64 are present or
+ * the sum of the lengths would exceed the limit, the one with the oldest stamp is dropped, the earlier among equals. The new record stands last, with the next
+ * number of the count. Which lists were dropped the caller learns by comparing the table with a copy of it: a record that was present before, and whose area
+ * no present record has. Answers 0, or 1, 3 (fewer than 64 records), 4 (more than 64 present, an area under two of them, or their sum above the limit),
+ * SEEK_NO_SHELF_COUNT, SEEK_NO_SHELF_LIST; then nothing is changed. */
+static inline uint32_t seek_shelf_enter(seek_shelf *shelf, seek_shelf_record *table, size_t records, const seek_area *a, uint64_t length)
+{
+    seek_shelf_answer r = seek_raw_shelf_enter(table, records, *shelf, seek_shelf_record_(a, length));
+    shelf->present = r.present;
+    shelf->count = r.count;
+    return r.number;
+}
+
+/* A jump in the list of an area: its record has the next number of the count, in its place. Answers 0, or 1, 3, 4, SEEK_NO_SHELF_COUNT. *absent is 1 where no
+ * present record has this area, else 0; a refusal and an absent area change nothing. */
+static inline uint32_t seek_shelf_jump(seek_shelf *shelf, seek_shelf_record *table, size_t records, const seek_area *a, int *absent)
+{
+    seek_shelf_answer r = seek_raw_shelf_jump(table, records, *shelf, seek_shelf_record_(a, 0));
+    shelf->present = r.present;
+    shelf->count = r.count;
+    *absent = r.absent != 0;
+    return r.number;
 }
 
 /* ---- the header's own macros; SEEK_NULL_ stays, for SEEK_ABSENT */

@@ -51,7 +51,7 @@ typedef struct {
 enum {
     HEAD, OTHER, ANSWER, FILE_, OUT, LIST, CHECKPOINTS, FRAMES, STORE, PARTS, MALFORMED, HINTS, CONFIRMED, CHECKPOINTS2, FRAMES2, STORE2, PARTS2, MALFORMED2,
     HINTS2, CONFIRMED2, RECORDER, FINISHING, CHECKPOINTS3, FRAMES3, STORE3, PARTS3, BYTES, SECTOR, HINTER, SEEN, GIVEN, HEAD4, CHECKPOINTS4, FRAMES4, STORE4,
-    PARTS4, MALFORMED4, HINTS4, CONFIRMED4, DISC, DISC_OUT, BUFFERS
+    PARTS4, MALFORMED4, HINTS4, CONFIRMED4, DISC, DISC_OUT, SHELF, BUFFERS
 };
 static buffer all[BUFFERS];
 static uint8_t *real[BUFFERS];
@@ -189,6 +189,17 @@ static uint64_t call_sum32(void) { return seek_raw_sum32(LENT(FILE_)), 0; }
 static uint64_t call_fold32(void) { return seek_raw_fold32((uint32_t)v[0], (uint32_t)v[1], LENT(ANSWER)); }
 static uint64_t call_fold64(void) { return seek_raw_fold64(v[0], (uint32_t)v[1], LENT(ANSWER)); }
 
+/* A shelf's numbers, and the list of the area with a file of so many bytes; the table's records begin where the buffer does. An absent area changes nothing. */
+#define SHELF_TABLE (seek_shelf_record *)(void *)all[SHELF].at, all[SHELF].length / sizeof(seek_shelf_record)
+static uint64_t shelf_answer(seek_shelf_answer r) { return r.number == 0 && r.absent != 0 && !same(&all[SHELF]) ? 99 : r.number; }
+static uint64_t call_shelf(int jump)
+{
+    seek_shelf x = {v[0], v[1], v[2]};
+    return shelf_answer((jump ? seek_raw_shelf_jump : seek_raw_shelf_enter)(SHELF_TABLE, x, seek_shelf_record_(&area, v[3])));
+}
+static uint64_t call_shelf_enter(void) { return call_shelf(0); }
+static uint64_t call_shelf_jump(void) { return call_shelf(1); }
+
 #define BIT(k) (UINT64_C(1) << (k))
 #define SEVEN (BIT(CHECKPOINTS) | BIT(FRAMES) | BIT(STORE) | BIT(PARTS) | BIT(MALFORMED) | BIT(HINTS) | BIT(CONFIRMED))
 
@@ -241,6 +252,8 @@ static const struct {
     {"sum32", call_sum32, BIT(FILE_), 0, 0, {0}},
     {"fold32", call_fold32, BIT(ANSWER), BIT(ANSWER), 0, {0xbf9cf968, 24}},
     {"fold64", call_fold64, BIT(ANSWER), BIT(ANSWER), 0, {0x85944171f73967e8, 48}},
+    {"shelf_enter", call_shelf_enter, BIT(SHELF), BIT(SHELF), 0, {3, 9, 100, 60}},
+    {"shelf_jump", call_shelf_jump, BIT(SHELF), BIT(SHELF), 0, {3, 9, 100}},
     {"due", call_due, BIT(RECORDER) | BIT(ANSWER), BIT(ANSWER), 0, {0}},
     {"boundary", call_boundary, BIT(HEAD) | BIT(ANSWER), BIT(ANSWER), 0, {3}},
 };
@@ -308,7 +321,7 @@ static int no_head(unsigned c)
 static int check(unsigned c, uint64_t answer)
 {
     int refused = calls[c].lengths ? answer < 88 : answer != 0, k;
-    if (refused && (answer == 0 || (answer > 43 && answer != SEEK_NO_FOLD && answer != SEEK_NO_DISC))) {
+    if (refused && (answer == 0 || (answer > 43 && answer != SEEK_NO_FOLD && answer != SEEK_NO_SHELF_LIST && answer != SEEK_NO_SHELF_COUNT && answer != SEEK_NO_DISC))) {
         fprintf(stderr, "%s: %" PRIu64 " is no refusal number\n", calls[c].name, answer);
         return 0;
     }
@@ -434,6 +447,20 @@ static void begin_disc(const seek_list *l0, const seek_list *l1)
         exit(2);
 }
 
+/* A shelf of three lists, of 10, 20 and 30 bytes, the last of them of slot 0's area. */
+static void begin_shelf(void)
+{
+    seek_shelf_record r[SEEK_SHELF_RECORDS] = {{0}};
+    unsigned i;
+    for (i = 0; i < 3; i++) {
+        r[i] = seek_shelf_record_(i == 2 ? &area : &area1, 10 * (i + 1));
+        r[i].start += i == 0;
+        r[i].stamp = 7 - 2 * (i % 2);
+    }
+    make(SHELF, "shelf", sizeof r);
+    memcpy(real[SHELF], r, sizeof r);
+}
+
 static void begin(void)
 {
     unsigned i;
@@ -442,6 +469,7 @@ static void begin(void)
     second = begin_list(HEAD4, CHECKPOINTS4, 4, 30, 1, &area1);
     begin_disc(&own, &second);
     begin_sector();
+    begin_shelf();
     begin_recorder(&own);
     begin_hint_recorder(&own);
     make(ANSWER, "answer", SEEK_BLOCK);
