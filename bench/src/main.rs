@@ -18,6 +18,7 @@ mod records;
 mod report;
 mod rounds;
 mod sectors;
+mod shelf;
 mod sums;
 mod tables;
 
@@ -56,6 +57,7 @@ fn main() {
     report.head();
     sectors::rows(&report);
     sums::rows(&report);
+    shelf::rows(&report);
     files::rows(&report);
     discs::rows(&report);
     merges::rows(&report);

@@ -82,6 +82,8 @@ errors! {
     MergeIds = 42, "the lists have different image ids or fingerprints";
     MergeCheckpoints = 43, "the lists disagree about a checkpoint or the end state";
     Fold = 49, "k is not between half the width and the width less one";
+    ShelfList = 50, "the new list alone exceeds the shelf's limit";
+    ShelfCount = 51, "the shelf's count is at its largest";
     Disc = 54, "the disc file's contents table breaks its rules, or two lists share a slot, or one is too long";
     Memory = 200, "there is no memory for it";
 }

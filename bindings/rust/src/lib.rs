@@ -39,6 +39,7 @@ mod hints;
 mod raw;
 mod readers;
 mod recorder;
+mod shelf;
 mod sums;
 
 pub use disc::{contents, load_disc, save_disc};
@@ -46,6 +47,7 @@ pub use error::Error;
 pub use hints::{Confirmation, Hint, HintEnd, HintRecorder, HintStart, Hinted};
 pub use readers::{Checkpoint, Held};
 pub use recorder::{Frame, Recorder};
+pub use shelf::{Shelf, ShelfList};
 pub use sums::{fold32, fold64, sum32};
 
 use error::answer;

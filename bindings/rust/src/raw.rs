@@ -3,6 +3,42 @@
 /// The bytes of a block: 24 words of eight bytes, lowest byte first.
 pub const BLOCK: usize = 192;
 
+/// A record of a shelf's table.
+#[repr(C)]
+#[derive(Clone, Copy, Debug, Default, PartialEq, Eq)]
+pub struct ShelfRecord {
+    pub slot: u8,
+    pub channels: u8,
+    pub key_start: u32,
+    pub key_end: u32,
+    pub sectors: u64,
+    pub start: u64,
+    pub end: u64,
+    pub length: u64,
+    pub stamp: u64,
+}
+
+/// The numbers of a shelf.
+#[repr(C)]
+#[derive(Clone, Copy, Debug, Default, PartialEq, Eq)]
+pub struct ShelfNumbers {
+    pub present: u64,
+    pub count: u64,
+    pub limit: u64,
+}
+
+/// What a call on a shelf answers.
+#[repr(C)]
+#[derive(Clone, Copy, Debug, PartialEq, Eq)]
+pub struct ShelfAnswer {
+    pub number: u32,
+    pub absent: u32,
+    pub present: u64,
+    pub count: u64,
+}
+
+const _: () = assert!(size_of::<ShelfRecord>() == 56 && size_of::<ShelfNumbers>() == 24 && size_of::<ShelfAnswer>() == 24);
+
 unsafe extern "C" {
     pub fn seek_raw_sum(bytes: *const u8, length: usize) -> u64;
     pub fn seek_raw_first_record(sector: *const u8, length: usize, answer: *mut u8, answer_length: usize) -> u32;
@@ -135,6 +171,8 @@ unsafe extern "C" {
     pub fn seek_raw_sum32(bytes: *const u8, length: usize) -> u32;
     pub fn seek_raw_fold32(sum: u32, k: u32, answer: *mut u8, answer_length: usize) -> u32;
     pub fn seek_raw_fold64(sum: u64, k: u32, answer: *mut u8, answer_length: usize) -> u32;
+    pub fn seek_raw_shelf_enter(table: *mut ShelfRecord, records: usize, shelf: ShelfNumbers, list: ShelfRecord) -> ShelfAnswer;
+    pub fn seek_raw_shelf_jump(table: *mut ShelfRecord, records: usize, shelf: ShelfNumbers, list: ShelfRecord) -> ShelfAnswer;
     pub fn seek_raw_due(block: *const u8, block_length: usize, answer: *mut u8, answer_length: usize) -> u32;
     pub fn seek_raw_boundary(head: *const u8, head_length: usize, number: u32, answer: *mut u8, answer_length: usize) -> u32;
     pub fn seek_raw_version() -> u32;
