@@ -3,7 +3,7 @@ use mathlib.Core.Path.{refl}
 use Rattle.field.specs.Number.{encode, decode, sameBytes}
 use Rattle.field.specs.Records.{records, bytesOf}
 use Rattle.blocks.specs.From.{endFrom, fingerprintFrom, imageFrom, modeFrom, lastFrom, tailFrom, areaFrom, indexFrom, recorderFrom, hintRecorderFrom}
-use Rattle.blocks.specs.Head.{endWords, fingerprintWords, imageWords, modeWords, lastWords, tailWords, indexWords, recorderWords, hintRecorderWords}
+use Rattle.blocks.specs.Head.{endWords, fingerprintWords, imageWords, modeWords, lastWords, tailWords, indexWords, recorderWords, hintRecorderArray, hintRecorderWords}
 use Rattle.blocks.specs.IsHead.{isHead, withFree}
 use Rattle.blocks.specs.HeadExamples.{Hold, lists, recorders}
 
@@ -12,5 +12,5 @@ unfolding isHead sameBytes records bytesOf encode decode indexFrom areaFrom endF
 lists-hold = refl
 
 recorders-hold : Hold recorders
-unfolding isHead sameBytes records bytesOf encode decode recorderFrom areaFrom modeFrom recorderWords modeWords hintRecorderFrom lastFrom tailFrom hintRecorderWords lastWords tailWords withFree
+unfolding isHead sameBytes records bytesOf encode decode recorderFrom areaFrom modeFrom recorderWords modeWords hintRecorderFrom lastFrom tailFrom hintRecorderWords hintRecorderArray lastWords tailWords withFree
 recorders-hold = refl
