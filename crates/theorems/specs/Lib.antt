@@ -2,6 +2,8 @@ pub mod Adds
 pub mod BlockRun
 pub mod Closure
 pub mod ClosureInTables
+pub mod Coarse
+pub mod CoarseRecorded
 pub mod Demand1
 pub mod Demand1InC
 pub mod Demand3
