@@ -1,6 +1,6 @@
 -- The parts of another list, added one after another. Assumes nothing.
 use mathlib.Core.Path.{_≡_, refl, sym, ap, _∙_}
-use mathlib.Core.Bool.{Bool, true, false, cond}
+use mathlib.Core.Bool.{Bool, true, false, cond, not}
 use mathlib.Core.List.{List, [], _∷_, _++_}
 use Prim.Native.Nat.{ℕ, zero, suc, _+_, _-_, _*_, _<_, _≤_}
 use native.Mathlib.Nat.{zero-add}
@@ -98,26 +98,61 @@ pub source-next : {off : ℕ} {x : FrameHeader} (f : ℕ) (headers : List ℕ) (
 source-next f headers i g e h a b z = let q : g ≡ i + 1 = omega arith in weight-next i (headersIn f headers) e h ∙ rw q
 
 -- ---- one part
-module _ (budget n : ℕ) (c : Counts) (p : Piece) (t : PartTables) where
-  pub added-no : p .at < n → held c t ≡ addedBy budget n c p t
+module _ (budget : ℕ) (c : Counts) (p : Piece) (t : PartTables) where
+  pub added-no : {go : Bool} → go ≡ false → held c t ≡ addedBy budget go c p t
   unfolding addedBy
-  added-no l = rw (lt-ltb (p .at) n l)
+  added-no e = rw e
 
-  added-yes : n ≤ p .at → heldFrom (addPart budget (storedIn (c .frames) (c .parts) t) p) t ≡ addedBy budget n c p t
+  added-yes : {go : Bool} → go ≡ true → heldFrom (addPart budget (storedIn (c .frames) (c .parts) t) p) t ≡ addedBy budget go c p t
   unfolding addedBy
-  added-yes l = rw (le-ltb (p .at) n l)
+  added-yes e = rw e
 
 -- its bytes are cut from the other store
-pub added-part : {x : Held} {z : ℤ} (budget n : ℕ) (c : Counts) (t : PartTables) (p : declared.Held) (start from e : ℕ) (other : List ℕ) → z ≡ p .remaining → e ≡ from + p .len → n ≤ p .at
+pub added-part : {x : Held} {z : ℤ} {go : Bool} (budget : ℕ) (c : Counts) (t : PartTables) (p : declared.Held) (at start from e : ℕ) (other : List ℕ) → z ≡ p .remaining → e ≡ from + p .len
+    → go ≡ true
     → x ≡ heldFrom (addPart budget (storedIn (c .frames) (c .parts) t)
-    (record { at = p .at; start = start; bytes = take (e - from) (drop from other); number = p .number; kind = p .kind; remaining = z })) t
-    → x ≡ addedBy budget n c (heldPiece p start (take (p .len) (drop from other))) t
-added-part budget n c t p start from e other r q l h =
+    (record { at = at; start = start; bytes = take (e - from) (drop from other); number = p .number; kind = p .kind; remaining = z })) t
+    → x ≡ addedBy budget go c (heldPiece p at start (take (p .len) (drop from other))) t
+added-part budget c t p at start from e other r q l h =
     let k : e - from ≡ p .len = omega arith in
-    (rw (r, k) at h) ∙ added-yes budget n c (heldPiece p start (take (p .len) (drop from other))) t l
+    (rw (r, k) at h) ∙ added-yes budget c (heldPiece p at start (take (p .len) (drop from other))) t l
+
+-- a part of frames fs as it is handed over, for the checkpoint that a number of it gives
+abbrev pub numbered : (ℕ → ℕ) → List Frame → declared.Held → Piece
+numbered f fs p =
+    record {
+      at = f (p .at);
+      start = frameAt fs (p .frame) .start;
+      bytes = partBytes fs p;
+      number = p .number;
+      kind = p .kind;
+      remaining = p .remaining;
+    }
+
+pub not-true : (b : Bool) → not b ≡ true → b ≡ false
+not-true false e = refl
+not-true true e = sym e
+
+pub not-false : (b : Bool) → not b ≡ false → b ≡ true
+not-false false e = sym e
+not-false true e = refl
 
 -- ---- the loop
-module _ (budget n f h : ℕ) (o t0 : PartTables) where
+-- which parts of frames fs are added, and for which checkpoint; what is then held, and how many these are
+pub record Choice (budget : ℕ) (fs : List Frame) : Type 0 where
+  pub wants : declared.Held → Bool
+  pub number : ℕ → ℕ
+  pub low : (a : ℕ) → number a ≤ a
+  pub many : List declared.Held → ℕ
+  pub many-yes : (p : declared.Held) (ps : List declared.Held) → wants p ≡ true → many (p ∷ ps) ≡ suc (many ps)
+  pub many-no : (p : declared.Held) (ps : List declared.Held) → wants p ≡ false → many (p ∷ ps) ≡ many ps
+  pub all : List declared.Held → Stored → Stored
+  pub none : (h : Stored) → all [] h ≡ h
+  pub yes : (p : declared.Held) (ps : List declared.Held) (h : Stored) → wants p ≡ true
+      → all (p ∷ ps) h ≡ all ps (addPart budget h (numbered number fs p))
+  pub no : (p : declared.Held) (ps : List declared.Held) (h : Stored) → wants p ≡ false → all (p ∷ ps) h ≡ all ps h
+
+module _ (budget f h : ℕ) (o t0 : PartTables) (choice : Choice budget (framesIn f (o .frames) (o .store))) where
   abbrev others : List Frame
   others = framesIn f (o .frames) (o .store)
 
@@ -129,10 +164,10 @@ module _ (budget n f h : ℕ) (o t0 : PartTables) where
     pub within : j ≤ h
     pub source : at .offset ≡ offsetTo f (o .frames) (at .frame)
     pub order : InOrder (at .frame) others (drop j parts)
-    pub room : Room (wanted n (drop j parts)) budget c t
+    pub room : Room (choice .many (drop j parts)) budget c t
     pub fits : Fits (storedIn (c .frames) (c .parts) t)
     pub front : storedOver (storedIn (c .frames) (c .parts) t) t0 ≡ t
-    pub rest : addParts budget others n (drop j parts) (storedIn (c .frames) (c .parts) t) ≡ given
+    pub rest : choice .all (drop j parts) (storedIn (c .frames) (c .parts) t) ≡ given
 
   -- one at least
   space-one : {w : ℕ} {c : Counts} {t : PartTables} → Room (suc w) budget c t → Room 1 budget c t
@@ -143,8 +178,8 @@ module _ (budget n f h : ℕ) (o t0 : PartTables) where
   counted : {c : Counts} {t : PartTables} → Ready budget c t → c ≡ countsOf (storedIn (c .frames) (c .parts) t)
   counted {c} {t} r = rw (count (c .frames) (t .frames) (t .store), records-length 24 decodeHeld (c .parts) (t .parts), ← r .bytes)
 
-  pub adding-start : {c : Counts} → Lent f h o → Room (wanted n parts) budget c t0 → Bytes (t0 .frames) → Bytes (t0 .parts)
-      → Adding (addParts budget others n parts (storedIn (c .frames) (c .parts) t0)) 0 (record { frame = 0; offset = 0 }) c t0
+  pub adding-start : {c : Counts} → Lent f h o → Room (choice .many parts) budget c t0 → Bytes (t0 .frames) → Bytes (t0 .parts)
+      → Adding (choice .all parts (storedIn (c .frames) (c .parts) t0)) 0 (record { frame = 0; offset = 0 }) c t0
   unfolding framesOf used
   adding-start {c} l r bf bp = record {
     within = omega arith;
@@ -158,10 +193,9 @@ module _ (budget n f h : ℕ) (o t0 : PartTables) where
 
   module _ (l : Lent f h o) {given : Stored} {j : ℕ} {at : Source} {c : Counts} {t : PartTables} (k : Adding given j at c t) where
     pub adding-end : h ≤ j → held c t ≡ heldFrom given t0
-    unfolding addParts
     adding-end g =
         let e : drop j parts ≡ [] = drop-of-length-le parts {i = j} (rw records-length g) in
-        let q : storedIn (c .frames) (c .parts) t ≡ given = (rw e at (k .rest)) in
+        let q : storedIn (c .frames) (c .parts) t ≡ given = sym (choice .none _) ∙ (rw e at (k .rest)) in
         let a : countsOf (storedIn (c .frames) (c .parts) t) ≡ c = sym (counted (k .room .ready)) in
         rw (← q, a, k .front)
 
@@ -169,13 +203,11 @@ module _ (budget n f h : ℕ) (o t0 : PartTables) where
       turn : drop j parts ≡ p ∷ drop (j + 1) parts
       turn = records-turn 24 decodeHeld h (o .parts) j i ∙ rw is
 
-      wanted-yes : n ≤ p .at → wanted n (drop j parts) ≡ suc (wanted n (drop (j + 1) parts))
-      unfolding wanted
-      wanted-yes z = rw (turn, le-ltb (p .at) n z)
+      wanted-yes : choice .wants p ≡ true → choice .many (drop j parts) ≡ suc (choice .many (drop (j + 1) parts))
+      wanted-yes z = rw turn (choice .many-yes p (drop (j + 1) parts) z)
 
-      wanted-no : p .at < n → wanted n (drop j parts) ≡ wanted n (drop (j + 1) parts)
-      unfolding wanted
-      wanted-no z = rw (turn, lt-ltb (p .at) n z)
+      wanted-no : choice .wants p ≡ false → choice .many (drop j parts) ≡ choice .many (drop (j + 1) parts)
+      wanted-no z = rw turn (choice .many-no p (drop (j + 1) parts) z)
 
       pub in-order : InOrder (at .frame) others (p ∷ drop (j + 1) parts)
       in-order = rw turn at (k .order)
@@ -189,14 +221,15 @@ module _ (budget n f h : ℕ) (o t0 : PartTables) where
           let e = k .source ∙ offset-is f (o .frames) (o .store) (l .store) (at .frame) in
           (k .source, q .0, q .1, rw (count f (o .frames) (o .store)) at (q .2), l .frames, omega arith)
 
-      module _ {at' : Source} (there : (at' .frame ≡ p .frame) × (at' .offset ≡ offsetTo f (o .frames) (p .frame))) {g : FrameHeader} (header : g ≡ recordAt 8 decodeHeader (o .frames) (p .frame)) where
-        pub one-ready : (n ≤ p .at → Room 1 budget c t) × (at' .offset + p .len ≤ length (o .store))
+      module _ {at' : Source} (there : (at' .frame ≡ p .frame) × (at' .offset ≡ offsetTo f (o .frames) (p .frame))) {g : FrameHeader} (header : g ≡ recordAt 8 decodeHeader (o .frames) (p .frame))
+          {go : Bool} (goes : go ≡ choice .wants p) where
+        pub one-ready : (go ≡ true → Room 1 budget c t) × (at' .offset + p .len ≤ length (o .store))
         one-ready = (
-          (λ z. let e : wanted n (drop j parts) ≡ suc (wanted n (drop (j + 1) parts)) = wanted-yes z in space-one (rw e at (k .room))),
+          (λ z. let e : choice .many (drop j parts) ≡ suc (choice .many (drop (j + 1) parts)) = wanted-yes (sym goes ∙ z) in space-one (rw e at (k .room))),
           (let q = in-order in bytes-inside f (o .frames) (o .store) (l .store) p (there .1) (q .2) (q .3)),
         )
 
-        piece-is : heldPiece p (g .start) (take (p .len) (drop (at' .offset) (o .store))) ≡ piece others p
+        piece-is : heldPiece p (choice .number (p .at)) (g .start) (take (p .len) (drop (at' .offset) (o .store))) ≡ numbered (choice .number) others p
         piece-is =
             let q = in-order in
             let u : p .frame < f = rw (count f (o .frames) (o .store)) at (q .2) in
@@ -204,17 +237,19 @@ module _ (budget n f h : ℕ) (o t0 : PartTables) where
             frame-start (headersIn f (o .frames)) (o .store) (p .frame) ∙ rw (records-at 8 decodeHeader f (o .frames) (p .frame) (record { start = 0; len = 0 }) u, header) in
             rw (e, bytes-there f (o .frames) (o .store) (l .store) p (there .1) (q .2) (q .3))
 
-        typed : Bytes (o .frames) → Bytes (o .parts) → Typed (piece others p)
+        typed : Bytes (o .frames) → Bytes (o .parts) → Typed (numbered (choice .number) others p)
         typed bf bp =
             let x : HeldFits p = rw is (held-fits _ (bytes-part (o .parts) (j * 24) 24 bp)) in
             let y = each-at (p .frame) noFrame (frames-fit (o .store) (records-fit header-layout f (o .frames) bf)) (omega arith, (omega arith, tt)) in
-            record { at = x .numbers .0; start = y .0; number = x .numbers .1 .1 .1 .0; remaining = x .signed }
+            let a = x .numbers .0 in let b = choice .low (p .at) in
+            record { at = omega arith; start = y .0; number = x .numbers .1 .1 .1 .0; remaining = x .signed }
 
-        module _ {c' : Counts} {t' : PartTables} (added : held c' t' ≡ addedBy budget n c (heldPiece p (g .start) (take (p .len) (drop (at' .offset) (o .store)))) t) where
-          skipped : p .at < n → Adding given (j + 1) at' c' t'
+        module _ {c' : Counts} {t' : PartTables}
+            (added : held c' t' ≡ addedBy budget go c (heldPiece p (choice .number (p .at)) (g .start) (take (p .len) (drop (at' .offset) (o .store)))) t) where
+          skipped : choice .wants p ≡ false → Adding given (j + 1) at' c' t'
           unfolding addedBy
           skipped z =
-              let e : held c' t' ≡ held c t = rw (lt-ltb (p .at) n z) at added in
+              let e : held c' t' ≡ held c t = rw (goes, z) at added in
               let ec : c' ≡ c = ap (λ (x : Held). x .counts) e in
               let et : t' ≡ t = ap (λ (x : Held). x .tables) e in
               rw (ec, et) (record {
@@ -224,22 +259,22 @@ module _ (budget n f h : ℕ) (o t0 : PartTables) where
                 room = rw (wanted-no z) at (k .room);
                 fits = k .fits;
                 front = k .front;
-                rest = sym (addParts-skip budget others n p (drop (j + 1) parts) _ (lt-ltb (p .at) n z)) ∙ (rw turn at (k .rest));
+                rest = sym (choice .no p (drop (j + 1) parts) _ z) ∙ (rw turn at (k .rest));
               })
 
-          stored-on : Bytes (o .frames) → Bytes (o .parts) → n ≤ p .at → Adding given (j + 1) at' c' t'
+          stored-on : Bytes (o .frames) → Bytes (o .parts) → choice .wants p ≡ true → Adding given (j + 1) at' c' t'
           unfolding addedBy
           stored-on bf bp z =
               let s = storedIn (c .frames) (c .parts) t in
-              let s' = addPart budget s (piece others p) in
-              let e : held c' t' ≡ heldFrom s' t = rw (le-ltb (p .at) n z, piece-is) at added in
+              let s' = addPart budget s (numbered (choice .number) others p) in
+              let e : held c' t' ≡ heldFrom s' t = rw (goes, z, piece-is) at added in
               let ec : c' ≡ countsOf s' = ap (λ (x : Held). x .counts) e in
               let et : t' ≡ storedOver s' t = ap (λ (x : Held). x .tables) e in
-              let r : Room (suc (wanted n (drop (j + 1) parts))) budget c t = rw (wanted-yes z) at (k .room) in
+              let r : Room (suc (choice .many (drop (j + 1) parts))) budget c t = rw (wanted-yes z) at (k .room) in
               let cf = count (c .frames) (t .frames) (t .store) in let cp = records-length 24 decodeHeld (c .parts) (t .parts) in
               let rb = r .ready .bytes in let rf = r .ready .fits in let few = r .few in
               let st : Step budget s s' =
-              step-part budget s (piece others p) (rw cf (omega arith)) (omega arith) (rw (cf, cp) (r .ready .some)) (k .fits) (typed bf bp) in
+              step-part budget s (numbered (choice .number) others p) (rw cf (omega arith)) (omega arith) (rw (cf, cp) (r .ready .some)) (k .fits) (typed bf bp) in
               let here = stands-there st t in
               rw (ec, et) (record {
                 within = omega arith;
@@ -248,8 +283,36 @@ module _ (budget n f h : ℕ) (o t0 : PartTables) where
                 room = next-room st t (counted (r .ready)) r;
                 fits = rw here (st .fits);
                 front = ap (λ (x : Stored). storedOver x t0) here ∙ sym (stored-again st t0) ∙ ap (storedOver s') (k .front);
-                rest = rw here (sym (addParts-add budget others n p (drop (j + 1) parts) s (le-ltb (p .at) n z)) ∙ (rw turn at (k .rest)));
+                rest = rw here (sym (choice .yes p (drop (j + 1) parts) s z) ∙ (rw turn at (k .rest)));
               })
 
           pub adding-on : Bytes (o .frames) → Bytes (o .parts) → Adding given (j + 1) at' c' t'
-          adding-on bf bp = test (ltb (p .at) n) (λ e. skipped (ltb-true (p .at) n e)) (λ e. stored-on bf bp (ltb-false (p .at) n e))
+          adding-on bf bp = test (choice .wants p) (λ e. stored-on bf bp e) (λ e. skipped e)
+
+-- ---- those for checkpoint number n or later
+module _ (n : ℕ) (p : declared.Held) (ps : List declared.Held) where
+  pub wanted-more : not (ltb (p .at) n) ≡ true → wanted n (p ∷ ps) ≡ suc (wanted n ps)
+  unfolding wanted
+  wanted-more e = rw (not-true (ltb (p .at) n) e)
+
+  pub wanted-same : not (ltb (p .at) n) ≡ false → wanted n (p ∷ ps) ≡ wanted n ps
+  unfolding wanted
+  wanted-same e = rw (not-false (ltb (p .at) n) e)
+
+pub added-none : (budget : ℕ) (fs : List Frame) (n : ℕ) (h : Stored) → addParts budget fs n [] h ≡ h
+unfolding addParts
+added-none budget fs n h = refl
+
+abbrev pub later-parts : (budget n : ℕ) (fs : List Frame) → Choice budget fs
+later-parts budget n fs = record {
+  wants = λ p. not (ltb (p .at) n);
+  number = λ a. a;
+  low = λ a. omega arith;
+  many = wanted n;
+  many-yes = wanted-more n;
+  many-no = wanted-same n;
+  all = addParts budget fs n;
+  none = added-none budget fs n;
+  yes = λ p ps h e. addParts-add budget fs n p ps h (not-true (ltb (p .at) n) e);
+  no = λ p ps h e. addParts-skip budget fs n p ps h (not-false (ltb (p .at) n) e);
+}

@@ -88,10 +88,10 @@ pub record Lent (f h : ℕ) (t : PartTables) : Type 0 where
 abbrev pub offsetTo : ℕ → List ℕ → ℕ → ℕ
 offsetTo f headers g = used (framesOf (take g (headersIn f headers)) [])
 
--- a part of another list, with its frame's start and its bytes
-abbrev pub heldPiece : declared.Held → ℕ → List ℕ → Piece
-heldPiece p start b = record { at = p .at; start = start; bytes = b; number = p .number; kind = p .kind; remaining = p .remaining }
+-- a part of another list, for checkpoint number at, with its frame's start and its bytes
+abbrev pub heldPiece : declared.Held → ℕ → ℕ → List ℕ → Piece
+heldPiece p at start b = record { at = at; start = start; bytes = b; number = p .number; kind = p .kind; remaining = p .remaining }
 
--- a part is added where it is for checkpoint number n or later
-unfoldable pub addedBy : ℕ → ℕ → Counts → Piece → PartTables → Held
-addedBy budget n c p t = cond (ltb (p .at) n) (held c t) (heldFrom (addPart budget (storedIn (c .frames) (c .parts) t) p) t)
+-- a part is added where go holds
+unfoldable pub addedBy : ℕ → Bool → Counts → Piece → PartTables → Held
+addedBy budget go c p t = cond go (heldFrom (addPart budget (storedIn (c .frames) (c .parts) t) p) t) (held c t)

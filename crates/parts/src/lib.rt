@@ -18,7 +18,7 @@ use tables::part_records::write_held;
 use tables::read_header;
 use tables::read_held;
 ghost use mathlib.Core.Path.{_≡_};
-ghost use mathlib.Core.Bool.{Bool, false, _||_, _&&_};
+ghost use mathlib.Core.Bool.{Bool, true, false, _||_, _&&_};
 ghost use mathlib.Core.List.{List, _++_};
 ghost use Prim.Native.Nat.{ℕ, _+_, _-_, _*_, _≤_, _<_};
 ghost use lib.Dec.{eqb, leb, ltb};
@@ -238,12 +238,13 @@ pub fn source_at(frames: &[u8], f: usize, s: Source, g: u32) -> Source
     }
 }
 
-// Part p of another list, whose frame starts at start and has its bytes in other from the place from on.
-fn add_one(
+// Where go holds, part p of another list for checkpoint number at; its frame starts at start and has its bytes in other from the place from on.
+pub fn add_one(
     budget: u64,
-    n: u32,
+    go: bool,
     c: Counts,
     p: Held,
+    at: u32,
     start: u32,
     from: usize,
     other: &[u8],
@@ -251,15 +252,15 @@ fn add_one(
     store: &mut [u8],
     parts: &mut [u8],
 ) -> Counts
-    requires { ⌜ (n ≤ p .at → Room 1 budget c (partTables (now frames) (now store) (now parts))) × (from + p .len ≤ length (now other)) ⌝ }
-    ensures { λ r. ⌜ held r (partTables (now (frames .exit)) (now (store .exit)) (now (parts .exit))) ≡ addedBy budget n c (heldPiece p start (take (p .len) (drop from (now (other .entry))))) (partTables (now (frames .entry)) (now (store .entry)) (now (parts .entry))) ⌝ }
+    requires { ⌜ (go ≡ true → Room 1 budget c (partTables (now frames) (now store) (now parts))) × (from + p .len ≤ length (now other)) ⌝ }
+    ensures { λ r. ⌜ held r (partTables (now (frames .exit)) (now (store .exit)) (now (parts .exit))) ≡ addedBy budget go c (heldPiece p at start (take (p .len) (drop from (now (other .entry))))) (partTables (now (frames .entry)) (now (store .entry)) (now (parts .entry))) ⌝ }
 {
-    if passed_over(p.at, n) {
+    if !go {
         return c;
     }
     let kind = p.kind;
     let piece = Piece {
-        at: p.at,
+        at,
         start,
         number: p.number,
         kind,
@@ -298,9 +299,10 @@ pub fn add_parts(
         let header = read_header(headers, p.frame as usize);
         held = add_one(
             budget,
-            n,
+            !passed_over(p.at, n),
             held,
             p,
+            p.at,
             header.start,
             at.offset as usize,
             other,

@@ -1,18 +1,19 @@
 use Prim.Native.Nat.{_-_}
 use native.Mathlib.Omega.{arith}
-use mathlib.Core.Path.{_≡_, refl}
+use mathlib.Core.Path.{_≡_, refl, ap}
+use mathlib.Core.Bool.{not}
 use lib.ListN.{length}
 use Rattle.rules.specs.PartRule.{addParts}
 use Rattle.tables.specs.Tables.{framesIn, partsIn}
 use Rattle.parts.specs.Parts.{partTables, storedIn}
-use Rattle.parts.proofs.Adding.{Adding, adding-start, source-ready, one-ready, adding-on, adding-end}
+use Rattle.parts.proofs.Adding.{later-parts, Adding, adding-start, source-ready, one-ready, adding-on, adding-end}
 use borrow.Author.Needs.{needs}
 use Rattle.parts.proofs.add_parts.Statement.{statement}
 use Rattle.parts.proofs.add_parts.Tie as tie
 
 abbrev Inv-loop : tie.InvT-loop
 Inv-loop budget n f h headers other theirs frames₀ store₀ parts₀ held₀ at₀ j₀ frames store parts held at j =
-    Adding budget n f h (partTables headers other theirs) (partTables frames₀ store₀ parts₀)
+    Adding budget f h (partTables headers other theirs) (partTables frames₀ store₀ parts₀) (later-parts budget n (framesIn f headers other))
     (addParts budget (framesIn f headers other) n (partsIn h theirs) (storedIn (held₀ .frames) (held₀ .parts) (partTables frames₀ store₀ parts₀))) j at held
     (partTables frames store parts)
     × (length frames ≡ length frames₀) × (length store ≡ length store₀) × (length parts ≡ length parts₀)
@@ -61,8 +62,9 @@ add-one-requires c κs =
     let in-loop : tie.In-loop Inv-loop μ-loop = search in
     let at-loop : tie.At-loop Inv-loop μ-loop = search in
     let start = begin at-loop in
+    let asked : tie.After-passed-over Inv-loop μ-loop = search in
     one-ready _ _ _ _ _ _ (start .pre .0) (at-loop .loop .inv .0) (in-loop .loop-test .taken) (after-read-held .read-held .ensures)
-    (after-source-at .source-at .ensures) (after-read-header .read-header .ensures)
+    (after-source-at .source-at .ensures) (after-read-header .read-header .ensures) (ap not (asked .passed-over .ensures))
 
 add-j : tie.Need-add-j Inv-loop μ-loop
 add-j c =
@@ -74,6 +76,7 @@ add-j c =
 loop-again : tie.Need-loop-again Inv-loop μ-loop
 loop-again c = (
   let after-add-one : tie.After-add-one Inv-loop μ-loop = search in
+      let asked : tie.After-passed-over Inv-loop μ-loop = search in
       let after-read-header : tie.After-read-header Inv-loop μ-loop = search in
       let after-source-at : tie.After-source-at Inv-loop μ-loop = search in
       let after-read-held : tie.After-read-held Inv-loop μ-loop = search in
@@ -83,7 +86,7 @@ loop-again c = (
       let after-shared-slice-known : tie.After-shared-slice-known Inv-loop μ-loop = search in
       let start = begin at-loop in
       adding-on _ _ _ _ _ _ (start .pre .0) (at-loop .loop .inv .0) (in-loop .loop-test .taken) (after-read-held .read-held .ensures)
-      (after-source-at .source-at .ensures) (after-read-header .read-header .ensures) (after-add-one .add-one .ensures)
+      (after-source-at .source-at .ensures) (after-read-header .read-header .ensures) (ap not (asked .passed-over .ensures)) (after-add-one .add-one .ensures)
       (λ i. after-shared-slice-known .shared-slice-known .given i .fits) (λ i. after-shared-slice-known3 .shared-slice-known3 .given i .fits),
   search needs,
   search needs,
@@ -108,6 +111,7 @@ add-parts-spec =
     source-at-requires
     (λ c. search needs)
     read-header-requires
+    (λ c κs. search needs)
     add-one-requires
     add-j
     (λ c. search needs)
