@@ -35,7 +35,7 @@ passed-by {m} {n} x l = sym (rw (lt-ltb m n l))
 module _ (budget n : ℕ) (h : Stored) (p : Held) (start from e : ℕ) (other : List ℕ) where
   pub stored-by : {r : Bool} {z : ℤ} → z ≡ p .remaining → e ≡ from + p .len → n ≤ p .at
       → r ≡ stores budget h (record { at = p .at; start = start; bytes = take (e - from) (drop from other); number = p .number; kind = p .kind; remaining = z })
-      → r ≡ (not (ltb (p .at) n) && stores budget h (heldPiece p start (take (p .len) (drop from other))))
+      → r ≡ (not (ltb (p .at) n) && stores budget h (heldPiece p (p .at) start (take (p .len) (drop from other))))
   stored-by {r} {z} q s l g = let k : e - from ≡ p .len = omega arith in (rw (q, k) at g) ∙ sym (rw (le-ltb (p .at) n l))
 
 -- ---- the loop
@@ -83,7 +83,7 @@ module _ (budget n f h : ℕ) (o : PartTables) (own : Stored) where
         part-inside = let q = in-order in bytes-inside f (o .frames) (o .store) (l .store) p (there .1) (q .2) (q .3)
 
         module _ {g : FrameHeader} (header : g ≡ recordAt 8 decodeHeader (o .frames) (p .frame)) where
-          piece-is : heldPiece p (g .start) (take (p .len) (drop (at' .offset) (o .store))) ≡ piece others p
+          piece-is : heldPiece p (p .at) (g .start) (take (p .len) (drop (at' .offset) (o .store))) ≡ piece others p
           piece-is =
               let q = in-order in
               let u : p .frame < f = rw (count f (o .frames) (o .store)) at (q .2) in
@@ -91,7 +91,7 @@ module _ (budget n f h : ℕ) (o : PartTables) (own : Stored) where
               frame-start (headersIn f (o .frames)) (o .store) (p .frame) ∙ rw (records-at 8 decodeHeader f (o .frames) (p .frame) (record { start = 0; len = 0 }) u, header) in
               rw (e, bytes-there f (o .frames) (o .store) (l .store) p (there .1) (q .2) (q .3))
 
-          module _ {b : Bool} (asked : b ≡ (not (ltb (p .at) n) && stores budget own (heldPiece p (g .start) (take (p .len) (drop (at' .offset) (o .store)))))) where
+          module _ {b : Bool} (asked : b ≡ (not (ltb (p .at) n) && stores budget own (heldPiece p (p .at) (g .start) (take (p .len) (drop (at' .offset) (o .store)))))) where
             next : (b || someStored budget others n (drop (j + 1) parts) own) ≡ r
             unfolding someStored
             next = rw (asked, piece-is) (rw turn at (k .rest))

@@ -108,7 +108,7 @@ fn stores_one(
     parts: &[u8],
 ) -> bool
     requires { ⌜ Ready budget c (partTables (now frames) (now store) (now parts)) × (from + p .len ≤ length (now other)) ⌝ }
-    ensures { λ r. ⌜ r ≡ (not (ltb (p .at) n) && stores budget (storedIn (c .frames) (c .parts) (partTables (now (frames .entry)) (now (store .entry)) (now (parts .entry)))) (heldPiece p start (take (p .len) (drop from (now (other .entry)))))) ⌝ }
+    ensures { λ r. ⌜ r ≡ (not (ltb (p .at) n) && stores budget (storedIn (c .frames) (c .parts) (partTables (now (frames .entry)) (now (store .entry)) (now (parts .entry)))) (heldPiece p (p .at) start (take (p .len) (drop from (now (other .entry)))))) ⌝ }
 {
     if p.at < n {
         return false;
