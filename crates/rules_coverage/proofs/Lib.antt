@@ -1,1 +1,2 @@
 pub mod CoverageExamples
+pub mod Statements

@@ -1,3 +1,4 @@
 pub mod Coverage
 pub mod CoverageExamples
 pub mod Lines
+pub mod Statements
