@@ -42,7 +42,7 @@ refused-too b n e a =
     rw (m .0) (ap (λ (k : ℕ). Refused k) (m .1))
 
 -- ---- 26
-key-self : (k : AreaKey) → sameKey k k ≡ true
+pub key-self : (k : AreaKey) → sameKey k k ≡ true
 unfolding sameKey
 key-self k = →all _ (eqb-self (k .slot), (eqb-self (k .start), (eqb-self (k .end), (eqb-self (k .channels), (eqb-self (k .sectors), tt)))))
 
@@ -56,7 +56,7 @@ unfolding firstNo among
 passed-26 p q r s t u v w x o =
     only-after except26 (ask p 23 ∷ ask q 24 ∷ ask r 25 ∷ ask s 27 ∷ ask t 28 ∷ ask u 29 ∷ ask v 28 ∷ ask w 30 ∷ []) x refl o
 
-other-number : (a : Area) (b : List ℕ) → sameKey (keyOf (readHeader (bodyIn b))) (a .key) ≡ true → Only except26 (fromBytes a b)
+pub other-number : (a : Area) (b : List ℕ) → sameKey (keyOf (readHeader (bodyIn b))) (a .key) ≡ true → Only except26 (fromBytes a b)
 unfolding fromBytes fileNumber headerNumber among
 other-number a b e =
     only-after except26 _ _ refl (rw e (passed-26 _ _ _ _ _ _ _ _ _ (only-wider ofSections except26 _ refl (only-sections a _ _))))

@@ -4,6 +4,7 @@ pub mod Closure
 pub mod ClosureInTables
 pub mod Coarse
 pub mod CoarseRecorded
+pub mod Coverage
 pub mod Demand1
 pub mod Demand1InC
 pub mod Demand3
