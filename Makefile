@@ -1,5 +1,6 @@
 # make            proves the player's library and writes the archive, target/libseek.a, and the shared library
 # make seek       the desk's program, target/seek
+# make coverage   the program of the coverage sheet, proved, target/seek-coverage
 # make check      the tests of the library from C and Rust, of the desk's program and of the release
 # make install    archive, shared library, headers, pkg-config and CMake files, the desk's program and its manual page; make uninstall removes them
 # make dist       target/seek-VERSION-x86_64-linux.tar.gz, which needs nothing of this tree; make deb: a Debian package of the same
@@ -35,6 +36,13 @@ seek: target/seek
 target/seek: $(DESK) $(wildcard desk/seek/*.h) $(HEADERS) $(ARCHIVE)
 	$(SEEK) $(DESK) $(ARCHIVE) -o $@
 
+coverage: target/seek-coverage
+
+# as rt proves and links it
+target/seek-coverage: crates.txt $(shell find crates -name '*.rt' -o -name '*.antt')
+	tools/scratch rt check coverage
+	cp target/bin/coverage $@
+
 # the program of a release: it needs no library of the machine that it runs on
 target/static/seek: $(DESK) $(wildcard desk/seek/*.h) $(HEADERS) $(ARCHIVE)
 	mkdir -p target/static
@@ -47,14 +55,17 @@ check: all seek
 
 PLACES = -e 's|@PREFIX@|$(PREFIX)|' -e 's|@LIBDIR@|$(LIBDIR)|' -e 's|@INCLUDEDIR@|$(INCLUDEDIR)|' -e 's|@VERSION@|$(VERSION)|' -e 's|@SONAME@|$(SONAME)|' \
     -e 's|@FROM_LIBDIR@|$(shell realpath -m --relative-to='$(LIBDIR)' '$(INCLUDEDIR)')|'
-INSTALLED = '$(DESTDIR)$(BINDIR)/seek' '$(DESTDIR)$(MANDIR)/man1/seek.1' '$(DESTDIR)$(LIBDIR)/libseek.a' '$(DESTDIR)$(LIBDIR)/libseek.so.$(VERSION)' \
+INSTALLED = '$(DESTDIR)$(BINDIR)/seek' '$(DESTDIR)$(BINDIR)/seek-coverage' '$(DESTDIR)$(MANDIR)/man1/seek.1' '$(DESTDIR)$(MANDIR)/man1/seek-coverage.1' \
+    '$(DESTDIR)$(LIBDIR)/libseek.a' '$(DESTDIR)$(LIBDIR)/libseek.so.$(VERSION)' \
     '$(DESTDIR)$(LIBDIR)/$(SONAME)' '$(DESTDIR)$(LIBDIR)/libseek.so' '$(DESTDIR)$(INCLUDEDIR)/seek.h' '$(DESTDIR)$(INCLUDEDIR)/seek_file.h' \
     '$(DESTDIR)$(LIBDIR)/pkgconfig/seek.pc' '$(DESTDIR)$(LIBDIR)/cmake/seek/seek-config.cmake' '$(DESTDIR)$(LIBDIR)/cmake/seek/seek-config-version.cmake'
 
-install: all target/seek
+install: all target/seek target/seek-coverage
 	install -d '$(DESTDIR)$(LIBDIR)/pkgconfig' '$(DESTDIR)$(LIBDIR)/cmake/seek' '$(DESTDIR)$(INCLUDEDIR)' '$(DESTDIR)$(BINDIR)' '$(DESTDIR)$(MANDIR)/man1'
 	install -m 755 target/seek '$(DESTDIR)$(BINDIR)/seek'
 	install -m 644 desk/seek.1 '$(DESTDIR)$(MANDIR)/man1/seek.1'
+	install -m 755 target/seek-coverage '$(DESTDIR)$(BINDIR)/seek-coverage'
+	install -m 644 desk/seek-coverage.1 '$(DESTDIR)$(MANDIR)/man1/seek-coverage.1'
 	install -m 644 $(ARCHIVE) '$(DESTDIR)$(LIBDIR)/libseek.a'
 	install -m 644 $(SHARED) '$(DESTDIR)$(LIBDIR)/libseek.so.$(VERSION)'
 	ln -sf libseek.so.$(VERSION) '$(DESTDIR)$(LIBDIR)/$(SONAME)'
@@ -75,6 +86,6 @@ deb: all target/seek target/static/seek
 	tools/package/deb $(VERSION)
 
 clean:
-	rm -rf $(ARCHIVE) target/libseek.so.* target/seek target/static target/seek-*-x86_64-linux.tar.gz target/seek-index_*_amd64.deb
+	rm -rf $(ARCHIVE) target/libseek.so.* target/seek target/seek-coverage target/static target/seek-*-x86_64-linux.tar.gz target/seek-index_*_amd64.deb
 
-.PHONY: all seek check install uninstall dist deb clean
+.PHONY: all seek coverage check install uninstall dist deb clean
