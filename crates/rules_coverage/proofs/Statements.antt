@@ -1,20 +1,21 @@
 -- Totals are sums, and lines are what they say. Assumes nothing.
 use Prim.Native.Nat.{ℕ, suc, _+_, _*_, _/_, _≤_, _<_}
 use mathlib.Core.Path.{_≡_, refl, sym, ap, _∙_}
-use mathlib.Core.Bool.{Bool, true, false, cond}
+use mathlib.Core.Bool.{true, _&&_}
 use mathlib.Core.List.{List, [], _∷_, _++_}
 use mathlib.Core.Option.{Option, none, some}
 use native.Mathlib.Nat.{div-mul-le-self, lt-div-mul-add, add-mul, one-mul}
 use native.Mathlib.Omega.{arith}
-use borrow.Author.Tests.{eqb-true, eq-eqb, ne-eqb}
-use lib.Dec.{eqb}
-use lib.ListN.{length}
+use borrow.Author.Tests.{eqb-true, eq-eqb, ne-eqb, leb-true, leb-false}
+use lib.Dec.{eqb, leb}
+use lib.ListN.{length, take, length-append, length-take}
+use lib.Seq.{take-all}
 use Rattle.rules.specs.Tests.{all, Answer, Refused, Accepted}
-use Rattle.rules.proofs.Tests.{test, all→}
+use Rattle.rules.proofs.Tests.{test, all→, and-left, and-right}
 use Rattle.rules_coverage.specs.declared.Row.{Row}
-use Rattle.rules_coverage.specs.Lines.{Line, onFirst, wordsOf, isName, isNumber, valueFrom, lineFrom, lineOf}
+use Rattle.rules_coverage.specs.Lines.{Line, onFirst, wordsOf, between, isName, isNumber, valueFrom, lineFrom, lineOf}
 use Rattle.rules_coverage.specs.Coverage.{row, plus, coverage, totals}
-use Rattle.rules_coverage.specs.Statements.{acceptedRows, sumOf, TotalsAreSums, TotalCoverage, Written, NameBack}
+use Rattle.rules_coverage.specs.Statements.{acceptedRows, sumOf, TotalsAreSums, TotalCoverage, Written, NameBack, LongLines}
 
 -- ---- totals
 module _ (f : Row → ℕ) (none-yet : f (row 0 0 0) ≡ 0) (adds : (r s : Row) → f (plus r s) ≡ f r + f s) where
@@ -96,3 +97,41 @@ back-from w (x ∷ y ∷ []) l e =
 pub name-back : NameBack
 unfolding lineOf
 name-back s l e = let j = joined s in rw (j .back) at (back-from (j .first) (j .rest) l (rw (j .words) at e))
+
+-- ---- long lines
+name-short : (w : List ℕ) → isName w ≡ true → length w ≤ 255
+unfolding isName between
+name-short w e = leb-true (length w) 255 (and-right (leb 1 (length w)) (leb (length w) 255) (and-left (leb 1 (length w) && leb (length w) 255) _ e))
+
+number-short : (w : List ℕ) → isNumber w ≡ true → length w ≤ 10
+unfolding isNumber between
+number-short w e = leb-true (length w) 10 (and-right (leb 1 (length w)) (leb (length w) 10) (and-left (leb 1 (length w) && leb (length w) 10) _ e))
+
+right-short : (s : List ℕ) (l : Line) → lineOf s ≡ some l → length s ≤ 277
+right-short s l e =
+    let w = name-back s l e in
+    let n = name-short (l .name) (w .name) in
+    let a = number-short (w .first) (w .start .0) in
+    let b = number-short (w .last) (w .end .0) in
+    let i = ap length (w .is) in
+    let j = length-append (l .name) (32 ∷ (w .first ++ (32 ∷ w .last))) in
+    let k = length-append (w .first) (32 ∷ w .last) in
+    omega arith
+
+long-none : (s : List ℕ) → 277 < length s → (o : Option Line) → lineOf s ≡ o → o ≡ none
+long-none s h none e = refl
+long-none s h (some l) e = let f : ⊥ = omega (arith, right-short s l e) in absurd f
+
+long-broken : (s : List ℕ) → 277 < length s → lineOf s ≡ none
+long-broken s h = long-none s h (lineOf s) refl
+
+cut-same : (s : List ℕ) → lineOf (take 278 s) ≡ lineOf s
+cut-same s =
+    test (leb (length s) 277) (λ t. ap lineOf (take-all 278 s (omega (arith, leb-true (length s) 277 t))))
+    (λ t.
+    let h = leb-false (length s) 277 t in
+    let l = length-take 278 s in
+    long-broken (take 278 s) (omega arith) ∙ sym (long-broken s h))
+
+pub long-lines : LongLines
+long-lines = record { broken = long-broken; cut = cut-same }

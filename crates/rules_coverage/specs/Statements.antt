@@ -3,7 +3,8 @@ use Prim.Native.Nat.{ℕ, _+_, _*_, _≤_, _<_}
 use mathlib.Core.Path.{_≡_}
 use mathlib.Core.Bool.{true}
 use mathlib.Core.List.{List, [], _∷_, _++_}
-use mathlib.Core.Option.{some}
+use mathlib.Core.Option.{none, some}
+use lib.ListN.{length, take}
 use Rattle.rules.specs.Tests.{Answer, Refused, Accepted}
 use Rattle.rules_coverage.specs.declared.Row.{Row}
 use Rattle.rules_coverage.specs.Lines.{Line, isName, isNumber, valueFrom, lineOf}
@@ -48,3 +49,8 @@ pub record Written (s : List ℕ) (l : Line) : Type 0 where
 -- the printed name is the line's
 abbrev pub NameBack : Type 0
 NameBack = (s : List ℕ) (l : Line) → lineOf s ≡ some l → Written s l
+
+-- the longest right line has 277 bytes, so that one that is cut at 278 says what the whole one says
+pub record LongLines : Type 0 where
+  pub broken : (s : List ℕ) → 277 < length s → lineOf s ≡ none
+  pub cut : (s : List ℕ) → lineOf (take 278 s) ≡ lineOf s
