@@ -276,16 +276,11 @@ make-end {k} {b} {room} s e f =
     (record { sound = s .sound; same = sym (made (b .n) room (listOf b) r) ∙ s .same }, omega arith)
 
 -- ---- the oldest
-module _ (rs : List ShelfRecord) (best i : ℕ) {r b : ShelfRecord} (e : r ≡ getD rs i noRecord) (d : b ≡ getD rs best noRecord) where
-  older-is : older rs best i ≡ cond (ltb (r .stamp) (b .stamp)) i best
-  unfolding older
-  older-is = ap₂ (λ (x y : ShelfRecord). cond (ltb (x .stamp) (y .stamp)) i best) (sym e) (sym d)
+pub pick-later : (x y best i : ℕ) → x < y → i ≡ cond (ltb x y) i best
+pick-later x y best i l = rw (lt-ltb x y l)
 
-  pub older-later : r .stamp < b .stamp → i ≡ older rs best i
-  older-later l = sym (older-is ∙ rw (lt-ltb (r .stamp) (b .stamp) l))
-
-  pub older-first : b .stamp ≤ r .stamp → best ≡ older rs best i
-  older-first l = sym (older-is ∙ rw (le-ltb (r .stamp) (b .stamp) l))
+pub pick-first : (x y best i : ℕ) → y ≤ x → best ≡ cond (ltb x y) i best
+pick-first x y best i l = rw (le-ltb x y l)
 
 pub oldest-on : (rs : List ShelfRecord) (i : ℕ) {best x : ℕ} → best ≡ oldestOf rs i → x ≡ older rs best i → (x ≡ oldestOf rs (i + 1)) × (x ≤ i + 1)
 unfolding oldestOf

@@ -10,14 +10,15 @@ use rules_shelf::Shelf;
 use rules_shelf::ShelfRecord;
 use sections::ask;
 ghost use mathlib.Core.Path.{_≡_};
+ghost use mathlib.Core.Bool.{cond};
 ghost use mathlib.Core.List.{[], _∷_};
 ghost use Prim.Native.Nat.{_+_, _-_, _<_, _≤_};
-ghost use lib.Dec.{leb};
+ghost use lib.Dec.{leb, ltb};
 ghost use lib.ListN.{length, getD, take, drop, set, replicate};
 ghost use Rattle.rules.specs.Questions.{areaOk};
 ghost use Rattle.rules.specs.Tests.{ask, firstNo};
 ghost use Rattle.rules.specs.Values.{sameArea, max64};
-ghost use Rattle.rules_shelf.specs.Shelf.{noRecord, areaOf, recordOf, sum, placeOf, noTwo, dropAt, older, oldestOf, roomy, makeRoom, without, entered, restamped, shelfOk, questions, entering, jumping};
+ghost use Rattle.rules_shelf.specs.Shelf.{noRecord, areaOf, recordOf, sum, placeOf, noTwo, dropAt, oldestOf, roomy, makeRoom, without, entered, restamped, shelfOk, questions, entering, jumping};
 ghost use Rattle.shelf.specs.Kept.{Sound, Stands, listOf};
 ghost use Rattle.shelf.specs.Change.{Changes, answer, someOf, clamp};
 
@@ -133,7 +134,8 @@ fn place_from(a: Kept, from: usize, g: ShelfRecord) -> usize
     let n = a.n;
     let mut i = from;
     while i < n {
-        if same_area(nth(a, i), g) {
+        let r = a.all[i];
+        if same_area(r, g) {
             return i;
         }
         i += 1;
@@ -174,7 +176,7 @@ fn sum_fits(a: Kept, room: u64) -> bool
     let mut left = room;
     let mut i = 0;
     while i < n {
-        let r = nth(a, i);
+        let r = a.all[i];
         if left < r.len {
             return false;
         }
@@ -185,12 +187,9 @@ fn sum_fits(a: Kept, room: u64) -> bool
 }
 
 // Of two places the later one, where its stamp is lower.
-fn older(a: Kept, best: usize, i: usize) -> usize
-    requires { ⌜ (best < 64) × (i < 64) ⌝ }
-    ensures { λ r. ⌜ r ≡ older (a .all) best i ⌝ }
+fn older(best: usize, b: ShelfRecord, i: usize, r: ShelfRecord) -> usize
+    ensures { λ k. ⌜ k ≡ cond (ltb (r .stamp) (b .stamp)) i best ⌝ }
 {
-    let r = nth(a, i);
-    let b = nth(a, best);
     if r.stamp < b.stamp {
         return i;
     }
@@ -206,7 +205,9 @@ pub fn oldest(a: Kept) -> usize
     let mut best = 0;
     let mut i = 0;
     while i < n {
-        best = older(a, best, i);
+        let r = a.all[i];
+        let b = a.all[best];
+        best = older(best, b, i, r);
         i += 1;
     }
     best
