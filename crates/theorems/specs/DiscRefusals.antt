@@ -12,6 +12,7 @@ use Rattle.rules.specs.Tests.{Refused, Accepted}
 use Rattle.rules.specs.Values.{Index, Lengths, max32}
 use Rattle.rules.specs.File.{saved}
 use Rattle.rules.specs.Load.{load}
+use Rattle.blocks.specs.IsHead.{isIndex}
 use Rattle.rules_disc.specs.Disc.{slotOf, slotArea, contentsOk, loadBody, saveOne, saveBoth, loadDisc}
 use Rattle.index.specs.Index.{Tables, roomOf, indexIn}
 use Rattle.save.specs.declared.Saved.the-variants as told
@@ -53,13 +54,13 @@ pub record DiscRefusalsIn : Type 0 where
   pub savesBoth : (x y : AreaIndex) (t u : Tables) (old : List ℕ) (n : ℕ) → ValidIn x t → ValidIn y u
       → saveBoth (roomOf t) (indexIn x t) (roomOf u) (indexIn y u) (length old) ≡ Refused n → saveBothIn x t y u old ≡ saving.made (told.Refused n) old
 
--- in C: of blocks that are long enough
+-- in C: of heads that are saved, and of blocks to load into that are long enough
 pub record DiscRefusalsInC : Type 0 where
   pub loads : (head other answer : List ℕ) (a0 a1 : Area) (b : List ℕ) (limit : ℕ) (t u : Tables) (n : ℕ) → long (head ∷ other ∷ answer ∷ []) ≡ true
       → loadDisc (roomOf t) (roomOf u) a0 a1 b limit ≡ Refused n
       → discLoadCall head other a0 a1 b limit answer t u ≡ calledDisc (calledLists n head other answer) t u
-  pub saves : (head : List ℕ) (t : Tables) (old : List ℕ) (n : ℕ) → long (head ∷ []) ≡ true → ValidIn (headIndex head) t
+  pub saves : (head : List ℕ) (t : Tables) (old : List ℕ) (n : ℕ) → isIndex head ≡ true → ValidIn (headIndex head) t
       → saveOne (roomOf t) (indexIn (headIndex head) t) (length old) ≡ Refused n → discSaveCall head t old ≡ called n old
-  pub savesBoth : (head other : List ℕ) (t u : Tables) (old : List ℕ) (n : ℕ) → long (head ∷ other ∷ []) ≡ true → ValidIn (headIndex head) t
+  pub savesBoth : (head other : List ℕ) (t u : Tables) (old : List ℕ) (n : ℕ) → isIndex head ≡ true → isIndex other ≡ true → ValidIn (headIndex head) t
       → ValidIn (headIndex other) u → saveBoth (roomOf t) (indexIn (headIndex head) t) (roomOf u) (indexIn (headIndex other) u) (length old) ≡ Refused n
       → discSaveBothCall head other t u old ≡ called n old

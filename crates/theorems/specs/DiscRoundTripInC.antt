@@ -11,6 +11,7 @@ use Rattle.rules.specs.File.{over, saved}
 use Rattle.rules_disc.specs.Disc.{slotArea}
 use Rattle.laws.specs.Statements.{stripped}
 use Rattle.blocks.specs.Head.{blockOf}
+use Rattle.blocks.specs.IsHead.{isIndex}
 use Rattle.index.specs.Index.{Tables, roomOf, indexIn}
 use Rattle.player.specs.Block.{called, headIndex, two}
 use Rattle.player_disc.specs.Block.{calledLists}
@@ -58,7 +59,8 @@ pub record LoadedDiscSavesInC : Type 0 where
 -- pairs of lists with equal saved content have one disc file
 pub record OneDiscFileInC : Type 0 where
   -- lists that pass 1 to 4 in their tables are answered alike, number and bytes, and the output then holds the same
-  pub same : (head other head' other' : List ℕ) (t u t' u' : Tables) (old : List ℕ) → long (head ∷ other ∷ head' ∷ other' ∷ []) ≡ true
+  pub same : (head other head' other' : List ℕ) (t u t' u' : Tables) (old : List ℕ)
+      → isIndex head ≡ true → isIndex other ≡ true → isIndex head' ≡ true → isIndex other' ≡ true
       → LentBlock head t → LentBlock other u → LentBlock head' t' → LentBlock other' u'
       → ValidIn (headIndex head) t → ValidIn (headIndex other) u → ValidIn (headIndex head') t' → ValidIn (headIndex other') u'
       → saved (indexIn (headIndex head) t) ≡ saved (indexIn (headIndex head') t') → saved (indexIn (headIndex other) u) ≡ saved (indexIn (headIndex other') u')

@@ -17,6 +17,7 @@ use Rattle.rules.proofs.Tests.{and-left, and-right}
 use Rattle.rules_disc.specs.Disc.{entriesIn, entryOf}
 use Rattle.blocks.specs.Head.{blockOf, indexWords}
 use Rattle.blocks.specs.IsHead.{isBlock}
+use Rattle.blocks.specs.RoundTrip.{IndexFits}
 use Rattle.blocks.proofs.RoundTrip.{index-back}
 use Rattle.index.specs.Index.{Tables, roomOf, indexIn, numbersFrom, tablesFrom}
 use Rattle.index.proofs.Standing.{stands}
@@ -48,15 +49,20 @@ disc-save-accepts-in-c =
       one = λ head t old l v f h. rw (l, disc-save-accepts-in .one (headIndex head) t old v f h) refl;
     }
 
--- the head that a load writes is read as the list's numbers
-pub head-back : (l : Lengths) (a : Area) (c : List ℕ) (limit : ℕ) (x : Index) (head : List ℕ) → Bytes c → load l a c limit ≡ Accepted x
-    → headIndex (over (blockOf (indexWords (numbersFrom x))) head) ≡ numbersFrom x
-unfolding headIndex limited knownSized
-head-back l a c limit x head g e =
+-- the numbers of a list that loads fit their words
+pub load-fits : (l : Lengths) (a : Area) (c : List ℕ) (limit : ℕ) (x : Index) → Bytes c → load l a c limit ≡ Accepted x → IndexFits (numbersFrom x)
+unfolding limited knownSized
+load-fits l a c limit x g e =
     let w = load→ l a c limit x e in
     let i : x .image ≡ none = ap (λ (y : Index). y .image) (sym (w .is)) in
     let k : knownSized (x .image) ≡ true = rw i refl in
-    index-back (numbersFrom x) head (list-fits x (load-savable l a c limit x g e) k)
+    list-fits x (load-savable l a c limit x g e) k
+
+-- the head that a load writes is read as the list's numbers
+pub head-back : (l : Lengths) (a : Area) (c : List ℕ) (limit : ℕ) (x : Index) (head : List ℕ) → Bytes c → load l a c limit ≡ Accepted x
+    → headIndex (over (blockOf (indexWords (numbersFrom x))) head) ≡ numbersFrom x
+unfolding headIndex
+head-back l a c limit x head g e = index-back (numbersFrom x) head (load-fits l a c limit x g e)
 
 list-back : (l : Lengths) (a : Area) (c : List ℕ) (limit : ℕ) (x : Index) (head : List ℕ) (t : Tables) → Bytes c → load l a c limit ≡ Accepted x
     → indexIn (headIndex (over (blockOf (indexWords (numbersFrom x))) head)) (tablesFrom x t) ≡ x

@@ -5,7 +5,6 @@ use mathlib.Core.List.{List}
 use mathlib.Core.Option.{Option}
 use Prim.Native.Nat.{ℕ}
 use native.Mathlib.Omega.{arith}
-use lib.Dec.{leb}
 use lib.ListN.{length}
 use Rattle.rules.specs.declared.Area.{Area}
 use Rattle.rules.specs.declared.AreaIndex.{AreaIndex}
@@ -14,6 +13,7 @@ use Rattle.rules.specs.File.{save, over}
 use Rattle.rules.proofs.Tests.{and-left, and-right}
 use Rattle.rules_disc.specs.Disc.{saveOne, saveBoth, loadDisc}
 use Rattle.blocks.specs.Head.{blockOf, indexWords}
+use Rattle.blocks.specs.IsHead.{isBlock, isIndex}
 use Rattle.index.specs.declared.Made.the-variants as made
 use Rattle.index.specs.Index.{Tables, roomOf, indexIn, kindsIn, numbersFrom, out, outOf}
 use Rattle.index.specs.Calls.{madeOf}
@@ -21,7 +21,7 @@ use Rattle.save.specs.Save.{saveOut, saveIn}
 use Rattle.disc_load.specs.declared.Listed.{Listed}
 use Rattle.disc_load.specs.Calls.{listedFrom, tablesWith, loadDiscIn}
 use Rattle.disc_save.specs.Calls.{saveOneIn, saveBothIn}
-use Rattle.player.specs.Block.{Called, called, into, headIndex, savedNumber}
+use Rattle.player.specs.Block.{Called, called, into, headIndex, inBlock, savedNumber}
 use Rattle.player.specs.Calls.{calledOver, saveCall, loadCall}
 use Rattle.player_disc.specs.Block.{listedInto}
 use Rattle.player_disc.specs.Calls.{discSaveCall, discSaveBothCall}
@@ -32,7 +32,7 @@ use Rattle.theorems.proofs.RoundTripInTables.{wrote}
 use Rattle.theorems.proofs.TableRun.{kinds-pass}
 use Rattle.theorems.proofs.disc.DiscFile.{saved-bodies, bodies-load}
 use Rattle.theorems.proofs.disc.InTables.{placed}
-use Rattle.theorems.proofs.disc.RoundTripInC.{in-block→, →in-block, saved-one→, saved-both→, loaded→}
+use Rattle.theorems.proofs.disc.RoundTripInC.{in-head→, →in-head, saved-one→, saved-both→, loaded→}
 
 -- ---- saved
 list-file-in : (x : AreaIndex) (t : Tables) (o : Option (List ℕ)) → kindsIn x t ≡ true → ListFile (roomOf t) (indexIn x t) o → ListFileIn x t o
@@ -60,21 +60,21 @@ saved-bodies-in =
     }
 
 -- in C
-list-file-c : (head : List ℕ) (t : Tables) (o : Option (List ℕ)) → leb 192 (length head) ≡ true → ListFileIn (headIndex head) t o → ListFileInC head t o
+list-file-c : (head : List ℕ) (t : Tables) (o : Option (List ℕ)) → isIndex head ≡ true → ListFileIn (headIndex head) t o → ListFileInC head t o
 unfolding saveCall savedNumber
-list-file-c head t o z f = record { file = f .file; saves = λ old l. →in-block head (called 3 old) _ _ z (rw (f .saves old l) refl) }
+list-file-c head t o z f = record { file = f .file; saves = λ old l. →in-head (isIndex head) (called 3 old) _ _ z (rw (f .saves old l) refl) }
 
 pub saved-bodies-in-c : SavedBodiesInC
 unfolding discSaveBothCall discSaveCall
 saved-bodies-in-c =
     record {
       both = λ head other t u old k new e l.
-          let p = in-block→ (λ (c : Called). c .number) head (called 3 old) _ (called k new) refl (λ z. omega (arith, z, l)) e in
-          let q = in-block→ (λ (c : Called). c .number) other (called 3 old) _ (called k new) refl (λ z. omega (arith, z, l)) (p .1) in
+          let p = in-head→ (λ (c : Called). c .number) (isIndex head) (called 3 old) _ (called k new) refl (λ z. omega (arith, z, l)) e in
+          let q = in-head→ (λ (c : Called). c .number) (isIndex other) (called 3 old) _ (called k new) refl (λ z. omega (arith, z, l)) (p .1) in
           let s = saved-bodies-in .both (headIndex head) (headIndex other) t u old k new (saved-both→ head other t u old k new l e) in
           (list-file-c head t _ (p .0) (s .0), list-file-c other u _ (q .0) (s .1));
       one = λ head t old k new e l.
-          let p = in-block→ (λ (c : Called). c .number) head (called 3 old) _ (called k new) refl (λ z. omega (arith, z, l)) e in
+          let p = in-head→ (λ (c : Called). c .number) (isIndex head) (called 3 old) _ (called k new) refl (λ z. omega (arith, z, l)) e in
           list-file-c head t _ (p .0) (saved-bodies-in .one (headIndex head) t old k new (saved-one→ head t old k new l e));
       other = λ head t old k new s e l h. saved-bodies-in .other (headIndex head) t old k new s (saved-one→ head t old k new l e) h;
     }
@@ -114,19 +114,19 @@ bodies-load-in =
 
 -- in C
 pub bodies-load-in-c : BodiesLoadInC
-unfolding loadCall into madeOf listedInto
+unfolding loadCall inBlock into madeOf listedInto
 bodies-load-in-c =
     record {
       first = λ head other answer a0 a1 b limit t u head' other' answer' t' u' c e h.
           let r = loaded→ head other answer a0 a1 b limit t u head' other' answer' t' u' e in
           let s = bodies-load-in .first a0 a1 b limit t u (r .first) (r .second) t' u' c (r .below) h in
           let w : over (blockOf (indexWords (s .numbers))) head ≡ head' = sym (ap (λ (p : Listed). listedInto head p .block) (s .is)) ∙ r .block0 in
-          →in-block head (calledOver 3 head t) _ _ (r .long0) (rw (s .loads) (λ i. calledOver 0 (w i) t'));
+          →in-head (isBlock head) (calledOver 3 head t) _ _ (r .long0) (rw (s .loads) (λ i. calledOver 0 (w i) t'));
       second = λ head other answer a0 a1 b limit t u head' other' answer' t' u' d e h.
           let r = loaded→ head other answer a0 a1 b limit t u head' other' answer' t' u' e in
           let s = bodies-load-in .second a0 a1 b limit t u (r .first) (r .second) t' u' d (r .below) h in
           let w : over (blockOf (indexWords (s .numbers))) other ≡ other' = sym (ap (λ (p : Listed). listedInto other p .block) (s .is)) ∙ r .block1 in
-          →in-block other (calledOver 3 other u) _ _ (r .long1) (rw (s .loads) (λ i. calledOver 0 (w i) u'));
+          →in-head (isBlock other) (calledOver 3 other u) _ _ (r .long1) (rw (s .loads) (λ i. calledOver 0 (w i) u'));
       noFirst = λ head other answer a0 a1 b limit t u head' other' answer' t' u' e h.
           let r = loaded→ head other answer a0 a1 b limit t u head' other' answer' t' u' e in
           let n = bodies-load-in .noFirst a0 a1 b limit t u (r .first) (r .second) t' u' (r .below) h in

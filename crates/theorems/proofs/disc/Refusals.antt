@@ -17,6 +17,7 @@ use Rattle.rules.specs.File.{saved, savedLength}
 use Rattle.rules.specs.Load.{load}
 use Rattle.rules.proofs.Tests.{test, both, →asked, →bind}
 use Rattle.laws.proofs.Length.{savedLength-is}
+use Rattle.blocks.specs.IsHead.{isIndex}
 use Rattle.rules_disc.specs.Disc.{slotOf, slotArea, contentsOk, contentsOf, listed, saveLists, saveOne, bySlot, saveBoth, loadBody, loadBodies, loadDisc}
 use Rattle.index.specs.Index.{roomOf, indexIn, kindsIn}
 use Rattle.save.specs.Save.{saveOut}
@@ -30,8 +31,7 @@ use Rattle.theorems.proofs.TableRun.{kinds-pass}
 use Rattle.theorems.proofs.disc.Tables.{first→}
 use Rattle.theorems.proofs.disc.DiscFile.{equal-slots}
 use Rattle.theorems.proofs.disc.Accepts.{up}
-use Rattle.theorems.proofs.disc.AcceptsInC.{one-long, two-long}
-use Rattle.theorems.proofs.disc.RoundTripInC.{→in-block, loads-c}
+use Rattle.theorems.proofs.disc.RoundTripInC.{→in-head, loads-c}
 
 -- a body that is refused
 body-refused : (l : Lengths) (a : Area) (limit : ℕ) (o : Option (List ℕ)) (c : List ℕ) (n : ℕ) → o ≡ some c → load l a c limit ≡ Refused n → loadBody l a limit o ≡ Refused n
@@ -105,9 +105,8 @@ unfolding discSaveCall discSaveBothCall loadedInto savedNumber
 disc-refusals-in-c =
     record {
       loads = λ head other answer a0 a1 b limit t u n d e. loads-c head other answer a0 a1 b limit t u d ∙ rw (disc-refusals-in .loads a0 a1 b limit t u n e) refl;
-      saves = λ head t old n d v e. →in-block head (called 3 old) _ _ (one-long head d) (rw (disc-refusals-in .saves (headIndex head) t old n v e) refl);
-      savesBoth = λ head other t u old n d v w e.
-          let k = two-long head other d in
-          →in-block head (called 3 old) _ _ (k .0)
-          (→in-block other (called 3 old) _ _ (k .1) (rw (disc-refusals-in .savesBoth (headIndex head) (headIndex other) t u old n v w e) refl));
+      saves = λ head t old n d v e. →in-head (isIndex head) (called 3 old) _ _ d (rw (disc-refusals-in .saves (headIndex head) t old n v e) refl);
+      savesBoth = λ head other t u old n d k v w e.
+          →in-head (isIndex head) (called 3 old) _ _ d
+          (→in-head (isIndex other) (called 3 old) _ _ k (rw (disc-refusals-in .savesBoth (headIndex head) (headIndex other) t u old n v w e) refl));
     }

@@ -1,11 +1,11 @@
 -- Disc files by the calls in C: saving, then loading what was written, and the other way round. Assumes nothing.
 use mathlib.Core.Path.{_≡_, refl, sym, ap, subst, _∙_}
-use mathlib.Core.Bool.{true}
+use mathlib.Core.Bool.{Bool, true}
 use mathlib.Core.List.{List, [], _∷_}
 use mathlib.Core.Option.{Option}
 use Prim.Native.Nat.{ℕ, _%_, _≤_}
 use native.Mathlib.Omega.{arith}
-use lib.Dec.{leb}
+use borrow.Author.Tests.{leb-true}
 use lib.ListN.{length, take, getD}
 use Rattle.field.specs.Number.{encode}
 use Rattle.field.specs.Records.{Bytes, bytesOf}
@@ -21,15 +21,14 @@ use Rattle.rules_disc.specs.declared.Entry.{Entry}
 use Rattle.rules_disc.specs.Disc.{entriesIn, entryOf, bodyOf, loadBody, loadDisc}
 use Rattle.laws.specs.Statements.{Savable, stripped}
 use Rattle.blocks.specs.Head.{blockOf, indexWords}
-use Rattle.blocks.proofs.RoundTrip.{index-back}
-use Rattle.index.specs.declared.Made.the-variants as made
-use Rattle.index.specs.Index.{Tables, roomOf, indexIn}
+use Rattle.blocks.specs.IsHead.{isBlock, isIndex}
+use Rattle.blocks.proofs.RoundTrip.{index-back, index-is-head}
+use Rattle.index.specs.Index.{Tables, roomOf, indexIn, numbersFrom}
 use Rattle.save.specs.declared.Saved as declared
 use Rattle.save.specs.declared.Saved.the-variants as told
 use Rattle.save.specs.Save.{SaveOut}
 use Rattle.save.specs.Save as saving
-use Rattle.index.specs.Calls.{madeOf}
-use Rattle.player.specs.Block.{Called, called, into, headIndex, inBlock, savedNumber, savedInto, two}
+use Rattle.player.specs.Block.{Called, called, headIndex, inHead, inBlock, savedNumber, savedInto, two}
 use Rattle.disc_load.specs.declared.Listed.{Listed}
 use Rattle.disc_load.specs.declared.Listed.the-variants as listed
 use Rattle.disc_load.specs.declared.Loaded.{Loaded}
@@ -44,33 +43,28 @@ use Rattle.theorems.specs.DiscPlayer.{DiscTold}
 use Rattle.theorems.specs.DiscInTables.{HoldsBoth, HoldsFirst, HoldsSecond}
 use Rattle.theorems.specs.DiscInC.{HoldsBothInC, HoldsFirstInC, HoldsSecondInC}
 use Rattle.theorems.specs.DiscRoundTripInC.{SavedDiscLoadsInC, LoadedDiscSavesInC, OneDiscFileInC}
-use Rattle.theorems.proofs.BlockRun.{place-fits, length-after, head-typed}
+use Rattle.theorems.proofs.BlockRun.{place-fits, head-typed}
 use Rattle.theorems.proofs.Demand1.{demand1}
 use Rattle.theorems.proofs.disc.Rebuilt.{named}
 use Rattle.theorems.proofs.disc.DiscFile.{opened}
 use Rattle.theorems.proofs.disc.Player.{disc-save-number}
 use Rattle.theorems.proofs.disc.InTables.{swap-in, both-savable, one-savable, saved-disc-loads-in, Placed, placed, in-slot, loaded-disc-saves-in}
 use Rattle.theorems.proofs.disc.AcceptsInTables.{one-disc-file-in}
-use Rattle.theorems.proofs.disc.AcceptsInC.{two-long, head-back}
+use Rattle.theorems.proofs.disc.AcceptsInC.{two-long, load-fits, head-back}
 
 -- ---- blocks that are long enough
-pub three-long : (b c d : List ℕ) → long (b ∷ c ∷ d ∷ []) ≡ true → (leb 192 (length b) ≡ true) × (leb 192 (length c) ≡ true) × (leb 192 (length d) ≡ true)
-three-long b c d e = let r = two-long c d (and-right (leb 192 (length b)) _ e) in (and-left (leb 192 (length b)) _ e, r .0, r .1)
+pub three-long : (b c d : List ℕ) → long (b ∷ c ∷ d ∷ []) ≡ true → (isBlock b ≡ true) × (isBlock c ≡ true) × (isBlock d ≡ true)
+three-long b c d e = let r = two-long c d (and-right (isBlock b) _ e) in (and-left (isBlock b) _ e, r .0, r .1)
 
--- a call whose number is not 3 was lent a block that is
-pub in-block→ : {S : Type 0} (number : S → ℕ) (b : List ℕ) (short r o : S) → number short ≡ 3 → (3 ≡ number o → ⊥) → inBlock b short r ≡ o → (leb 192 (length b) ≡ true) × (r ≡ o)
-unfolding inBlock
-in-block→ number b short r o s h e =
-    test (leb 192 (length b)) (λ z. (z, rw z at e)) (λ z. let q : short ≡ o = rw z at e in let f : ⊥ = h (sym s ∙ ap number q) in absurd f)
+-- a call whose number is not 3 was lent a block that passes
+pub in-head→ : {S : Type 0} (number : S → ℕ) (ok : Bool) (none r o : S) → number none ≡ 3 → (3 ≡ number o → ⊥) → inHead ok none r ≡ o → (ok ≡ true) × (r ≡ o)
+unfolding inHead
+in-head→ number ok none r o s h e =
+    test ok (λ z. (z, rw z at e)) (λ z. let q : none ≡ o = rw z at e in let f : ⊥ = h (sym s ∙ ap number q) in absurd f)
 
-pub →in-block : {S : Type 0} (b : List ℕ) (short r o : S) → leb 192 (length b) ≡ true → r ≡ o → inBlock b short r ≡ o
-unfolding inBlock
-→in-block b short r o z e = rw z e
-
--- the block that a list's head was written over
-written-long : (x : AreaIndex) (head head' : List ℕ) → over (blockOf (indexWords x)) head ≡ head' → leb 192 (length head) ≡ true → leb 192 (length head') ≡ true
-unfolding into madeOf
-written-long x head head' e z = rw (← e) (length-after head (made.Index x) z)
+pub →in-head : {S : Type 0} (ok : Bool) (none r o : S) → ok ≡ true → r ≡ o → inHead ok none r ≡ o
+unfolding inHead
+→in-head ok none r o z e = rw z e
 
 -- ---- saving
 -- a length that is told was answered below
@@ -88,26 +82,26 @@ pub saved-one→ : (head : List ℕ) (t : Tables) (old : List ℕ) (k : ℕ) (ne
 unfolding discSaveCall
 saved-one→ head t old k new l e =
     told→ (saveOneIn (headIndex head) t old) k new (λ n. disc-save-number .one (headIndex head) t old n) l
-    (in-block→ (λ (c : Called). c .number) head (called 3 old) _ (called k new) refl (λ z. omega (arith, z, l)) e .1)
+    (in-head→ (λ (c : Called). c .number) (isIndex head) (called 3 old) _ (called k new) refl (λ z. omega (arith, z, l)) e .1)
 
 pub saved-both→ : (head other : List ℕ) (t u : Tables) (old : List ℕ) (k : ℕ) (new : List ℕ) → 88 ≤ k → discSaveBothCall head other t u old ≡ called k new
     → saveBothIn (headIndex head) t (headIndex other) u old ≡ saving.made (told.Length k) new
 unfolding discSaveBothCall
 saved-both→ head other t u old k new l e =
-    let c = in-block→ (λ (c : Called). c .number) head (called 3 old) _ (called k new) refl (λ z. omega (arith, z, l)) e .1 in
+    let c = in-head→ (λ (c : Called). c .number) (isIndex head) (called 3 old) _ (called k new) refl (λ z. omega (arith, z, l)) e .1 in
     told→ (saveBothIn (headIndex head) t (headIndex other) u old) k new (λ n. disc-save-number .both (headIndex head) t (headIndex other) u old n) l
-    (in-block→ (λ (c : Called). c .number) other (called 3 old) _ (called k new) refl (λ z. omega (arith, z, l)) c .1)
+    (in-head→ (λ (c : Called). c .number) (isIndex other) (called 3 old) _ (called k new) refl (λ z. omega (arith, z, l)) c .1)
 
-→saved-one : (head : List ℕ) (t : Tables) (old : List ℕ) (k : ℕ) (new : List ℕ) → leb 192 (length head) ≡ true
+→saved-one : (head : List ℕ) (t : Tables) (old : List ℕ) (k : ℕ) (new : List ℕ) → isIndex head ≡ true
     → saveOneIn (headIndex head) t old ≡ saving.made (told.Length k) new → discSaveCall head t old ≡ called k new
 unfolding discSaveCall savedNumber
-→saved-one head t old k new z e = →in-block head (called 3 old) _ (called k new) z (rw e refl)
+→saved-one head t old k new z e = →in-head (isIndex head) (called 3 old) _ (called k new) z (rw e refl)
 
-→saved-both : (head other : List ℕ) (t u : Tables) (old : List ℕ) (k : ℕ) (new : List ℕ) → leb 192 (length head) ≡ true → leb 192 (length other) ≡ true
+→saved-both : (head other : List ℕ) (t u : Tables) (old : List ℕ) (k : ℕ) (new : List ℕ) → isIndex head ≡ true → isIndex other ≡ true
     → saveBothIn (headIndex head) t (headIndex other) u old ≡ saving.made (told.Length k) new → discSaveBothCall head other t u old ≡ called k new
 unfolding discSaveBothCall savedNumber
 →saved-both head other t u old k new z w e =
-    →in-block head (called 3 old) _ (called k new) z (→in-block other (called 3 old) _ (called k new) w (rw e refl))
+    →in-head (isIndex head) (called 3 old) _ (called k new) z (→in-head (isIndex other) (called 3 old) _ (called k new) w (rw e refl))
 
 -- ---- saving, then loading
 -- the head of a list as a file holds it is read as its numbers
@@ -124,7 +118,7 @@ module _ (head other answer : List ℕ) (a0 a1 : Area) (b : List ℕ) (limit : �
   left = loadDiscIn a0 a1 b limit t u
 
   pub loads-c : discLoadCall head other a0 a1 b limit answer t u ≡ discInto head other answer left
-  unfolding discLoadCall inBlock
+  unfolding discLoadCall inBlock inHead
   loads-c = let n = three-long head other answer d in rw (n .0, n .1, n .2) refl
 
   both-c : (x y : Index) → Savable (stripped x) → Savable (stripped y) → HoldsBoth left (stripped x) (stripped y)
@@ -181,24 +175,24 @@ pub record LoadedInC (head other answer : List ℕ) (o : DiscOut) (head' other' 
   pub block0 : listedInto head first .block ≡ head'
   pub block1 : listedInto other second .block ≡ other'
   pub words : over (blockOf (two (listedInto head first .number) (listedInto other second .number))) answer ≡ answer'
-  pub long0 : leb 192 (length head) ≡ true
-  pub long1 : leb 192 (length other) ≡ true
+  pub long0 : isBlock head ≡ true
+  pub long1 : isBlock other ≡ true
 
 pub loaded→ : (head other answer : List ℕ) (a0 a1 : Area) (b : List ℕ) (limit : ℕ) (t u : Tables) (head' other' answer' : List ℕ) (t' u' : Tables)
     → discLoadCall head other a0 a1 b limit answer t u ≡ calledDisc (calledLists 0 head' other' answer') t' u'
     → LoadedInC head other answer (loadDiscIn a0 a1 b limit t u) head' other' answer' t' u'
-unfolding discLoadCall loadedInto among
+unfolding discLoadCall inBlock loadedInto among
 loaded→ head other answer a0 a1 b limit t u head' other' answer' t' u' e =
     let o = loadDiscIn a0 a1 b limit t u in
     let short = calledDisc (calledLists 3 head other answer) t u in
     let number : CalledDisc → ℕ = λ c. c .call .number in
     let end = calledDisc (calledLists 0 head' other' answer') t' u' in
-    let x = in-block→ number head short _ end refl (λ z. omega (arith, z)) e in
-    let y = in-block→ number other short _ end refl (λ z. omega (arith, z)) (x .1) in
-    let z = in-block→ number answer short (discInto head other answer o) end refl (λ z. omega (arith, z)) (y .1) in
+    let x = in-head→ number (isBlock head) short _ end refl (λ z. omega (arith, z)) e in
+    let y = in-head→ number (isBlock other) short _ end refl (λ z. omega (arith, z)) (x .1) in
+    let z = in-head→ number (isBlock answer) short (discInto head other answer o) end refl (λ z. omega (arith, z)) (y .1) in
     by (o .answer) refl (λ n q. demand1 .loadDisc a0 a1 b limit t u .number n q) (x .0) (y .0) (z .1)
   where
-    by : (m : Loaded) → loadDiscIn a0 a1 b limit t u .answer ≡ m → ((n : ℕ) → m ≡ loaded.Refused n → among (1 ∷ 3 ∷ 54 ∷ ofFiles) n ≡ true) → leb 192 (length head) ≡ true → leb 192 (length other) ≡ true
+    by : (m : Loaded) → loadDiscIn a0 a1 b limit t u .answer ≡ m → ((n : ℕ) → m ≡ loaded.Refused n → among (1 ∷ 3 ∷ 54 ∷ ofFiles) n ≡ true) → isBlock head ≡ true → isBlock other ≡ true
         → calledDisc (loadedInto head other answer m) (loadDiscIn a0 a1 b limit t u .slot0) (loadDiscIn a0 a1 b limit t u .slot1) ≡ calledDisc (calledLists 0 head' other' answer') t' u'
         → LoadedInC head other answer (loadDiscIn a0 a1 b limit t u) head' other' answer' t' u'
     by (loaded.Refused n) a h p q c = let w : n ≡ 0 = ap (λ (d : CalledDisc). d .call .number) c in never (rw w at (h n refl)) refl
@@ -242,15 +236,17 @@ first-words a b c d answer h i j k e =
     let q : b % 256 ≡ d % 256 = ap (λ (l : List ℕ). getD l 8 0) e in
     (omega (arith, p, h, j), omega (arith, q, i, k))
 
--- the head that the list of a slot was written into is read as its numbers, and is long enough
+-- the head that the list of a slot was written into is read as its numbers, and is a head
 slot-read : (a : Area) (b : List ℕ) (limit : ℕ) (t t' : Tables) (e : Option Entry) (o : Option Index) (x : AreaIndex) (head head' : List ℕ) → Bytes b
     → loadBody (roomOf t) a limit (bodyOf b e) ≡ Accepted o → listedFrom o ≡ listed.Index x → tablesWith o t ≡ t' → over (blockOf (indexWords x)) head ≡ head'
-    → leb 192 (length head) ≡ true → (headIndex head' ≡ x) × (leb 192 (length head') ≡ true)
+    → isBlock head ≡ true → (headIndex head' ≡ x) × (isIndex head' ≡ true)
 slot-read a b limit t t' e o x head head' g d i f w z =
     let s = in-slot t o x t' i f in
     let l = named (roomOf t) a b limit e (s .list) (d ∙ ap (λ (q : Option Index). Accepted q) (s .is)) in
-    let q = head-back (roomOf t) a _ limit (s .list) head (bytes-part b (l .entry .offset) (l .entry .len) g) (l .loads) in
-    (rw (← w, ← s .numbers) q, written-long x head head' w z)
+    let c = bytes-part b (l .entry .offset) (l .entry .len) g in
+    let q = head-back (roomOf t) a _ limit (s .list) head c (l .loads) in
+    let h = index-is-head (numbersFrom (s .list)) head (load-fits (roomOf t) a _ limit (s .list) c (l .loads)) (leb-true 192 (length head) z) in
+    (rw (← w, ← s .numbers) q, rw (← w, ← s .numbers) h)
 
 module _ (head other answer : List ℕ) (a0 a1 : Area) (b : List ℕ) (limit : ℕ) (t u : Tables) (head' other' : List ℕ) (t' u' : Tables) (g : Bytes b) (m n : ℕ) (i : m ≤ 1) (j : n ≤ 1)
     (r : LoadedInC head other answer (loadDiscIn a0 a1 b limit t u) head' other' (over (blockOf (two m n)) answer) t' u') where
@@ -261,13 +257,13 @@ module _ (head other answer : List ℕ) (a0 a1 : Area) (b : List ℕ) (limit : �
   unfolding loadDiscIn
   put = placed t u (loadDisc (roomOf t) (roomOf u) a0 a1 b limit) (r .first) (r .second) t' u' (r .below)
 
-  first-read : (x : AreaIndex) → r .first ≡ listed.Index x → (headIndex head' ≡ x) × (leb 192 (length head') ≡ true)
+  first-read : (x : AreaIndex) → r .first ≡ listed.Index x → (headIndex head' ≡ x) × (isIndex head' ≡ true)
   unfolding listedInto
   first-read x e =
       let o = opened (roomOf t) (roomOf u) a0 a1 b limit (put .lists) (put .accepted) in
       slot-read a0 b limit t t' (entryOf 0 (entriesIn b)) (put .lists .slot0) x head head' g (o .body0) (put .answer0 ∙ e) (put .tables0) (rw e at (r .block0)) (r .long0)
 
-  second-read : (y : AreaIndex) → r .second ≡ listed.Index y → (headIndex other' ≡ y) × (leb 192 (length other') ≡ true)
+  second-read : (y : AreaIndex) → r .second ≡ listed.Index y → (headIndex other' ≡ y) × (isIndex other' ≡ true)
   unfolding listedInto
   second-read y e =
       let o = opened (roomOf t) (roomOf u) a0 a1 b limit (put .lists) (put .accepted) in
@@ -307,31 +303,21 @@ loaded-disc-saves-in-c =
     }
 
 -- ---- one disc file for equal content
-in-block-swap : {S : Type 0} (b c : List ℕ) (short r : S) → inBlock b short (inBlock c short r) ≡ inBlock c short (inBlock b short r)
-unfolding inBlock
-in-block-swap b c short r =
-    test (leb 192 (length b)) (λ z. rw z refl) (λ z. rw z (test (leb 192 (length c)) (λ w. rw w refl) (λ w. rw w refl)))
+in-head-swap : {S : Type 0} (p q : Bool) (none r : S) → inHead p none (inHead q none r) ≡ inHead q none (inHead p none r)
+unfolding inHead
+in-head-swap p q none r = test p (λ z. rw z refl) (λ z. rw z (test q (λ w. rw w refl) (λ w. rw w refl)))
 
 pub one-disc-file-in-c : OneDiscFileInC
 unfolding discSaveBothCall
 one-disc-file-in-c =
     record {
-      same = λ head other head' other' t u t' u' old d a b a' b' v w v' w' e f.
-          let n = two-long head other (short-of-four head other head' other' d .0) in
-          let n' = two-long head' other' (short-of-four head other head' other' d .1) in
+      same = λ head other head' other' t u t' u' old m n m' n' a b a' b' v w v' w' e f.
           let s = one-disc-file-in .same (headIndex head) (headIndex other) (headIndex head') (headIndex other') t u t' u' old v w v' w'
           (record { typed = head-typed head (a .bytes); bytes = a .tables }) (record { typed = head-typed other (b .bytes); bytes = b .tables })
           (record { typed = head-typed head' (a' .bytes); bytes = a' .tables }) (record { typed = head-typed other' (b' .bytes); bytes = b' .tables }) e f in
-          →in-block head (called 3 old) _ _ (n .0) (→in-block other (called 3 old) _ _ (n .1) (ap (λ (o : SaveOut). savedInto o) s))
-          ∙ sym (→in-block head' (called 3 old) _ _ (n' .0) (→in-block other' (called 3 old) _ _ (n' .1) refl));
+          →in-head (isIndex head) (called 3 old) _ _ m (→in-head (isIndex other) (called 3 old) _ _ n (ap (λ (o : SaveOut). savedInto o) s))
+          ∙ sym (→in-head (isIndex head') (called 3 old) _ _ m' (→in-head (isIndex other') (called 3 old) _ _ n' refl));
       swapped = λ head other t u old.
-          ap (λ (o : SaveOut). inBlock head (called 3 old) (inBlock other (called 3 old) (savedInto o))) (swap-in (headIndex head) (headIndex other) t u old)
-          ∙ in-block-swap head other (called 3 old) _;
+          ap (λ (o : SaveOut). inHead (isIndex head) (called 3 old) (inHead (isIndex other) (called 3 old) (savedInto o))) (swap-in (headIndex head) (headIndex other) t u old)
+          ∙ in-head-swap (isIndex head) (isIndex other) (called 3 old) _;
     }
-  where
-    short-of-four : (b c b' c' : List ℕ) → long (b ∷ c ∷ b' ∷ c' ∷ []) ≡ true → (long (b ∷ c ∷ []) ≡ true) × (long (b' ∷ c' ∷ []) ≡ true)
-    short-of-four b c b' c' e =
-        let r = and-right (leb 192 (length b)) _ e in
-        let p = and-left (leb 192 (length b)) _ e in
-        let q = and-left (leb 192 (length c)) _ r in
-        (rw (p, q) refl, and-right (leb 192 (length c)) _ r)
