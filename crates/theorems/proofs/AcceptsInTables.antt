@@ -22,6 +22,7 @@ use Rattle.rules.specs.Questions.{areaOk, numbersOk}
 use Rattle.rules.specs.Plan.{planned}
 use Rattle.rules.specs.Create.{bindFingerprint, recorder, hintRecorder}
 use Rattle.rules.specs.Record.{isRunning, nextNumber, question5, question6, question7, recorded, recordAt, withMode, finish, isStopped, question8, question9, question10, question11, question12, absorbedIndex, emptied}
+use Rattle.rules.specs.Hints as rules
 use Rattle.rules.specs.Hints.{see, addHints, keepConfirmation}
 use Rattle.rules_jump.specs.Names.{namedHint}
 use Rattle.rules_jump.proofs.Values.{named-number}
@@ -46,7 +47,7 @@ use Rattle.recorder.specs.Record.{assemblingIn, recorderOut, recordOut, recordI
 use Rattle.absorb.specs.Absorb.{absorbed, kindedBoth, absorbIn}
 use Rattle.absorb.specs.Absorb as absorbing
 use Rattle.absorb.specs.Given.{givenIn}
-use Rattle.hint_recorder.specs.declared.Seen.the-variants as seenAs
+use Rattle.hint_recorder.specs.declared.Saw.the-variants as sawAs
 use Rattle.hint_recorder.specs.Recorder.{hintRecorderIn, seeIn, flushIn, takeIn}
 use Rattle.hint_recorder.specs.Recorder as hinting
 use Rattle.add_hints.specs.JoinedMerged.{hintsOf}
@@ -77,15 +78,15 @@ use Rattle.theorems.proofs.disc.AcceptsInTables.{disc-save-accepts-in, 
 never-0 : {P : Type 0} (ns : List ℕ) (m n : ℕ) → m ≡ n → m ≡ 0 → among ns 0 ≡ false → among ns n ≡ true → P
 never-0 ns m n e z f h = let q : n ≡ 0 = sym e ∙ z in never (rw q at h) f
 
-seen-refused : (t : List ℕ) (a : Answer values.HintRecorder) (n : ℕ) → hinting.outOf t a .answer ≡ seenAs.Refused n → numberOf a ≡ n
-unfolding hinting.outOf numberOf
-seen-refused t (Refused m) n e = cc
-seen-refused t (Accepted v) n e = let z : _≡_ {A = ℕ} 0 1 = cc in let f : ⊥ = omega arith in absurd f
+saw-refused : (t : List ℕ) (a : Answer rules.SeenSector) (n : ℕ) → hinting.sawOf t a .answer ≡ sawAs.Refused n → numberOf a ≡ n
+unfolding hinting.sawOf numberOf
+saw-refused t (Refused m) n e = cc
+saw-refused t (Accepted v) n e = let z : _≡_ {A = ℕ} 0 1 = cc in let f : ⊥ = omega arith in absurd f
 
-see-accepted : (r : HintRecorder) (t : List ℕ) (lsn : ℕ) (sector : List ℕ) → ValidHintRecorderIn r t → (n : ℕ) → seeIn r t lsn sector .answer ≢ seenAs.Refused n
+see-accepted : (r : HintRecorder) (t : List ℕ) (lsn : ℕ) (sector : List ℕ) → ValidHintRecorderIn r t → (n : ℕ) → seeIn r t lsn sector .answer ≢ sawAs.Refused n
 unfolding seeIn among
 see-accepted r t lsn sector v n e =
-    never-0 (3 ∷ 4 ∷ []) _ n (seen-refused t (see (length t / 8) (hinting.recorderIn r t) lsn sector) n e)
+    never-0 (3 ∷ 4 ∷ []) _ n (saw-refused t (see (length t / 8) (hinting.recorderIn r t) lsn sector) n e)
     (numberOf-accepted _ _ (refuses-nothing .sees (length t / 8) (hinting.recorderIn r t) lsn sector v)) refl (demand1 .see r t lsn sector .number n e)
 
 -- ---- 1 to 4 are answered yes
@@ -161,7 +162,7 @@ module _ (x : AreaIndex) (t : Tables) (image : ImageId) (given : List ℕ) (r : 
 
 -- ---- each call
 pub refuses-nothing-in : RefusesNothingIn
-unfolding newIn boundIn keepIn keeping.outOf seeIn flushIn takeIn hinting.outOf hinting.takenOf frontierIn boundaryAt newSizes fileSizes fileArea fold contentsIn contentsFrom discSizes bothSizes after firstNo numbersOf startedIn recorderOf hintRecorderIn hinting.createdOf hinting.lastFrom hinting.tailFrom addHintsIn hintIn planIn saveIn saveOut outOf isAccepted
+unfolding newIn boundIn keepIn keeping.outOf seeIn flushIn takeIn hinting.outOf hinting.sawOf hinting.takenOf frontierIn boundaryAt newSizes fileSizes fileArea fold contentsIn contentsFrom discSizes bothSizes after firstNo numbersOf startedIn recorderOf hintRecorderIn hinting.createdOf hinting.lastFrom hinting.tailFrom addHintsIn hintIn planIn saveIn saveOut outOf isAccepted
 refuses-nothing-in =
     record {
       made = λ t a k budget spacing most q1 q2 q3. rw (refuses-nothing .made (roomOf t) a k budget spacing most q1 q2 q3) refl;
@@ -210,7 +211,7 @@ refuses-nothing-in =
       absorbs = absorb-accepted;
       stopped = λ x t image given r u v b w m. absorb-stopped x t image given r u v w b m;
       sees = see-accepted;
-      seen = λ r t lsn sector s e. ap (hinting.outOf t) e;
+      seen = λ r t lsn sector s e. ap (hinting.sawOf t) e;
       flushes = λ r t v. ap (hinting.outOf t) (refuses-nothing .flushes (length t / 8) (hinting.recorderIn r t) v);
       takes = λ r t v. ap hinting.takenOf (refuses-nothing .takes (length t / 8) (hinting.recorderIn r t) v);
       frontiers = λ x q. rw q refl;

@@ -56,7 +56,9 @@ use Rattle.recorder.specs.declared.Recorded.the-variants as recordedAs
 use Rattle.recorder.specs.Recorder.{RecorderTables, recorderRoom, recorderIn, recorderKinds, recorderFrom, recorderOver, recorderOf, startedIn, finishedIn}
 use Rattle.recorder.specs.Record.{assemblingIn, RecorderOut, recorderOut, recordOut, recordIn}
 use Rattle.hint_recorder.specs.declared.Created.the-variants as createdAs
+use Rattle.hint_recorder.specs.declared.Saw.the-variants as sawAs
 use Rattle.hint_recorder.specs.declared.Seen.the-variants as seenAs
+use Rattle.hint_recorder.specs.declared.SeenSector.{SeenSector}
 use Rattle.hint_recorder.specs.declared.Taken.the-variants as takenAs
 use Rattle.hint_recorder.specs.declared.TakenList.{TakenList}
 use Rattle.hint_recorder.specs.Recorder.{hintRecorderIn, seeIn, flushIn, takeIn}
@@ -264,11 +266,21 @@ unfolding hinting.outOf
 seen→ t (Refused n) s t' e = let a = ap (λ (o : hinting.Out). o .answer) e in let z : _≡_ {A = ℕ} 0 1 = cc in let f : ⊥ = omega arith in absurd f
 seen→ t (Accepted v) s t' e = let a : seenAs.Recorder (hinting.numbersFrom v) ≡ seenAs.Recorder s = ap (λ (o : hinting.Out). o .answer) e in (v, refl, cc)
 
-pub seen-stands : (r : HintRecorder) (t : List ℕ) (lsn : ℕ) (sector : List ℕ) (s : HintRecorder) (t' : List ℕ)
-    → seeIn r t lsn sector ≡ hinting.out (seenAs.Recorder s) t' → StandsHintRecorder s t'
+saw→ : (t : List ℕ) (a : Answer rules.SeenSector) (s : SeenSector) (t' : List ℕ) → hinting.sawOf t a ≡ hinting.sawOut (sawAs.Sector s) t'
+    → (v : rules.SeenSector) × (a ≡ Accepted v) × (hinting.numbersFrom (v .recorder) ≡ s .recorder)
+unfolding hinting.sawOf
+saw→ t (Refused n) s t' e = let a = ap (λ (o : hinting.SawOut). o .answer) e in let z : _≡_ {A = ℕ} 0 1 = cc in let f : ⊥ = omega arith in absurd f
+saw→ t (Accepted v) s t' e =
+    let a : sawAs.Sector (record { first = v .first; recorder = hinting.numbersFrom (v .recorder) }) ≡ sawAs.Sector s = ap (λ (o : hinting.SawOut). o .answer) e in
+    let q : record { first = v .first; recorder = hinting.numbersFrom (v .recorder) } ≡ s = cc in
+    (v, refl, ap (λ (x : SeenSector). x .recorder) q)
+
+pub seen-stands : (r : HintRecorder) (t : List ℕ) (lsn : ℕ) (sector : List ℕ) (s : SeenSector) (t' : List ℕ)
+    → seeIn r t lsn sector ≡ hinting.sawOut (sawAs.Sector s) t' → StandsHintRecorder (s .recorder) t'
 unfolding seeIn
 seen-stands r t lsn sector s t' e =
-    let n = seen→ t _ s t' e in hints-stand (n .0) s t' (closure .seen (length t / 8) (hinting.recorderIn r t) lsn sector (n .0) (n .1) .four) (n .2)
+    let n = saw→ t _ s t' e in
+    hints-stand (n .0 .recorder) (s .recorder) t' (closure .seen (length t / 8) (hinting.recorderIn r t) lsn sector (n .0) (n .1) .four) (n .2)
 
 pub flushed-stands : (r : HintRecorder) (t : List ℕ) (s : HintRecorder) (t' : List ℕ) → flushIn r t ≡ hinting.out (seenAs.Recorder s) t' → StandsHintRecorder s t'
 unfolding flushIn

@@ -29,7 +29,9 @@ use Rattle.recorder.specs.Recorder.{RecorderTables, startedIn, finishedIn}
 use Rattle.recorder.specs.Record.{recorderOut, recordIn}
 use Rattle.absorb.specs.Absorb.{absorbIn}
 use Rattle.hint_recorder.specs.declared.Created.the-variants as createdAs
+use Rattle.hint_recorder.specs.declared.Saw.the-variants as sawAs
 use Rattle.hint_recorder.specs.declared.Seen.the-variants as seenAs
+use Rattle.hint_recorder.specs.declared.SeenSector.{SeenSector}
 use Rattle.hint_recorder.specs.declared.Taken.the-variants as takenAs
 use Rattle.hint_recorder.specs.declared.TakenList.{TakenList}
 use Rattle.hint_recorder.specs.Recorder.{hintRecorderIn, seeIn, flushIn, takeIn}
@@ -67,7 +69,7 @@ pub record ClosureInTables : Type 0 where
       o .answer .number ≡ 8 → StandsRecorder (o .answer .recorder) u
   -- hint recorders: a new one lists nothing, whatever table t' it is given
   pub hintRecording : (x : AreaIndex) (t : Tables) (r : HintRecorder) (t' : List ℕ) → hintRecorderIn x t ≡ createdAs.Recorder r → StandsHintRecorder r t'
-  pub seen : (r : HintRecorder) (t : List ℕ) (lsn : ℕ) (sector : List ℕ) (s : HintRecorder) (t' : List ℕ)
-      → seeIn r t lsn sector ≡ hinting.out (seenAs.Recorder s) t' → StandsHintRecorder s t'
+  pub seen : (r : HintRecorder) (t : List ℕ) (lsn : ℕ) (sector : List ℕ) (s : SeenSector) (t' : List ℕ)
+      → seeIn r t lsn sector ≡ hinting.sawOut (sawAs.Sector s) t' → StandsHintRecorder (s .recorder) t'
   pub flushed : (r : HintRecorder) (t : List ℕ) (s : HintRecorder) (t' : List ℕ) → flushIn r t ≡ hinting.out (seenAs.Recorder s) t' → StandsHintRecorder s t'
   pub taken : (r : HintRecorder) (t : List ℕ) (k : TakenList) → takeIn r t ≡ takenAs.List k → StandsHintRecorder (k .recorder) t

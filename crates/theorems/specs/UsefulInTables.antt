@@ -29,6 +29,7 @@ use Rattle.rules.specs.Sections.{endOk}
 use Rattle.rules.specs.Questions.{areaOk, numbersOk, question1, question2, question3}
 use Rattle.rules.specs.Create.{emptyIndex, bound}
 use Rattle.rules.specs.Record.{isRunning, nextNumber, question5, question6, question7, recorded, withMode, isStopped, question8, question9, question10, question11, question12, absorbedIndex, emptied}
+use Rattle.rules.specs.Hints as rules
 use Rattle.rules.specs.Hints.{see, flushedList, near, question13, withHints, withHinting, question14, keepsNothing, keep, withConfirmed}
 use Rattle.rules.specs.Load.{keyOf, bodyIn, fileNumber, fromBytes, limited}
 use Rattle.rules.specs.Merge.{question41, question42, question43, merged}
@@ -47,6 +48,7 @@ use Rattle.absorb.specs.Absorb.{absorbed, absorbIn}
 use Rattle.absorb.specs.Absorb as absorbing
 use Rattle.absorb.specs.Given.{givenIn}
 use Rattle.hint_recorder.specs.declared.Created.the-variants as createdAs
+use Rattle.hint_recorder.specs.declared.Saw.the-variants as sawAs
 use Rattle.hint_recorder.specs.declared.Seen.the-variants as seenAs
 use Rattle.hint_recorder.specs.declared.Taken.the-variants as takenAs
 use Rattle.hint_recorder.specs.Recorder.{hintRecorderIn, seeIn, flushIn, takeIn}
@@ -145,10 +147,11 @@ pub record RefusesNothingIn : Type 0 where
   -- a stopped recorder brings nothing and is no refusal after 4
   pub stopped : (x : AreaIndex) (t : Tables) (image : ImageId) (given : List ℕ) (r : Recorder) (u : RecorderTables) → ValidIn x t → TableBytes t → ValidRecorderIn r u
       → isStopped (r .mode) ≡ true → absorbIn x t image given r u ≡ absorbing.out (absorbed 0 x r) t
-  pub sees : (r : HintRecorder) (t : List ℕ) (lsn : ℕ) (sector : List ℕ) → ValidHintRecorderIn r t → (n : ℕ) → seeIn r t lsn sector .answer ≢ seenAs.Refused n
+  pub sees : (r : HintRecorder) (t : List ℕ) (lsn : ℕ) (sector : List ℕ) → ValidHintRecorderIn r t → (n : ℕ) → seeIn r t lsn sector .answer ≢ sawAs.Refused n
   -- what the rules accept is put into the table
-  pub seen : (r : HintRecorder) (t : List ℕ) (lsn : ℕ) (sector : List ℕ) (s : values.HintRecorder) → see (length t / 8) (hinting.recorderIn r t) lsn sector ≡ Accepted s
-      → seeIn r t lsn sector ≡ hinting.out (seenAs.Recorder (hinting.numbersFrom s)) (over (bytesOf encodeHint (s .list)) t)
+  pub seen : (r : HintRecorder) (t : List ℕ) (lsn : ℕ) (sector : List ℕ) (s : rules.SeenSector) → see (length t / 8) (hinting.recorderIn r t) lsn sector ≡ Accepted s
+      → seeIn r t lsn sector
+      ≡ hinting.sawOut (sawAs.Sector (record { first = s .first; recorder = hinting.numbersFrom (s .recorder) })) (over (bytesOf encodeHint (s .recorder .list)) t)
   pub flushes : (r : HintRecorder) (t : List ℕ) → ValidHintRecorderIn r t → let v = hinting.recorderIn r t in let hs = flushedList (v .tail) (v .list) in
       flushIn r t
       ≡ hinting.out (seenAs.Recorder (hinting.numbersFrom (record { spacing = v .spacing; last = v .last; tail = none; list = hs }))) (over (bytesOf encodeHint hs) t)
