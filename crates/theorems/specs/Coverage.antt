@@ -10,11 +10,15 @@ use Rattle.rules.specs.Values.{Index, Lengths}
 use Rattle.rules.specs.Questions.{question3, question4}
 use Rattle.rules.specs.Load.{limited, load}
 use Rattle.rules_coverage.specs.declared.Row.{Row}
-use Rattle.rules_coverage.specs.Coverage.{areaIn, rowFrom, rowOf}
+use Rattle.rules_coverage.specs.Coverage.{keyIn, areaIn, rangeOk, rowFrom, rowOf}
 
 -- "the area taken from the file itself": 26 never comes
 abbrev pub OwnKey : Type 0
 OwnKey = (b : List ℕ) (s e : ℕ) → rowOf b s e ≢ Refused 26
+
+-- a slot above 1 in the file is 24 in its turn: behind 1 of the range the file is refused, with a number below 25
+abbrev pub OwnSlot : Type 0
+OwnSlot = (b : List ℕ) (s e : ℕ) → rangeOk s e ≡ true → leb (keyIn b .slot) 1 ≡ false → (n : ℕ) × ((rowOf b s e ≡ Refused n) × (n < 25))
 
 pub record RowIsLoading : Type 0 where
   -- a file with a row loads under that area, in tables that are long enough, under every limit; the row is that of its list
