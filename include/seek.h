@@ -131,6 +131,8 @@ enum {
     SEEK_NO_MERGE_AREA = 41,
     SEEK_NO_MERGE_IDS = 42,
     SEEK_NO_MERGE_CHECKPOINTS = 43,
+    SEEK_NO_COARSE_INTERVAL = 47,    /* the wider interval of a coarser list */
+    SEEK_NO_COARSE_CONTENT = 48,     /* the coarser list would not be a list */
     SEEK_NO_FOLD = 49,               /* the bits that a sum is folded to */
     SEEK_NO_SHELF_LIST = 50,         /* the new list alone exceeds the shelf's limit */
     SEEK_NO_SHELF_COUNT = 51,        /* the shelf's count is at its largest */
@@ -225,6 +227,8 @@ static inline const char *seek_text(uint32_t number)
     case SEEK_NO_MERGE_AREA: return "the lists are of different areas or intervals";
     case SEEK_NO_MERGE_IDS: return "the lists have different image ids or fingerprints";
     case SEEK_NO_MERGE_CHECKPOINTS: return "the lists disagree about a checkpoint or the end state";
+    case SEEK_NO_COARSE_INTERVAL: return "the wider interval is not 1 to 65,536, or no multiple of the list's own";
+    case SEEK_NO_COARSE_CONTENT: return "a malformed sector that is counted lies at or past the frontier that the coarser list would have";
     case SEEK_NO_FOLD: return "k is not between half the width and the width less one";
     case SEEK_NO_SHELF_LIST: return "the new list alone exceeds the shelf's limit";
     case SEEK_NO_SHELF_COUNT: return "the shelf's count is at its largest";
@@ -1080,6 +1084,18 @@ static inline int seek_lacks_nothing(const seek_lacking *lacking)
 {
     return lacking->checkpoints == 0 && lacking->end_state == 0 && lacking->parts == 0 && lacking->malformed == 0 && lacking->hints == 0 &&
            lacking->confirmations == 0 && lacking->fingerprint == 0;
+}
+
+/* ---- a coarser list from a finer one */
+uint32_t seek_raw_coarse(SEEK_IN(head), uint32_t interval, SEEK_OUT(coarse), SEEK_TABLES_IN, SEEK_TABLES_OUT2);
+
+/* Makes of a list, which is only read, the list that the same reading would have given at a wider interval, a multiple of its own (the same is one): every
+ * r-th checkpoint, the held parts of these, the malformed sectors that they count, and all else as it is. It goes into the tables of coarse, which seek_carve of
+ * seek_sizes makes for the wider interval. Answers 0, 1 to 4 of the finer list, SEEK_NO_COARSE_INTERVAL, SEEK_NO_COARSE_CONTENT (never for a list of one
+ * reading), or 3 of the coarser list's tables. */
+static inline uint32_t seek_coarse(const seek_list *fine, uint32_t interval, seek_list *coarse)
+{
+    return seek_raw_coarse(fine->head, SEEK_BLOCK, interval, coarse->head, SEEK_BLOCK, SEEK_LENT_SEVEN_(fine), SEEK_LENT_SEVEN_(coarse));
 }
 
 /* ---- one shelf for many discs

@@ -157,6 +157,7 @@ static uint64_t call_fingerprint(void) { return seek_raw_fingerprint(LENT(HEAD),
 static uint64_t call_merge(void) { return seek_raw_merge(LENT(HEAD), LENT(OTHER), TABLES, OTHERS); }
 static uint64_t call_adds(void) { return seek_raw_adds(LENT(HEAD), LENT(OTHER), LENT(ANSWER), TABLES, OTHERS); }
 static uint64_t call_lacks(void) { return seek_raw_lacks(LENT(HEAD), LENT(OTHER), LENT(ANSWER), TABLES, OTHERS); }
+static uint64_t call_coarse(void) { return seek_raw_coarse(LENT(HEAD), (uint32_t)v[0], LENT(OTHER), TABLES, OTHERS); }
 static uint64_t call_add_hints(void) { return seek_raw_add_hints(LENT(HEAD), LENT(LIST), TABLES); }
 static uint64_t call_recorder(void) { return seek_raw_recorder(LENT(HEAD), v[0], LENT(RECORDER), TABLES); }
 static uint64_t call_record(void)
@@ -230,6 +231,7 @@ static const struct {
     {"merge", call_merge, BIT(HEAD) | BIT(OTHER) | SEVEN | SEVEN2, BIT(HEAD) | SEVEN, 0, {0}},
     {"adds", call_adds, BIT(HEAD) | BIT(OTHER) | BIT(ANSWER) | SEVEN | SEVEN2, BIT(ANSWER), 0, {0}},
     {"lacks", call_lacks, BIT(HEAD) | BIT(OTHER) | BIT(ANSWER) | SEVEN | SEVEN2, BIT(ANSWER), 0, {0}},
+    {"coarse", call_coarse, BIT(HEAD) | BIT(OTHER) | SEVEN | SEVEN2, BIT(OTHER) | SEVEN2, 0, {100}},
     {"add_hints", call_add_hints, BIT(HEAD) | BIT(LIST) | SEVEN, BIT(HEAD) | BIT(HINTS), 0, {0}},
     {"recorder", call_recorder, BIT(HEAD) | BIT(RECORDER) | SEVEN, BIT(RECORDER), 0, {SAMPLE_START}},
     {"record", call_record, BIT(RECORDER) | BIT(BYTES) | BIT(SECTOR) | FOUR3, BIT(RECORDER) | FOUR3, 0, {1200, 300, 0, 1, 1150, 280, 1, 5}},
@@ -303,6 +305,7 @@ static uint64_t heads(unsigned c)
 {
     uint64_t (*run)(void) = calls[c].run;
     uint64_t made = run == call_new || run == call_load || run == call_disc_load ? BIT(HEAD) | BIT(HEAD4)
+                    : run == call_coarse                                         ? BIT(OTHER)
                     : run == call_recorder                                       ? BIT(RECORDER)
                     : run == call_hint_recorder                                  ? BIT(HINTER)
                                                                                  : 0;
@@ -321,7 +324,8 @@ static int no_head(unsigned c)
 static int check(unsigned c, uint64_t answer)
 {
     int refused = calls[c].lengths ? answer < 88 : answer != 0, k;
-    if (refused && (answer == 0 || (answer > 43 && answer != SEEK_NO_FOLD && answer != SEEK_NO_SHELF_LIST && answer != SEEK_NO_SHELF_COUNT && answer != SEEK_NO_DISC))) {
+    if (refused && (answer == 0 || (answer > 43 && answer != SEEK_NO_COARSE_INTERVAL && answer != SEEK_NO_COARSE_CONTENT && answer != SEEK_NO_FOLD && answer != SEEK_NO_SHELF_LIST &&
+                                    answer != SEEK_NO_SHELF_COUNT && answer != SEEK_NO_DISC))) {
         fprintf(stderr, "%s: %" PRIu64 " is no refusal number\n", calls[c].name, answer);
         return 0;
     }

@@ -522,6 +522,46 @@ impl List {
             most: word(&b, 9) != 0,
         })
     }
+
+    /// The list that the same reading would have given at a wider interval, a multiple of this list's.
+    ///
+    /// ```
+    /// # use seek::{Area, Error, List};
+    /// # fn main() -> Result<(), Error> {
+    /// # let area = Area { slot: 0, channels: 2, key_start: 1000, key_end: 1399, sectors: 1550, start: 1000, end: 1400 };
+    /// let fine = List::new(area, 100, 1 << 20, 8, 2048)?;
+    /// let mut other = List::new(area, 400, 1 << 20, 8, 2048)?;
+    /// assert_eq!(other.merge(&fine), Err(Error::MergeArea));
+    /// other.merge(&fine.coarse(400)?)?;
+    /// assert_eq!(fine.coarse(250).unwrap_err(), Error::CoarseInterval);
+    /// # Ok(())
+    /// # }
+    /// ```
+    pub fn coarse(&self, interval: u32) -> Result<List, Error> {
+        let a = self.area();
+        let mut b = [0; BLOCK];
+        // Safety: the block is a slice of its own.
+        let sized = unsafe {
+            raw::seek_raw_sizes(
+                a.slot, a.channels, a.key_start, a.key_end, a.sectors, a.start, a.end, interval, word(&self.head, 8), word(&self.head, 10) as u32,
+                b.as_mut_ptr(), BLOCK,
+            )
+        };
+        // an interval for which there are no sizes is refused by the call itself
+        let mut list = List::zeroed(if sized == 0 { sizes_in(&b, 0)? } else { [0; 7] })?;
+        let [t0, t1, t2, t3, t4, t5, t6] = self.tables();
+        let (head, [u0, u1, u2, u3, u4, u5, u6]) = list.tables_mut();
+        // Safety: each pointer is that of a slice of the length behind it, and no two overlap.
+        answer(unsafe {
+            raw::seek_raw_coarse(
+                self.head.as_ptr(), BLOCK, interval, head.as_mut_ptr(), BLOCK, t0.as_ptr(), t0.len(), t1.as_ptr(), t1.len(), t2.as_ptr(), t2.len(),
+                t3.as_ptr(), t3.len(), t4.as_ptr(), t4.len(), t5.as_ptr(), t5.len(), t6.as_ptr(), t6.len(), u0.as_mut_ptr(), u0.len(), u1.as_mut_ptr(),
+                u1.len(), u2.as_mut_ptr(), u2.len(), u3.as_mut_ptr(), u3.len(), u4.as_mut_ptr(), u4.len(), u5.as_mut_ptr(), u5.len(), u6.as_mut_ptr(),
+                u6.len(),
+            )
+        })?;
+        Ok(list)
+    }
 }
 
 /// The length saved, at least 88, or a refusal number.
