@@ -1,4 +1,4 @@
-//! merge, adds and lacks.
+//! merge, adds, lacks and coarse.
 
 use crate::limits::Work;
 use crate::lists::{List, confirmation, hint, list, longest};
@@ -16,6 +16,31 @@ pub fn rows(r: &Report) {
         both(r, "262,144 hints and 262,144, thinned from 524,288 to 196,608", &longest(0, false), &longest(1, false));
         full(r);
     }
+    if r.wants("coarse") {
+        coarse(r, "7,400 checkpoints, 2,048 hints, to every fourth", &List { hints: hints(0, 2_048), ..list(7_400, 64) }, 4);
+        let frames = List { held: (1..=16).map(|i| 20 * i).collect(), budget: 1 << 20, ..list(1_000, 64) };
+        coarse(r, "1 MiB of frame bytes, to every fourth, all parts kept", &frames, 4);
+    }
+}
+
+/// A list at `ratio` times its interval. What is copied: every `ratio`-th checkpoint, all parts, hints and confirmations.
+fn coarse(r: &Report, case: &str, fine: &List, ratio: u32) {
+    let (ours, interval) = (Tables::loaded(fine), fine.interval * ratio);
+    let mut to = Tables::new(&List { boundaries: fine.boundaries.div_ceil(ratio), interval, ..fine.clone() });
+    let [checkpoints, frames, store, parts, malformed, hints, confirmed] = ours.used();
+    let copy = checkpoints / ratio as usize + frames + store + parts + malformed + hints + confirmed;
+    let least = Work { read: ours.read(), copy, ..Work::default() };
+    let (mut ours, mut one) = (ours.copy(), ours.copy());
+    assert_eq!(ours.coarse(interval, &mut to), 0, "{case}: refused");
+    r.row(Row {
+        call: "coarse",
+        case: case.to_string(),
+        ours: repeat(move || ours.coarse(interval, &mut to)),
+        theirs: None,
+        four: Some(repeat(move || one.four())),
+        least,
+        goal: None,
+    });
 }
 
 /// Two lists of as many hints and confirmations as there may be. The original would move its confirmations 262,144 times.

@@ -151,6 +151,11 @@ impl Tables {
         fourteen!(seek_raw_lacks(self.head.as_ptr(), BLOCK, other.head.as_ptr(), BLOCK, answer.as_mut_ptr(), BLOCK) self.tables, &other.tables, as_ptr, ())
     }
 
+    /// This list at a wider interval, into the other tables.
+    pub fn coarse(&mut self, interval: u32, other: &mut Tables) -> u32 {
+        fourteen!(seek_raw_coarse(self.head.as_ptr(), BLOCK, interval, other.head.as_mut_ptr(), BLOCK) self.tables, &mut other.tables, as_mut_ptr, ())
+    }
+
     /// Hints of 8 bytes each.
     pub fn add_hints(&mut self, list: &[u8]) -> u32 {
         seven!(seek_raw_add_hints(self.head.as_mut_ptr(), BLOCK, list.as_ptr(), list.len()) self.tables, ())
