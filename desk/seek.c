@@ -1,4 +1,4 @@
-/* seek: shows, compares and merges list files and disc files, and plans jumps in them. It reads files, calls the library and prints: every judgement on a
+/* seek: shows, compares, merges and coarsens list files and disc files, and plans jumps in them. It reads files, calls the library and prints: every judgement on a
  * file is a call of include/seek.h. desk/seek has its commands; docs/DESK.md is for who uses it. */
 #include "seek/desk.h"
 
@@ -20,6 +20,9 @@ static const char help[] =
     "  seek report -o PAGE A..   the same as an HTML page, with bars over time\n"
     "  seek merge -o OUT A B..   merges lists and writes a new file; says what was\n"
     "                            not taken, and which files may then be deleted\n"
+    "  seek coarse --interval N -o OUT FILE\n"
+    "                            the list at a wider interval, a multiple of its own,\n"
+    "                            so that it merges with lists of that interval\n"
     "  seek pack -o DISC A [B]   puts a list file, or those of a disc's two areas,\n"
     "                            into a new disc file\n"
     "  seek unpack DISC          writes each list of a disc file as a list file: of\n"
@@ -44,8 +47,9 @@ static const char help[] =
     "  --area FILE         every list must be of the area of this file; one of\n"
     "                      another area is refused (26)\n"
     "  --json              one JSON object a line, for machines (docs/DESK.md)\n"
-    "  -o OUT              the file that merge and pack write, - for standard output;\n"
-    "                      for unpack what its files' names begin with\n"
+    "  --interval N        for coarse: the sectors from one checkpoint to the next\n"
+    "  -o OUT              the file that merge, coarse and pack write, - for standard\n"
+    "                      output; for unpack what its files' names begin with\n"
     "  --partial           merge writes a file also where not all was taken\n"
     "  --checked           for hint: the disc is the list's own, so that hints which\n"
     "                      were confirmed count\n"
@@ -73,6 +77,7 @@ static const struct {
     {"compare", compare, 2, INT_MAX, 0, "two files or more"},
     {"report", report, 1, INT_MAX, 2, "-o PAGE and a file"},
     {"merge", merge, 2, INT_MAX, 2, "-o OUT and two files or more"},
+    {"coarse", coarse, 1, 1, 2, "--interval N, -o OUT and one file"},
     {"pack", pack, 1, 2, 2, "-o DISC and one list file or two"},
     {"unpack", unpack, 1, 1, 1, "one disc file"},
     {"plan", plan, 2, INT_MAX, 0, "a file and a frame"},
@@ -92,6 +97,14 @@ static int slot_option(const char *slot)
     if (strcmp(slot, "0") && strcmp(slot, "1"))
         return complain("--slot needs 0 (two-channel) or 1 (multichannel)");
     opt.slot = slot[0] - '0';
+    return DONE;
+}
+
+static int interval_option(const char *n)
+{
+    if (digits(&n, &opt.interval) || *n || opt.interval > UINT32_MAX)
+        return complain("--interval needs a number of sectors");
+    opt.widened = 1;
     return DONE;
 }
 
@@ -130,6 +143,8 @@ static int option(int argc, char **argv, int *i)
         opt.area = v = value(argc, argv, i, "--area");
     else if (is(w, "--slot") && (v = value(argc, argv, i, "--slot")) != NULL)
         return slot_option(v);
+    else if (is(w, "--interval") && (v = value(argc, argv, i, "--interval")) != NULL)
+        return interval_option(v);
     else if (!strcmp(w, "--range") && argc - 1 - *i > 1) {
         *i += 2;
         return range_option(argv[*i - 1], argv[*i]);
@@ -173,9 +188,11 @@ static int command(char **words, int n)
         return complain("--slot is not for %s: a disc file is kept or deleted whole", words[0]);
     if (commands[c].run != merge && opt.partial)
         return complain("--partial is for merge");
+    if (commands[c].run != coarse && opt.widened)
+        return complain("--interval is for coarse");
     if (commands[c].run != hint && opt.checked)
         return complain("--checked is for hint");
-    if (n - 1 < commands[c].least || n - 1 > commands[c].most || (commands[c].writes == 2 && !opt.out))
+    if (n - 1 < commands[c].least || n - 1 > commands[c].most || (commands[c].writes == 2 && !opt.out) || (commands[c].run == coarse && !opt.widened))
         return complain("%s needs %s; seek --help tells more", words[0], commands[c].needs);
     status = opt.area ? want_area() : DONE;
     return status == DONE ? commands[c].run(words + 1, n - 1) : status;

@@ -1,6 +1,6 @@
 /* What the files of the desk's program share. Each answers for itself: text.c words and lines, refuse.c refusals, read.c bytes read, file.c files and their
  * lists, hold.c what a list holds, lack.c what it holds beside another, sort.c many lists sorted, words.c the sentences on them, write.c files written; show.c,
- * check.c, compare.c, merge.c, report.c, pack.c, plan.c and hint.c the commands. */
+ * check.c, compare.c, merge.c, report.c, coarse.c, pack.c, plan.c and hint.c the commands. */
 #ifndef DESK_H
 #define DESK_H
 
@@ -26,6 +26,8 @@ typedef struct {
     seek_area wanted[2];
     int partial;              /* --partial */
     int checked;              /* --checked */
+    uint64_t interval;        /* --interval */
+    int widened;              /* it was given */
     FILE *told;               /* where answers go: standard output, or with -o - standard error */
 } Options;
 extern Options opt;
@@ -106,6 +108,7 @@ void close_file(File *f);
 void close_files(File *f, int n);
 int load_list(List *l);
 int copy_list(List *to, const List *from);
+int coarse_list(List *to, const List *from, uint32_t interval);
 List *only_list(File *f);
 int any_disc(const File *f, int n);
 int same_file(const struct stat *a, const struct stat *b);
@@ -177,6 +180,7 @@ int verdict(Text *t, const Drawer *d, const File *f, int file, int line);
 void area_title(Text *t, const Drawer *d, int i);
 int differ_at(const List *a, const List *b);
 void apart(Text *t, const List *a, const List *b, uint32_t number);
+int made_alike(Text *t, const List *a, const List *b);
 int lists_of(const Drawer *d, int group);
 int files_of(const Drawer *d, int section);
 int is_group(const Drawer *d, int i, int section, int slot);
@@ -203,6 +207,7 @@ int check(char **names, int n);
 int compare(char **names, int n);
 int merge(char **names, int n);
 int report(char **names, int n);
+int coarse(char **names, int n);
 int pack(char **names, int n);
 int unpack(char **names, int n);
 int plan(char **words, int n);

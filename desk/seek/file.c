@@ -78,6 +78,22 @@ int copy_list(List *to, const List *from)
     return load_list(to);
 }
 
+/* The list at a wider interval, in memory of its own; its number is the refusal. */
+int coarse_list(List *to, const List *from, uint32_t interval)
+{
+    static const seek_table_sizes none = {0, 0, 0, 0, 0, 0, 0};
+    seek_table_sizes sizes;
+    *to = *from;
+    to->memory = NULL;
+    /* an interval that has no sizes is refused by the call */
+    if (seek_sizes(&from->area, interval, seek_budget(&from->list), (uint32_t)seek_hint_limit(&from->list), &sizes))
+        sizes = none;
+    if (make_tables(to, &sizes) != DONE)
+        return USAGE;
+    to->number = seek_coarse(&from->list, interval, &to->list);
+    return DONE;
+}
+
 /* The list's name as it is printed. */
 static void name_list(File *f, int s, int in_disc)
 {

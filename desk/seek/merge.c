@@ -51,7 +51,7 @@ static uint32_t state_fingerprint(List *own, File *f, int n, int slot)
 /* ---- one list after the other */
 static int cannot(const List *own, const List *other, uint32_t number)
 {
-    Text t = {0};
+    Text t = {0}, u = {0};
     if (opt.json) {
         List l = *other;
         l.number = number;
@@ -59,8 +59,12 @@ static int cannot(const List *own, const List *other, uint32_t number)
     }
     add(&t, "%s and the lists before it ", other->name);
     apart(&t, own, other, number);
-    say(0, 2, "%s. %s", text_of(&t), advice(number));
+    add(&t, ". %s", advice(number));
+    if (number == SEEK_NO_MERGE_AREA && made_alike(&u, own, other))
+        add(&t, " Or merge them at the wider interval: %s.", text_of(&u));
+    say(0, 2, "%s", text_of(&t));
     free_text(&t);
+    free_text(&u);
     return REFUSED;
 }
 

@@ -88,18 +88,42 @@ static void kept_beside(Text *t, const Drawer *d, int i)
         the_same(t, d, i, j);
 }
 
+static int same_area(const seek_area *a, const seek_area *b)
+{
+    return a->slot == b->slot && a->channels == b->channels && a->key_start == b->key_start && a->key_end == b->key_end && a->sectors == b->sectors
+           && a->start == b->start && a->end == b->end;
+}
+
 /* Is there a list of the same area with another interval? */
 static int other_interval(const Drawer *d, int i)
 {
-    const seek_area *a = &d->items[i].list->area, *b;
     int j;
-    for (j = 0; j < d->n; j++) {
-        b = &d->items[j].list->area;
-        if (d->items[j].group != d->items[i].group && a->slot == b->slot && a->channels == b->channels && a->key_start == b->key_start
-            && a->key_end == b->key_end && a->sectors == b->sectors && a->start == b->start && a->end == b->end)
+    for (j = 0; j < d->n; j++)
+        if (d->items[j].group != d->items[i].group && same_area(&d->items[i].list->area, &d->items[j].list->area))
             return 1;
-    }
     return 0;
+}
+
+/* Which command makes two lists of one area alike, where the interval of one is a multiple of the other's. */
+int made_alike(Text *t, const List *a, const List *b)
+{
+    uint64_t k = seek_interval(&a->list), w = seek_interval(&b->list), fine = k < w ? k : w, wide = k < w ? w : k;
+    if (!same_area(&a->area, &b->area) || k == w || wide % fine != 0)
+        return 0;
+    add(t, "seek coarse --interval %" PRIu64 " -o OUT FILE makes of a list of interval %s one of interval %s", wide, grouped(fine), grouped(wide));
+    return 1;
+}
+
+/* The first list of the area that can be made alike with list i, or i with it. */
+static void alike(Text *t, const Drawer *d, int i)
+{
+    int j;
+    Text u = {0};
+    for (j = 0; j < d->n && !made_alike(&u, d->items[i].list, d->items[j].list);)
+        j++;
+    if (j < d->n)
+        add(t, "; %s", text_of(&u));
+    free_text(&u);
 }
 
 /* subject: the file, or "this list" where a file has two. */
@@ -109,9 +133,10 @@ void why(Text *t, const Drawer *d, int i, const char *subject)
     count_others(d, i, &others, &merged, &below);
     if (d->items[i].keeper >= 0)
         covered(t, d, i, d->items[i].keeper, subject);
-    else if (!others && other_interval(d, i))
+    else if (!others && other_interval(d, i)) {
         add(t, "the other lists of this area have another interval and cannot be merged with it (41)");
-    else if (!others)
+        alike(t, d, i);
+    } else if (!others)
         add(t, "no other of these files is of this area");
     else if (!merged)
         add(t, "no other of these files can be merged with it");
