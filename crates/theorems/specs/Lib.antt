@@ -3,6 +3,7 @@ pub mod BlockRun
 pub mod Closure
 pub mod ClosureInTables
 pub mod Coarse
+pub mod CoarseInTables
 pub mod CoarseRecorded
 pub mod Coverage
 pub mod Demand1
