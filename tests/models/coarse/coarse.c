@@ -392,7 +392,7 @@ static int load(const list *v)
 static void carve(const list *v, uint32_t k)
 {
     uint32_t b = k ? boundaries(v->start, v->end, k) : 0;
-    uint64_t sizes[7] = {24u * b, 8u * b, v->budget, 24u * b, 4 * 4096, 8 * (50 + 65536), 16 * (50 + 1)}, at = 0;
+    uint64_t sizes[7] = {24u * b, 8u * b, v->budget, 24u * b, 4 * 4096, 8 * (50 + 262144), 16 * (50 + 1)}, at = 0;
     int t;
     for (t = 0; t < 7; t++) {
         table(&lists[1], t)->at = memory[1] + at;
@@ -517,7 +517,7 @@ static int one(void)
     }
     if (!must) {
         uint32_t b = boundaries(x.start, x.end, k);
-        const uint64_t needs[7] = {24u * b, 8u * b, x.budget, 24u * b, 4 * 4096, 8 * (50 + 65536), 16 * (50 + 1)};
+        const uint64_t needs[7] = {24u * b, 8u * b, x.budget, 24u * b, 4 * 4096, 8 * (50 + 262144), 16 * (50 + 1)};
         for (t = 0; t < 7; t++)
             if (table(&lists[1], t)->length < needs[t])
                 must = 3;
