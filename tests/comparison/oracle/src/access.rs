@@ -121,6 +121,11 @@ pub fn checkpoints(ix: &AreaIndex) -> usize {
     ix.checkpoints.len()
 }
 
+/// How many frame bytes a list holds.
+pub fn used(ix: &AreaIndex) -> usize {
+    ix.stored.used
+}
+
 /// Whether a list has a fingerprint.
 pub fn fingerprint(ix: &AreaIndex) -> bool {
     ix.fingerprint.is_some()
