@@ -11,7 +11,7 @@ use Rattle.field.proofs.Records.{records-length}
 use Rattle.rules.specs.declared.Area.{Area}
 use Rattle.rules.specs.declared.AreaIndex.{AreaIndex}
 use Rattle.rules.specs.Tests.{all, isSome, ask, firstNo, after}
-use Rattle.rules.specs.Values.{boundaries, stated, frontierOf, counted, used}
+use Rattle.rules.specs.Values.{boundaries, stated, frontierOf, counted, used, mergeRoom}
 use Rattle.rules.specs.Sections.{countsOk, hintsOk, confirmationsOk, checkpointsOk, framesOk, partsOk, endingOk, malformedOk}
 use Rattle.rules.specs.Questions.{areaOk, numbersOk, scanRoom, hintingRoom, question1, question2, question3, question4, heldOk, scanOk, hintingOk}
 use Rattle.rules.specs.File.{decodeCheckpoint, decodeHeld, decodeLsn, decodeHint, decodeConfirmation}
@@ -139,12 +139,12 @@ pub hints-long : (x : AreaIndex) (hints confirmed : List ℕ) → hintRoom (x .m
 unfolding hintRoom hintingRoom hintCounts
 hints-long x hints confirmed r q n =
     let e = sym q ∙ not-false _ n in
-    let a : x .most + 262144 ≤ length hints / 8 = leb-true _ _ (test _ r 0) in
+    let a : x .most + mergeRoom ≤ length hints / 8 = leb-true _ _ (test _ r 0) in
     let b : x .most + 1 ≤ length confirmed / 16 = leb-true _ _ (test _ r 1) in
     let s : x .hints ≤ x .most = leb-true _ _ (test _ e 1) in
     let c : x .confirmed ≤ x .most = leb-true _ _ (test _ e 2) in
     record {
-      hints = within8 _ _ _ (let l : x .hints ≤ x .most + 262144 = omega arith in l) a;
+      hints = within8 _ _ _ (let l : x .hints ≤ x .most + mergeRoom = omega arith in l) a;
       confirmed = within16 _ _ _ (let l : x .confirmed ≤ x .most + 1 = omega arith in l) b;
     }
 
