@@ -13,7 +13,7 @@ use tables::get_checkpoint;
 use tables::read_lsn;
 ghost use mathlib.Core.Path.{_≡_};
 ghost use mathlib.Core.Bool.{true};
-ghost use Prim.Native.Nat.{_*_, _≤_};
+ghost use Prim.Native.Nat.{_*_, _-_, _≤_};
 ghost use lib.ListN.{length, getD};
 ghost use Rattle.rules.specs.Values.{lastCheckpoint};
 ghost use Rattle.rules_coarsen.specs.Coarse.{everyNth};
@@ -38,6 +38,14 @@ pub fn kept(n: u32, r: u32) -> u32
     ((n as u64 + r as u64 - 1) / r as u64) as u32
 }
 
+// The place of the last of every r-th, m of them.
+fn last_place(m: u32, r: u32) -> usize
+    requires { ⌜ (1 ≤ m) × ((m - 1) * r ≤ 4294967295) ⌝ }
+    ensures { λ p. ⌜ p ≡ (m - 1) * r ⌝ }
+{
+    (m - 1) as usize * r as usize
+}
+
 // The last of every r-th of n checkpoints, m of them; zeros where there is none.
 fn last_kept(t: &[u8], n: u32, m: u32, r: u32) -> Checkpoint
     requires { ⌜ Keeps n m r (now t) ⌝ }
@@ -46,7 +54,7 @@ fn last_kept(t: &[u8], n: u32, m: u32, r: u32) -> Checkpoint
     if m == 0 {
         return get_checkpoint(t, n as usize, 0);
     }
-    get_checkpoint(t, n as usize, (m - 1) as usize * r as usize)
+    get_checkpoint(t, n as usize, last_place(m, r))
 }
 
 // How many malformed LSNs the coarser list counts, with every r-th of the checkpoints, m of them.

@@ -55,14 +55,15 @@ read-header-requires c κs =
     let s = source-ready _ _ _ _ _ _ (start .pre .lent) (at-loop .loop .inv .0) (in-loop .loop-test .taken) (after-read-held .read-held .ensures) in
     let a = s .3 in let b = s .4 in omega arith
 
-rem-add-one : tie.Need-rem-add-one Inv-loop μ-loop
-rem-add-one c = let start : tie.Start Inv-loop μ-loop = search in search (needs, start .pre .ratio)
+is-kept-requires : tie.Need-is-kept-requires Inv-loop μ-loop
+is-kept-requires c κs = let start : tie.Start Inv-loop μ-loop = search in start .pre .ratio
 
-div-add-one : tie.Need-div-add-one Inv-loop μ-loop
-div-add-one c = let start : tie.Start Inv-loop μ-loop = search in search (needs, start .pre .ratio)
+renumbered-requires : tie.Need-renumbered-requires Inv-loop μ-loop
+renumbered-requires c κs = let start : tie.Start Inv-loop μ-loop = search in start .pre .ratio
 
 add-one-requires : tie.Need-add-one-requires Inv-loop μ-loop
 add-one-requires c κs =
+    let after-is-kept : tie.After-is-kept Inv-loop μ-loop = search in
     let after-read-header : tie.After-read-header Inv-loop μ-loop = search in
     let after-source-at : tie.After-source-at Inv-loop μ-loop = search in
     let after-read-held : tie.After-read-held Inv-loop μ-loop = search in
@@ -70,7 +71,7 @@ add-one-requires c κs =
     let at-loop : tie.At-loop Inv-loop μ-loop = search in
     let start = begin at-loop in
     one-ready _ _ _ _ _ _ (start .pre .lent) (at-loop .loop .inv .0) (in-loop .loop-test .taken) (after-read-held .read-held .ensures)
-    (after-source-at .source-at .ensures) (after-read-header .read-header .ensures) refl
+    (after-source-at .source-at .ensures) (after-read-header .read-header .ensures) (after-is-kept .is-kept .ensures)
 
 add-j : tie.Need-add-j Inv-loop μ-loop
 add-j c =
@@ -82,6 +83,8 @@ add-j c =
 loop-again : tie.Need-loop-again Inv-loop μ-loop
 loop-again c = (
   let after-add-one : tie.After-add-one Inv-loop μ-loop = search in
+      let after-renumbered : tie.After-renumbered Inv-loop μ-loop = search in
+      let after-is-kept : tie.After-is-kept Inv-loop μ-loop = search in
       let after-read-header : tie.After-read-header Inv-loop μ-loop = search in
       let after-source-at : tie.After-source-at Inv-loop μ-loop = search in
       let after-read-held : tie.After-read-held Inv-loop μ-loop = search in
@@ -91,7 +94,8 @@ loop-again c = (
       let after-shared-slice-known : tie.After-shared-slice-known Inv-loop μ-loop = search in
       let start = begin at-loop in
       adding-on _ _ _ _ _ _ (start .pre .lent) (at-loop .loop .inv .0) (in-loop .loop-test .taken) (after-read-held .read-held .ensures)
-      (after-source-at .source-at .ensures) (after-read-header .read-header .ensures) refl (after-add-one .add-one .ensures)
+      (after-source-at .source-at .ensures) (after-read-header .read-header .ensures) (after-is-kept .is-kept .ensures)
+      (rw (after-renumbered .renumbered .ensures) at (after-add-one .add-one .ensures))
       (λ i. after-shared-slice-known .shared-slice-known .given i .fits) (λ i. after-shared-slice-known3 .shared-slice-known3 .given i .fits),
   (let at-loop : tie.At-loop Inv-loop μ-loop = search in let lent : tie.After-frames Inv-loop μ-loop = search in lent .frames .given ∙ at-loop .loop .inv .1),
   (let at-loop : tie.At-loop Inv-loop μ-loop = search in let lent : tie.After-store Inv-loop μ-loop = search in lent .store .given ∙ at-loop .loop .inv .2),
@@ -116,8 +120,8 @@ keep-parts-spec =
     source-at-requires
     (λ c. search needs)
     read-header-requires
-    rem-add-one
-    div-add-one
+    is-kept-requires
+    renumbered-requires
     add-one-requires
     add-j
     (λ c. search needs)

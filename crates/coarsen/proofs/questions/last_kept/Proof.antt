@@ -12,15 +12,19 @@ returns c =
     let found : tie.After-get-checkpoint = search in
     last-kept-is 0 (start .pre) (let e = c .before .if1 .taken in rw e (sym (zero-mul (start .args .r)))) (found .get-checkpoint .ensures)
 
-mul-get-checkpoint : tie.Need-mul-get-checkpoint
-mul-get-checkpoint c =
+last-place-requires : tie.Need-last-place-requires
+last-place-requires c κs =
     let start : tie.Start = search in
-    search (needs, last-reach (start .pre))
+    let e = c .if1 .left in
+    let a = last-reach (start .pre) in
+    let b = start .fits .n .fits in
+    (omega arith, omega arith)
 
 returns-2 : tie.Need-returns-2
 returns-2 c =
+    let placed : tie.After-last-place = search in
     let start : tie.Start = search in
-    last-kept-is _ (start .pre) refl (c .get-checkpoint2 .ensures)
+    last-kept-is _ (start .pre) (placed .last-place .ensures) (c .get-checkpoint2 .ensures)
 
 pub last-kept-spec : {M : Type 1} → statement M
 last-kept-spec =
@@ -28,8 +32,6 @@ last-kept-spec =
     (tie.spec
     (λ c κs. search needs)
     returns
-    (λ c. search needs)
-    (λ c. search needs)
-    mul-get-checkpoint
+    last-place-requires
     (λ c κs. search needs)
     returns-2)
