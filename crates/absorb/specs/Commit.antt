@@ -8,8 +8,8 @@ use Rattle.rules.specs.declared.ImageId.{ImageId}
 use Rattle.rules.specs.declared.Recorder.{Recorder}
 use Rattle.rules.specs.Values.{Index}
 use Rattle.rules.specs.Record.{absorbedIndex}
-use Rattle.rules.specs.File.{encodeHint, encodeConfirmation, over}
-use Rattle.tables.specs.Tables.{hintsIn, confirmationsIn}
+use Rattle.rules.specs.File.{encodeConfirmation, over}
+use Rattle.tables.specs.Tables.{encodeKept, keptIn, confirmationsIn}
 use Rattle.index.specs.Index.{Tables, indexIn, numbersFrom, tablesFrom}
 use Rattle.sections.specs.Numbers.{idIn}
 use Rattle.recorder.specs.Recorder.{RecorderTables, recorderIn}
@@ -33,5 +33,5 @@ absorbedIn x t r u image ms = written (numbersFrom (absorbed x t r u image ms)) 
 
 -- hints and confirmations, read and put back, stay
 pub record Kept (x : AreaIndex) (s c : List ℕ) : Type 0 where
-  pub hints : over (bytesOf encodeHint (hintsIn (x .hints) s)) s ≡ s
+  pub hints : over (bytesOf encodeKept (keptIn (x .hints) s)) s ≡ s
   pub confirmed : over (bytesOf encodeConfirmation (confirmationsIn (x .confirmed) c)) c ≡ c

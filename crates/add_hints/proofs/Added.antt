@@ -20,7 +20,7 @@ use Rattle.rules.specs.Hints.{question13, withHinting, withHints, joinedHints, 
 use Rattle.rules.proofs.Tests.{never, all→, and-left, and-right}
 use Rattle.laws.proofs.hint_lists.Passes.{between-none, between-next, between-all}
 use Rattle.laws.specs.Passes.{between}
-use Rattle.tables.specs.Tables.{decodeHeader, headersIn, hintsIn}
+use Rattle.tables.specs.Tables.{decodeHeader, headersIn, decodeKept, keptIn}
 use Rattle.tables.proofs.Frames.{frames-length}
 use Rattle.index.specs.declared.Made.the-variants as made
 use Rattle.index.specs.Index.{Tables, tables, indexIn, roomOf, roomIn, kindsIn, kinded, refusal, numbersFrom, outOf, out}
@@ -30,6 +30,7 @@ use Rattle.index.proofs.Four.{Later, kinded-index}
 use Rattle.index.proofs.Questions.{passes}
 use Rattle.index.proofs.Lent.{put-back}
 use Rattle.index.proofs.Back.{numbers-back}
+use Rattle.add_hints.proofs.Arriving.{arriving-13}
 use Rattle.add_hints.specs.JoinedMerged.{hintsOf, joinedIn, touched, clearedTo}
 use Rattle.add_hints.specs.Added.{addHintsIn}
 use Rattle.add_hints.specs.Needs.{withCount}
@@ -63,15 +64,15 @@ pub room-is : {x : AreaIndex} {t : Tables} {q : Bool} (list : List ℕ) → Pass
 unfolding roomIn question3 hintingRoom heldQuestion4 question4 hintingOk question13
 room-is {x} {t} {q} list p e n =
     let r : x .most + mergeRoom ≤ length (t .hints) / 8 = leb-true _ _ (all→ _ (all→ _ (p .roomy .room) .1 .1 .0) .0) in
-    let h : length (hintsIn (x .hints) (t .hints)) ≤ x .most = leb-true _ _ (all→ _ (all→ _ (and-left _ (kindsIn x t) (p .held)) .1 .0) .1 .0) in
+    let h : length (keptIn (x .hints) (t .hints)) ≤ x .most = leb-true _ _ (all→ _ (all→ _ (and-left _ (kindsIn x t) (p .held)) .1 .0) .1 .0) in
     let m : length (hintsOf list) ≤ maxList = leb-true _ _ (and-left (leb (length (hintsOf list)) maxList) _ (sym e ∙ yes q n)) in
-    omega (arith, records-length 8 decodeHint (x .hints) (t .hints), records-length 8 decodeHint (length list / 8) list)
+    omega (arith, records-length 8 decodeKept (x .hints) (t .hints), records-length 8 decodeHint (length list / 8) list)
   where
     yes : (q : Bool) → not q ≡ false → q ≡ true
     yes true n = refl
     yes false n = never refl n
 
-pub own-rise : {x : AreaIndex} {t : Tables} → Passes x t → hintsOk (x .area) (hintsIn (x .hints) (t .hints)) ≡ true
+pub own-rise : {x : AreaIndex} {t : Tables} → Passes x t → hintsOk (x .area) (keptIn (x .hints) (t .hints)) ≡ true
 unfolding heldQuestion4 question4 hintingOk
 own-rise {x} {t} p = all→ _ (all→ _ (and-left _ (kindsIn x t) (p .held)) .1 .0) .1 .1 .1 .0
 
@@ -110,6 +111,7 @@ module _ (x : AreaIndex) (t : Tables) (list : List ℕ) {n : ℕ} (e : n ≡ ref
           eq-eqb n 0 z,
           ← g,
           yes q h,
+          ← (arriving-13 (length list / 8) list (sym g ∙ yes q h)),
           ← d,
           ap (λ (y : AreaIndex). withCount y (length (joinedIn (x .area) (x .most) (x .hints) (t .hints) list))) (numbers-back x t),
           ← c,

@@ -3,4 +3,5 @@ pub mod Digits
 pub mod JoinedMerged
 pub mod Merged
 pub mod Needs
+pub mod Packed
 pub mod SortNeeds

@@ -1,6 +1,7 @@
 // add_hints: a delivered list of hints joined to those of an index.
-mod choice;
+pub mod choice;
 pub mod joined;
+mod packed;
 pub mod sort;
 mod spread;
 
@@ -10,7 +11,7 @@ use index::refuses;
 use rules::AreaIndex;
 use rules::MAX_LIST;
 use rules::MAX_NEXT_ACCEPTABLE;
-use tables::read_hint;
+use tables::read_given;
 ghost use mathlib.Core.Path.{_≡_};
 ghost use Prim.Native.Nat.{_*_, _≤_};
 ghost use lib.ListN.{length};
@@ -30,7 +31,7 @@ fn numbers_ok(list: &[u8], n: usize) -> bool
 {
     let mut i = 0;
     while i < n {
-        let h = read_hint(list, i);
+        let h = read_given(list, i);
         if MAX_NEXT_ACCEPTABLE <= h.number {
             return false;
         }

@@ -12,10 +12,10 @@ use Rattle.field.proofs.Records.{records-length}
 use Rattle.rules.specs.declared.AreaIndex.{AreaIndex}
 use Rattle.rules.specs.Tests.{isSome, orElse, Accepted, after}
 use Rattle.rules.specs.Values.{Scan, isChecked, sameCheckpoint, sameEnd}
-use Rattle.rules.specs.File.{decodeCheckpoint, decodeHint, decodeConfirmation}
+use Rattle.rules.specs.File.{decodeCheckpoint, decodeConfirmation}
 use Rattle.rules.specs.Merge.{further, mergedScan, mergedFingerprint, merged}
 use Rattle.rules.proofs.Tests.{test}
-use Rattle.tables.specs.Tables.{lsnsIn, hintsIn, confirmationsIn, framesIn, partsIn}
+use Rattle.tables.specs.Tables.{lsnsIn, confirmationsIn, framesIn, partsIn, decodeKept, keptIn}
 use Rattle.index.specs.Index.{Tables, indexIn}
 use Rattle.sections.specs.Numbers.{endIn, idIn}
 use Rattle.index.proofs.Questions.{passes-long, passes-hints}
@@ -42,7 +42,7 @@ module _ {x y : AreaIndex} {t u : Tables} (j : Joins x t y u) where
 
   pub hints-room : (x .hints * 8 ≤ length (t .hints)) × (y .hints * 8 ≤ length (u .hints)) × (x .hints ≤ x .most)
   hints-room =
-      let h = hinting-is (j .own) .few in let n = records-length 8 decodeHint (x .hints) (t .hints) in
+      let h = hinting-is (j .own) .few in let n = records-length 8 decodeKept (x .hints) (t .hints) in
       (passes-hints (j .own) .hints, passes-hints (j .other) .hints, omega arith)
 
   pub confirmed-room : (x .confirmed * 16 ≤ length (t .confirmed)) × (y .confirmed * 16 ≤ length (u .confirmed)) × (x .confirmed ≤ x .most)
@@ -74,7 +74,7 @@ module _ {x y : AreaIndex} {t u : Tables} (j : Joins x t y u) where
         (p2 : c ≡ partsChange go x y (partTables (t .frames) (t .store) (t .parts)) (partTables (u .frames) (u .store) (u .parts)))
         (p3 : l ≡ sameList eqb (lsnsIn (x .malformed) (t .malformed)) (lsnsIn (y .malformed) (u .malformed)))
         (p4 : d ≡ (go && not l))
-        (p5 : HintsAnswered (x .most) (hintsIn (x .hints) (t .hints)) (hintsIn (y .hints) (u .hints)) e)
+        (p5 : HintsAnswered (x .most) (keptIn (x .hints) (t .hints)) (keptIn (y .hints) (u .hints)) e)
         (p6 : ConfirmedAnswered (isChecked (x .fingerprint)) (x .most) (confirmationsIn (x .confirmed) (t .confirmed)) (confirmationsIn (y .confirmed) (u .confirmed)) f)
         (p7 : h ≡ not (sameFingerprint (x .fingerprint) (mergedFingerprint (x .fingerprint) (y .fingerprint))))
         (p8 : i ≡ not (sameKnown eqb (idIn (x .image)) (orElse (idIn (x .image)) (idIn (y .image))))) where

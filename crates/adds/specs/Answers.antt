@@ -9,8 +9,8 @@ use Rattle.rules.specs.declared.Confirmation.{Confirmation}
 use Rattle.rules.specs.declared.Hint.{Hint}
 use Rattle.rules.specs.Values.{max32}
 use Rattle.rules.specs.Sections.{hintsOk, confirmationsOk}
-use Rattle.rules.specs.Hints.{joinedHints, keepAll}
-use Rattle.rules_lacks.specs.Lacks.{sameHint}
+use Rattle.rules.specs.Hints.{joinedHints, unkept, keepAll}
+use Rattle.rules_lacks.specs.Lacks.{equalHint}
 use Rattle.adds.specs.declared.compare.Turn.{Turn}
 use Rattle.adds.specs.Same.{sameList, sameConfirmation}
 use Rattle.adds.specs.Marks.{Marked, marked, lsnFrom}
@@ -27,14 +27,14 @@ pub record Turned (xs ys : List Hint) (n m i j : ℕ) (r : Turn) : Type 0 where
   pub next : marked (drop i xs) (drop j ys) ≡ first ∷ marked (drop (r .own) xs) (drop (r .other) ys)
   pub new : first .new ≡ r .new
   pub replaced : first .replaced ≡ r .replaced
-  pub number : first .hint .number ≡ r .number
+  pub hint : first .hint ≡ r .hint
   pub own : r .own ≤ n
   pub other : r .other ≤ m
   pub on : i + j < r .own + r .other
 
--- would hints ys change the held xs? Of lists that pass question 4
+-- would hints ys, without their marks, change the held xs? Of lists that pass question 4
 abbrev pub HintsAnswered : ℕ → List Hint → List Hint → Bool → Type 0
-HintsAnswered most xs ys r = (a : Area) → hintsOk a xs ≡ true → hintsOk a ys ≡ true → r ≡ not (sameList sameHint xs (joinedHints a most xs ys))
+HintsAnswered most xs ys r = (a : Area) → hintsOk a xs ≡ true → hintsOk a ys ≡ true → r ≡ not (sameList equalHint xs (joinedHints a most xs (unkept ys)))
 
 abbrev pub ConfirmedAnswered : Bool → ℕ → List Confirmation → List Confirmation → Bool → Type 0
 ConfirmedAnswered checked most cs ds r =

@@ -13,7 +13,7 @@ use Rattle.rules.specs.declared.Held.{Held}
 use Rattle.rules.specs.Tests.{all, Answer, Refused, Accepted, after}
 use Rattle.rules.specs.Values.{Frame, Index, Lengths, sameKind, sameCheckpoint, sameEnd}
 use Rattle.rules.specs.Merge.{merged, mergeNumber}
-use Rattle.rules_lacks.specs.Lacks.{sameSigned, sameHint}
+use Rattle.rules_lacks.specs.Lacks.{sameSigned, equalHint}
 use Rattle.index.specs.Index.{Tables, roomOf, indexIn, kindsIn, kinded}
 use Rattle.adds.specs.Same.{sameList, sameConfirmation}
 use Rattle.adds.specs.declared.Brings.{Brings}
@@ -55,7 +55,7 @@ bringsOf own x =
       ending = not (sameKnown sameEnd (own .scan .ending) (x .scan .ending));
       parts = not (sameList sameFrame (own .scan .frames) (x .scan .frames) && sameList sameHeld (own .scan .parts) (x .scan .parts));
       malformed = not (sameList eqb (own .scan .malformed) (x .scan .malformed));
-      hints = not (sameList sameHint (own .hinting .hints) (x .hinting .hints));
+      hints = not (sameList equalHint (own .hinting .hints) (x .hinting .hints));
       confirmed = not (sameList sameConfirmation (own .hinting .confirmed) (x .hinting .confirmed));
       fingerprint = not (sameFingerprint (own .fingerprint) (x .fingerprint));
       image = not (sameKnown eqb (own .image) (x .image));

@@ -5,7 +5,7 @@ use mathlib.Core.List.{List, [], _∷_}
 use lib.Dec.{eqb, leb, ltb}
 use Rattle.rules.specs.declared.Hint.{Hint}
 use Rattle.rules.specs.Values.{max32}
-use Rattle.rules.specs.Hints.{rise}
+use Rattle.thin.specs.Thin.{gapFrom}
 use Rattle.adds.specs.declared.compare.Pair.{Pair}
 use Rattle.adds.specs.declared.compare.Weighed.{Weighed}
 
@@ -51,12 +51,12 @@ abbrev pub unweighed : Weighed
 unweighed = record { place = 0; before = max32; new = pair 0 0; held = pair (max32 + 1) 0; replaced = false }
 
 -- one hint more
-unfoldable pub weighOne : Weighed → Bool → Bool → ℕ → Weighed
-weighOne s new replaced number =
-    let g = rise (s .before) number in
+unfoldable pub weighOne : Weighed → Bool → Bool → Hint → Weighed
+weighOne s new replaced h =
+    let g = gapFrom (s .before) h in
     record {
       place = s .place + 1;
-      before = number;
+      before = h .number;
       new = cond (new && leb (s .new .gap) g) (pair g (s .place)) (s .new);
       held = cond (not new && ltb g (s .held .gap)) (pair g (s .place)) (s .held);
       replaced = s .replaced || replaced;
@@ -64,7 +64,7 @@ weighOne s new replaced number =
 
 unfoldable pub weighed : Weighed → List Marked → Weighed
 weighed s [] = s
-weighed s (m ∷ ms) = weighed (weighOne s (m .new) (m .replaced) (m .hint .number)) ms
+weighed s (m ∷ ms) = weighed (weighOne s (m .new) (m .replaced) (m .hint)) ms
 
 -- would n held hints change, at the limit most? One whose number is replaced does, or is dropped
 unfoldable pub changedBy : Weighed → ℕ → ℕ → Bool

@@ -1,18 +1,21 @@
 // What another list's hints and confirmations would change, decided over lent tables that are only read.
+use add_hints::choice::read_arriving;
 use field::and;
 use field::or;
 use rules::Confirmation;
+use rules::Hint;
 use rules::MAX_U32;
 use tables::read_confirmation;
 use tables::read_hint;
-use thin::gaps::rise_of;
+use thin::gaps::gap_of;
 ghost use mathlib.Core.Path.{_≡_};
 ghost use mathlib.Core.Bool.{_&&_, cond};
 ghost use Prim.Native.Nat.{_+_, _*_, _≤_, _<_};
 ghost use lib.Dec.{leb, ltb};
 ghost use lib.ListN.{length, drop};
-ghost use Rattle.rules.specs.Hints.{rise, heldConfirmation};
-ghost use Rattle.tables.specs.Tables.{hintsIn, confirmationsIn};
+ghost use Rattle.rules.specs.Hints.{heldConfirmation};
+ghost use Rattle.tables.specs.Tables.{confirmationsIn, keptIn};
+ghost use Rattle.add_hints.specs.Merged.{unkeptIn};
 ghost use Rattle.adds.specs.Same.{sameConfirmation};
 ghost use Rattle.adds.specs.Marks.{marked, lower, unweighed, weighOne, weighed, changedBy};
 ghost use Rattle.adds.specs.Confirmed.{absorbed, unmovedBy, fromLow, arriving};
@@ -33,11 +36,12 @@ pub struct Weighed {
     pub replaced: bool,
 }
 
-// The next hint of two lists: whether it is new, whether the other list has another number at its LSN, its number, and how many of each list are passed then.
+// The next hint of two lists: whether it is new, which brings no mark, whether the other list has another number at its LSN, the hint, and how many of each list
+// are passed then.
 pub struct Turn {
     pub new: bool,
     pub replaced: bool,
-    pub number: u32,
+    pub hint: Hint,
     pub own: usize,
     pub other: usize,
 }
@@ -46,7 +50,7 @@ pub struct Turn {
 // The LSN of hint i, above every LSN where there is none.
 fn lsn_at(t: &[u8], n: usize, i: usize) -> u64
     requires { ⌜ n * 8 ≤ length (now t) ⌝ }
-    ensures { λ r. ⌜ LsnAt (hintsIn n (now (t .entry))) n i r ⌝ }
+    ensures { λ r. ⌜ LsnAt (keptIn n (now (t .entry))) n i r ⌝ }
 {
     if i < n {
         let h = read_hint(t, i);
@@ -58,16 +62,16 @@ fn lsn_at(t: &[u8], n: usize, i: usize) -> u64
 // The next of the hints from i and j on.
 fn next_hint(own: &[u8], n: usize, other: &[u8], m: usize, i: usize, j: usize) -> Turn
     requires { ⌜ (n * 8 ≤ length (now own)) × (m * 8 ≤ length (now other)) × (i ≤ n) × (j ≤ m) × (i + j < n + m) ⌝ }
-    ensures { λ r. ⌜ Turned (hintsIn n (now (own .entry))) (hintsIn m (now (other .entry))) n m i j r ⌝ }
+    ensures { λ r. ⌜ Turned (keptIn n (now (own .entry))) (unkeptIn m (now (other .entry))) n m i j r ⌝ }
 {
     let a = lsn_at(own, n, i);
     let b = lsn_at(other, m, j);
     if b < a {
-        let y = read_hint(other, j);
+        let hint = read_arriving(other, j);
         return Turn {
             new: true,
             replaced: false,
-            number: y.number,
+            hint,
             own: i,
             other: j + 1,
         };
@@ -77,16 +81,16 @@ fn next_hint(own: &[u8], n: usize, other: &[u8], m: usize, i: usize, j: usize) -
         return Turn {
             new: false,
             replaced: false,
-            number: x.number,
+            hint: x,
             own: i + 1,
             other: j,
         };
     }
-    let y = read_hint(other, j);
+    let y = read_arriving(other, j);
     Turn {
         new: false,
         replaced: x.number != y.number,
-        number: x.number,
+        hint: x,
         own: i + 1,
         other: j + 1,
     }
@@ -106,19 +110,19 @@ fn smaller(go: bool, p: Pair, q: Pair) -> Pair
     if and(go, p.gap < q.gap) { p } else { q }
 }
 
-fn weigh_one(s: Weighed, new: bool, replaced: bool, number: u32) -> Weighed
+fn weigh_one(s: Weighed, new: bool, replaced: bool, h: Hint) -> Weighed
     requires { ⌜ s .place < 18446744073709551615 ⌝ }
-    ensures { λ r. ⌜ r ≡ weighOne s new replaced number ⌝ }
+    ensures { λ r. ⌜ r ≡ weighOne s new replaced h ⌝ }
 {
     let p = Pair {
-        gap: rise_of(s.before, number),
+        gap: gap_of(s.before, h),
         place: s.place,
     };
     let a = s.new;
     let b = s.held;
     Weighed {
         place: s.place + 1,
-        before: number,
+        before: h.number,
         new: larger(new, p, a),
         held: smaller(!new, p, b),
         replaced: or(s.replaced, replaced),
@@ -143,14 +147,14 @@ fn nothing_weighed() -> Weighed
 // One pass over both lists.
 fn weigh(own: &[u8], n: usize, other: &[u8], m: usize) -> Weighed
     requires { ⌜ (n * 8 ≤ length (now own)) × (m * 8 ≤ length (now other)) ⌝ }
-    ensures { λ r. ⌜ r ≡ weighed unweighed (marked (hintsIn n (now (own .entry))) (hintsIn m (now (other .entry)))) ⌝ }
+    ensures { λ r. ⌜ r ≡ weighed unweighed (marked (keptIn n (now (own .entry))) (unkeptIn m (now (other .entry)))) ⌝ }
 {
     let mut s = nothing_weighed();
     let mut i = 0;
     let mut j = 0;
     while i + j < n + m {
         let t = next_hint(own, n, other, m, i, j);
-        s = weigh_one(s, t.new, t.replaced, t.number);
+        s = weigh_one(s, t.new, t.replaced, t.hint);
         i = t.own;
         j = t.other;
     }
@@ -186,7 +190,7 @@ fn changed_by(w: Weighed, n: u32, most: u32) -> bool
 // Would the m hints of another list change the n held ones, at the limit most?
 pub fn changes_hints(most: u32, own: &[u8], n: u32, other: &[u8], m: u32) -> bool
     requires { ⌜ (n * 8 ≤ length (now own)) × (m * 8 ≤ length (now other)) × (n ≤ most) ⌝ }
-    ensures { λ r. ⌜ HintsAnswered most (hintsIn n (now (own .entry))) (hintsIn m (now (other .entry))) r ⌝ }
+    ensures { λ r. ⌜ HintsAnswered most (keptIn n (now (own .entry))) (keptIn m (now (other .entry))) r ⌝ }
 {
     if most == 0 {
         return false;

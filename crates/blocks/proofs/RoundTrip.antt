@@ -30,7 +30,7 @@ use Rattle.rules.proofs.Tests.{and-right}
 use Rattle.blocks.specs.From.{at, areaFrom, endFrom, fingerprintFrom, imageFrom, modeFrom, lastFrom, tailFrom, indexFrom, recorderFrom, hintRecorderFrom}
 use Rattle.blocks.specs.IsHead.{isHead, withFree}
 use Rattle.blocks.specs.Head.{wordsIn, blockOf, endWords, fingerprintWords, imageWords, modeWords, lastWords, tailWords, indexWords, recorderWords, hintRecorderArray, hintRecorderWords}
-use Rattle.blocks.specs.RoundTrip.{Fits8, Fits32, Fits64, IndexFits, RecorderFits, HintRecorderFits, IndexBack, RecorderBack, HintRecorderBack, IndexIsHead, RecorderIsHead, HintRecorderIsHead, NoneFree, HeadWords}
+use Rattle.blocks.specs.RoundTrip.{Fits8, Fits32, Fits64, tailMark, IndexFits, RecorderFits, HintRecorderFits, IndexBack, RecorderBack, HintRecorderBack, IndexIsHead, RecorderIsHead, HintRecorderIsHead, NoneFree, HeadWords}
 
 words-back : (ws b : List ℕ) → Each Fits64 ws → wordsIn (length ws) (over (blockOf ws) b) ≡ ws
 words-back ws b f = records-bytes (numbers 8) _ f
@@ -110,10 +110,10 @@ unfolding tailWords
 tail-fits tail.Empty = omega arith
 tail-fits (tail.Hint h) = omega arith
 
-tail-back : (t : Tail) → Fits32 (tailWords t .first) → Fits32 (tailWords t .second) → tailFrom (tailWords t .mark) (tailWords t .first) (tailWords t .second) ≡ t
-unfolding tailFrom tailWords
-tail-back tail.Empty g h = refl
-tail-back (tail.Hint k) g h = rw (low32 (k .lsn) g, low32 (k .number) h)
+tail-back : (t : Tail) → Fits32 (tailWords t .first) → Fits32 (tailWords t .second) → tailMark t ≡ 0 → tailFrom (tailWords t .mark) (tailWords t .first) (tailWords t .second) ≡ t
+unfolding tailFrom tailWords tailMark
+tail-back tail.Empty g h m = refl
+tail-back (tail.Hint k) g h m = rw (low32 (k .lsn) g, low32 (k .number) h) (λ i. tail.Hint (record { lsn = k .lsn; number = k .number; mark = sym m i }))
 
 -- ---- heads
 -- the words of an index are words, and what is read from them is it
@@ -190,7 +190,7 @@ free-same r free f =
     rw (
       low32 _ (f .spacing),
       last-back (r .last) (f .last),
-      tail-back (r .tail) (f .lsn) (f .number),
+      tail-back (r .tail) (f .lsn) (f .number) (f .mark),
       low32 _ (f .count),
     )
 
@@ -210,7 +210,7 @@ hint-recorder-back r f b g h =
       words-back (hintRecorderArray r f) b s,
       low32 _ (g .spacing),
       last-back (r .last) (g .last),
-      tail-back (r .tail) (g .lsn) (g .number),
+      tail-back (r .tail) (g .lsn) (g .number) (g .mark),
       low32 _ (g .count),
     )
 

@@ -50,7 +50,7 @@ unfoldable pub lastFrom : ℕ → ℕ → LastListed
 lastFrom known t = cond (eqb known 0) Never (Number (low32 t))
 
 unfoldable pub tailFrom : ℕ → ℕ → ℕ → Tail
-tailFrom known l t = cond (eqb known 0) tail.Empty (tail.Hint (record { lsn = low32 l; number = low32 t }))
+tailFrom known l t = cond (eqb known 0) tail.Empty (tail.Hint (record { lsn = low32 l; number = low32 t; mark = 0 }))
 
 unfoldable pub areaFrom : List ℕ → Area
 areaFrom ws =

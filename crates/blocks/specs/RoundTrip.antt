@@ -8,6 +8,8 @@ use Rattle.rules.specs.declared.Area.{Area}
 use Rattle.rules.specs.declared.AreaIndex.{AreaIndex}
 use Rattle.rules.specs.declared.HintRecorder.{HintRecorder}
 use Rattle.rules.specs.declared.Recorder.{Recorder}
+use Rattle.rules.specs.declared.Tail.{Tail}
+use Rattle.rules.specs.declared.Tail.the-variants as tail
 use Rattle.rules.specs.File.{over}
 use Rattle.blocks.specs.From.{at, indexFrom, recorderFrom, hintRecorderFrom}
 use Rattle.blocks.specs.IsHead.{isHead, withFree, isIndex, isRecorder, isHintRecorder}
@@ -62,11 +64,17 @@ pub record RecorderFits (r : Recorder) : Type 0 where
   pub threshold : Fits32 (modeWords (r .mode) .first)
   pub counted : Fits64 (modeWords (r .mode) .second)
 
+-- a tail has no kept mark: a head holds none
+unfoldable pub tailMark : Tail → ℕ
+tailMark tail.Empty = 0
+tailMark (tail.Hint h) = h .mark
+
 pub record HintRecorderFits (r : HintRecorder) : Type 0 where
   pub spacing : Fits32 (r .spacing)
   pub last : Fits32 (lastWords (r .last) .first)
   pub lsn : Fits32 (tailWords (r .tail) .first)
   pub number : Fits32 (tailWords (r .tail) .second)
+  pub mark : tailMark (r .tail) ≡ 0
   pub count : Fits32 (r .count)
 
 pub record ToldFits (f : Told) : Type 0 where

@@ -92,6 +92,7 @@ fn tail_from(known: u64, lsn: u64, number: u64) -> Tail
     Tail::Hint(Hint {
         lsn: (lsn % 4294967296) as u32,
         number: (number % 4294967296) as u32,
+        mark: 0,
     })
 }
 

@@ -18,10 +18,11 @@ use Rattle.rules.specs.declared.ImageId.the-variants.{Anonymous, Id}
 use Rattle.rules.specs.Tests.{Accepted, after}
 use Rattle.rules.proofs.Tests.{test}
 use Rattle.rules.specs.Values.{Index, maxMalformed}
-use Rattle.rules.specs.File.{encodeCheckpoint, encodeFrameHeader, encodeHeld, encodeLsn, encodeHint, encodeConfirmation, decodeCheckpoint, decodeLsn, decodeHint, decodeConfirmation, over}
+use Rattle.rules.specs.File.{encodeCheckpoint, encodeFrameHeader, encodeHeld, encodeLsn, encodeConfirmation, decodeCheckpoint, decodeLsn, decodeConfirmation, over}
 use Rattle.rules_coarsen.specs.Coarse.{everyNth, coarseParts, unstored, coarserScan, coarser, coarseNumber, coarse}
-use Rattle.laws.proofs.Layouts.{lsn-layout, hint-layout, confirmation-layout}
-use Rattle.tables.specs.Tables.{checkpointsIn, framesIn, partsIn, lsnsIn}
+use Rattle.laws.proofs.Layouts.{lsn-layout, confirmation-layout}
+use Rattle.tables.proofs.Kept.{kept-layout}
+use Rattle.tables.specs.Tables.{checkpointsIn, framesIn, partsIn, lsnsIn, decodeKept}
 use Rattle.sections.specs.Numbers.{endIn, endFrom, idIn, idFrom}
 use Rattle.index.specs.declared.Made.the-variants as made
 use Rattle.index.specs.Index.{Tables, tables, roomOf, indexIn, storeOf, numbersFrom, tablesFrom, refusal, Out, out, outOf}
@@ -89,7 +90,7 @@ module _ (x : AreaIndex) (t : Tables) (k : ℕ) (u : Tables) (j : Coarsens x t k
         let e4 = ap (λ (h : Held). h .counts .frames) p1 in
         let e5 = ap (λ (h : Held). h .counts .parts) p1 in
         let e6 : m ≡ length (wide .scan .malformed) = sym (records-length 4 decodeLsn m (t .malformed)) ∙ ap length malformed-are in
-        let e7 = sym (records-length 8 decodeHint (x .hints) (t .hints)) in
+        let e7 = sym (records-length 8 decodeKept (x .hints) (t .hints)) in
         let e8 = sym (records-length 16 decodeConfirmation (x .confirmed) (t .confirmed)) in
         let e9 = end-back (x .ending) in
         let e10 = id-back (x .image) in
@@ -118,7 +119,7 @@ module _ (x : AreaIndex) (t : Tables) (k : ℕ) (u : Tables) (j : Coarsens x t k
         let e3 = ap (λ (h : Held). h .tables .parts) p1 in
         let e4 : ms ≡ over (bytesOf encodeLsn (wide .scan .malformed)) (u .malformed) =
         copied lsn-layout m (t .malformed) (u .malformed) b4 l4 p4 ∙ ap (λ (l : List ℕ). over (bytesOf encodeLsn l) (u .malformed)) malformed-are in
-        let e5 = copied hint-layout (x .hints) (t .hints) (u .hints) b5 l5 p5 in
+        let e5 = copied kept-layout (x .hints) (t .hints) (u .hints) b5 l5 p5 in
         let e6 = copied confirmation-layout (x .confirmed) (t .confirmed) (u .confirmed) b6 l6 p6 in
         ends numbers-are p0 e1 e2 e3 e4 e5 e6
 

@@ -13,13 +13,13 @@ use Rattle.rules.specs.declared.AreaIndex.{AreaIndex}
 use Rattle.rules.specs.Tests.{each}
 use Rattle.rules.specs.Values.{Index, boundaries, used, maxMalformed, mergeRoom, counted, frontier}
 use Rattle.rules.specs.Questions.{scanRoom, hintingRoom, question3, question4}
-use Rattle.rules.specs.File.{decodeCheckpoint, decodeLsn, decodeHint, decodeConfirmation}
+use Rattle.rules.specs.File.{decodeCheckpoint, decodeLsn, decodeConfirmation}
 use Rattle.rules.proofs.Tests.{all→}
 use Rattle.rules_coarsen.specs.Coarse.{everyNth, coarserScan, coarser, coarseFrontier}
 use Rattle.laws.proofs.scans.Scans.{ScanIs, scan→, scan-of}
 use Rattle.laws.proofs.hint_lists.Closure.{HintingIs, hinting→}
 use Rattle.laws.proofs.Ranges.{boundaries-small}
-use Rattle.tables.specs.Tables.{framesOf, framesIn, checkpointsIn, partsIn, lsnsIn}
+use Rattle.tables.specs.Tables.{framesOf, framesIn, checkpointsIn, partsIn, lsnsIn, decodeKept}
 use Rattle.index.specs.Index.{Tables, roomOf, roomIn, indexIn, kindsOk}
 use Rattle.index.specs.Needs.{Passes}
 use Rattle.index.proofs.Questions.{range, passes-long, passes-hints, passes-store}
@@ -141,7 +141,7 @@ module _ {x : AreaIndex} {t : Tables} {k : ℕ} {u : Tables} (j : Coarsens x t k
 
   pub hints-there : (x .hints * 8 ≤ length (t .hints)) × (x .hints * 8 ≤ length (u .hints))
   hints-there =
-      let h = hinting-is .few in let l = passes-hints (j .passes) .hints in let w = wide .hints in let n = records-length 8 decodeHint (x .hints) (t .hints) in
+      let h = hinting-is .few in let l = passes-hints (j .passes) .hints in let w = wide .hints in let n = records-length 8 decodeKept (x .hints) (t .hints) in
       (l, omega arith)
 
   pub confirmed-there : (x .confirmed * 16 ≤ length (t .confirmed)) × (x .confirmed * 16 ≤ length (u .confirmed))

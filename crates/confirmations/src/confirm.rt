@@ -58,7 +58,7 @@ struct Taken {
 // Of the confirmations of t from p to e and those of o from q to n the first; two at one LSN meet.
 fn take_first(t: &[u8], p: usize, e: usize, o: &[u8], q: usize, n: usize) -> Taken
     requires { ⌜ Left 16 (now t) (now o) e n p q ⌝ }
-    ensures { λ r. ⌜ Takes 16 decodeConfirmation confirmationsMerged (now (t .entry)) (now (o .entry)) e n p q (r .confirmation) (r .own) (r .other) ⌝ }
+    ensures { λ r. ⌜ Takes 16 decodeConfirmation decodeConfirmation confirmationsMerged (now (t .entry)) (now (o .entry)) e n p q (r .confirmation) (r .own) (r .other) ⌝ }
 {
     if n <= q {
         return Taken {
@@ -99,7 +99,7 @@ fn take_first(t: &[u8], p: usize, e: usize, o: &[u8], q: usize, n: usize) -> Tak
 
 // The confirmations of t from a to e and those of o from b to n, merged to the start of t.
 fn merge_down(t: &mut [u8], a: usize, e: usize, o: &[u8], b: usize, n: usize) -> usize
-    requires { ⌜ Fits 16 decodeConfirmation confirmationsMerged (now t) (now o) a e b n ⌝ }
+    requires { ⌜ Fits 16 decodeConfirmation decodeConfirmation confirmationsMerged (now t) (now o) a e b n ⌝ }
     ensures { λ r. ⌜ Begins 16 encodeConfirmation (confirmationsMerged (between 16 decodeConfirmation a e (now (t .entry))) (between 16 decodeConfirmation b n (now (o .entry)))) r (now (t .entry)) (now (t .exit)) ⌝ }
 {
     let mut p = a;

@@ -17,7 +17,7 @@ ghost use mathlib.Core.Path.{_≡_};
 ghost use Prim.Native.Nat.{_*_, _≤_, _<_};
 ghost use lib.ListN.{length, drop};
 ghost use Rattle.rules.specs.Hints.{firstFrom};
-ghost use Rattle.tables.specs.Tables.{hintsIn};
+ghost use Rattle.tables.specs.Tables.{keptIn};
 ghost use Rattle.index.specs.Index.{tables};
 ghost use Rattle.hint.specs.Calls.{namedOf, answerOf, hintIn};
 ghost use Rattle.rules_jump.specs.Names.{named, namedEnd};
@@ -40,7 +40,7 @@ pub struct NamedHint {
 // The upper end through the first of the hints from place i on that is numbered end or more, if at most 64 frames past it; 0 where there is none.
 fn later_end(hints: &[u8], n: usize, i: usize, end: u32) -> u64
     requires { ⌜ (n * 8 ≤ length (now hints)) × (i ≤ n) ⌝ }
-    ensures { λ r. ⌜ r ≡ laterEnd end (firstFrom end (drop i (hintsIn n (now (hints .entry))))) ⌝ }
+    ensures { λ r. ⌜ r ≡ laterEnd end (firstFrom end (drop i (keptIn n (now (hints .entry))))) ⌝ }
 {
     let mut j = i;
     while j < n {
@@ -77,7 +77,7 @@ fn hinted_from(
     start: HintStart,
 ) -> NamedHint
     requires { ⌜ (n * 8 ≤ length (now hints)) × (i < n) × (area .start ≤ area .end) × (area .end ≤ 4294967295) ⌝ }
-    ensures { λ r. ⌜ namedOf r ≡ named area (hintsIn n (now (hints .entry))) end playtime start i (hintedFrom area (hintsIn n (now (hints .entry))) i end playtime) ⌝ }
+    ensures { λ r. ⌜ namedOf r ≡ named area (keptIn n (now (hints .entry))) end playtime start i (hintedFrom area (keptIn n (now (hints .entry))) i end playtime) ⌝ }
 {
     let h = read_hint(hints, i);
     let upper = later_end(hints, n, i + 1, end);

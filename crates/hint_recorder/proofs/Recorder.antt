@@ -146,7 +146,7 @@ module _ (r : HintRecorder) (t : List ℕ) (p : Roomy r t) (b : Bytes t) where
   seen-past lsn e h = rw (e, lt-ltb 4294967295 lsn h) same-step
 
   pub seen-number : {f : First} {n : TimeBytes} {k : HintRecorder} {new : List ℕ} (lsn : ℕ) → f ≡ first.Number n → lsn ≤ 4294967295
-      → Steps k (hintSeen (recorderIn r t) (record { lsn = lsn; number = n .number })) t new → Steps k (seenRecord (recorderIn r t) lsn f) t new
+      → Steps k (hintSeen (recorderIn r t) (record { lsn = lsn; number = n .number; mark = 0 })) t new → Steps k (seenRecord (recorderIn r t) lsn f) t new
   unfolding seenRecord
   seen-number lsn e h s = rw (e, le-ltb 4294967295 lsn h) s
 

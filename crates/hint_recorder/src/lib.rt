@@ -15,7 +15,7 @@ use rules::LastListed;
 use rules::MAX_LIST;
 use rules::MAX_U32;
 use rules::Tail;
-use thin::write_hint;
+use tables::write_given;
 ghost use mathlib.Core.Path.{_≡_};
 ghost use Rattle.rules.specs.Hints.{seenRecord};
 ghost use Rattle.index.specs.Index.{tables};
@@ -78,7 +78,7 @@ fn list_or_keep(r: HintRecorder, h: Hint, list: &mut [u8]) -> HintRecorder
 {
     let last = r.last;
     if and(is_spaced(last, r.spacing, h.number), has_room(r.count)) {
-        write_hint(list, r.count as usize, h);
+        write_given(list, r.count as usize, h);
         return cleared(r.spacing, LastListed::Number(h.number), r.count + 1);
     }
     HintRecorder {
@@ -109,6 +109,7 @@ impl Step {
         let h = Hint {
             lsn: lsn as u32,
             number: t.number,
+            mark: 0,
         };
         let r = self.recorder;
         let recorder = list_or_keep(r, h, list);
@@ -144,7 +145,7 @@ fn flushed(r: HintRecorder, list: &mut [u8]) -> HintRecorder
     if !has_room(r.count) {
         return cleared(r.spacing, last, r.count);
     }
-    write_hint(list, r.count as usize, h);
+    write_given(list, r.count as usize, h);
     cleared(r.spacing, last, r.count + 1)
 }
 

@@ -19,9 +19,9 @@ use Rattle.rules.specs.declared.Fingerprint.{Fingerprint}
 use Rattle.rules.specs.declared.ImageId.{ImageId}
 use Rattle.rules.specs.declared.ImageId.the-variants.{Anonymous, Id}
 use Rattle.rules.specs.Values.{Frame}
-use Rattle.rules.specs.File.{encodeFrameHeader, decodeCheckpoint, decodeHeld, decodeLsn, decodeHint, decodeConfirmation}
+use Rattle.rules.specs.File.{encodeFrameHeader, decodeCheckpoint, decodeHeld, decodeLsn, decodeConfirmation}
 use Rattle.tables.specs.declared.FrameHeader.{FrameHeader}
-use Rattle.tables.specs.Tables.{decodeHeader, headersIn, framesOf, stretch}
+use Rattle.tables.specs.Tables.{decodeKept, decodeHeader, headersIn, framesOf, stretch}
 use Rattle.tables.proofs.Frames.{stretch-within, frames-length}
 use Rattle.index.specs.Index.{Tables, indexIn, numbersFrom, storeOf}
 use Rattle.sections.specs.Numbers.{endIn, idIn, endFrom, idFrom}
@@ -113,7 +113,7 @@ numbers-with x t f =
       records-length 8 decodeHeader (x .frames) (t .frames),
       records-length 24 decodeHeld (x .parts) (t .parts),
       records-length 4 decodeLsn (x .malformed) (t .malformed),
-      records-length 8 decodeHint (x .hints) (t .hints),
+      records-length 8 decodeKept (x .hints) (t .hints),
       records-length 16 decodeConfirmation (x .confirmed) (t .confirmed),
       end-back (x .ending),
       id-back (x .image),

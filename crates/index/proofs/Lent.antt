@@ -23,10 +23,11 @@ use Rattle.rules.specs.Sizes.{frameSized, sized}
 use Rattle.rules.specs.File.{encodeFrameHeader, encodeHeld, decodeHeld, over}
 use Rattle.rules.proofs.Tests.{test, and-left, and-right, each-of, each→, each-cons, each-none, each-map}
 use Rattle.laws.specs.Statements.{Savable}
-use Rattle.laws.proofs.Layouts.{checkpoint-layout, lsn-layout, hint-layout, confirmation-layout, signed-forth, held-forth}
+use Rattle.laws.proofs.Layouts.{checkpoint-layout, lsn-layout, confirmation-layout, signed-forth, held-forth}
 use Rattle.laws.proofs.Facts.{→sized}
 use Rattle.tables.specs.declared.FrameHeader.{FrameHeader}
 use Rattle.tables.specs.Tables.{stretch, framesOf, framesIn, headersIn, partsIn}
+use Rattle.tables.proofs.Kept.{kept-layout}
 use Rattle.tables.proofs.Frames.{stretch-length, stretch-within, frames-used, weight}
 use Rattle.index.specs.Index.{Tables, indexIn, kindsOk, storeOf, tablesFrom}
 use Rattle.index.specs.Needs.{Passes, heldQuestion4}
@@ -142,6 +143,6 @@ module _ {x : AreaIndex} {t : Tables} (p : Passes x t) where
         over-same (weight (headersIn (x .frames) (t .frames))) _ (t .store) store-weight (store-back (headersIn (x .frames) (t .frames)) (t .store) store-weight),
         over-same (x .parts * 24) _ (t .parts) (l .parts) (parts-bytes (x .parts) (t .parts) (b .parts) (l .parts) (passes-kinds p)),
         records-put-back lsn-layout (x .malformed) (t .malformed) (b .malformed) (l .malformed),
-        records-put-back hint-layout (x .hints) (t .hints) (b .hints) (h .hints),
+        records-put-back kept-layout (x .hints) (t .hints) (b .hints) (h .hints),
         records-put-back confirmation-layout (x .confirmed) (t .confirmed) (b .confirmed) (h .confirmed),
       )

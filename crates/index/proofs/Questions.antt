@@ -12,12 +12,12 @@ use Rattle.rules.specs.declared.Area.{Area}
 use Rattle.rules.specs.declared.AreaIndex.{AreaIndex}
 use Rattle.rules.specs.Tests.{all, isSome, ask, firstNo, after}
 use Rattle.rules.specs.Values.{boundaries, stated, frontierOf, counted, used, mergeRoom}
-use Rattle.rules.specs.Sections.{countsOk, hintsOk, confirmationsOk, checkpointsOk, framesOk, partsOk, endingOk, malformedOk}
+use Rattle.rules.specs.Sections.{countsOk, hintsOk, marksOk, confirmationsOk, checkpointsOk, framesOk, partsOk, endingOk, malformedOk}
 use Rattle.rules.specs.Questions.{areaOk, numbersOk, scanRoom, hintingRoom, question1, question2, question3, question4, heldOk, scanOk, hintingOk}
-use Rattle.rules.specs.File.{decodeCheckpoint, decodeHeld, decodeLsn, decodeHint, decodeConfirmation}
+use Rattle.rules.specs.File.{decodeCheckpoint, decodeHeld, decodeLsn, decodeConfirmation}
 use Rattle.laws.proofs.scans.Parts.{frames-used}
 use Rattle.laws.proofs.Facts.{scanOk→}
-use Rattle.tables.specs.Tables.{decodeHeader, headersIn, framesIn, hintsIn, confirmationsIn}
+use Rattle.tables.specs.Tables.{decodeHeader, headersIn, framesIn, decodeKept, keptIn, confirmationsIn}
 use Rattle.tables.proofs.Frames.{frames-length}
 use Rattle.index.specs.Index.{Tables, tables, roomOf, indexIn, kindsOk, kindsIn, kindedNumber, refusal, three, roomIn, frontierIn, frontierAnswer}
 use Rattle.index.specs.declared.FrontierLsn.the-variants as front
@@ -115,20 +115,33 @@ module _ (x : AreaIndex) (t : Tables) {b : ℕ} {whole r : Bool} (e : b ≡ boun
 pub hinting-is : (x : AreaIndex) (hints confirmed : List ℕ)
     → hintingIn x hints confirmed
     ≡ (hintCounts (x .most) (x .hints) (x .confirmed)
-    && (hintsOk (x .area) (hintsIn (x .hints) hints)
-    && (confirmationsOk (x .area) (confirmationsIn (x .confirmed) confirmed) && ((eqb (x .confirmed) 0) || isSome (stated (x .fingerprint))))))
+    && (hintsOk (x .area) (keptIn (x .hints) hints)
+    && (confirmationsOk (x .area) (confirmationsIn (x .confirmed) confirmed)
+    && (((eqb (x .confirmed) 0) || isSome (stated (x .fingerprint))) && marksOk (x .most) (keptIn (x .hints) hints)))))
 unfolding hintingIn hintingOk hintCounts all
 hinting-is x hints confirmed =
-    rw (records-length 8 decodeHint (x .hints) hints, records-length 16 decodeConfirmation (x .confirmed) confirmed) (simp (and-true, and-assoc))
+    rw (records-length 8 decodeKept (x .hints) hints, records-length 16 decodeConfirmation (x .confirmed) confirmed) (simp (and-true, and-assoc))
+
+-- the marks are asked with the hints
+marks-last : (a m c b : Bool) → ((a && m) && (c && b)) ≡ (a && (c && (b && m)))
+marks-last false m c b = refl
+marks-last true false false b = refl
+marks-last true false true false = refl
+marks-last true false true true = refl
+marks-last true true false b = refl
+marks-last true true true false = refl
+marks-last true true true true = refl
 
 module _ (x : AreaIndex) (hints confirmed : List ℕ) {q : Bool} (e : q ≡ hintCounts (x .most) (x .hints) (x .confirmed)) where
   pub hinting-no : not q ≡ true → false ≡ hintingIn x hints confirmed
   hinting-no n = sym (hinting-is x hints confirmed ∙ rw (← e, not-true q n))
 
   pub hinting-yes : not q ≡ false
-      → (hintsOk (x .area) (hintsIn (x .hints) hints) && (confirmationsOk (x .area) (confirmationsIn (x .confirmed) confirmed) && ((eqb (x .confirmed) 0) || isSome (stated (x .fingerprint)))))
+      → ((hintsOk (x .area) (keptIn (x .hints) hints) && marksOk (x .most) (keptIn (x .hints) hints)) && (confirmationsOk (x .area) (confirmationsIn (x .confirmed) confirmed) && ((eqb (x .confirmed) 0) || isSome (stated (x .fingerprint)))))
       ≡ hintingIn x hints confirmed
-  hinting-yes n = sym (hinting-is x hints confirmed ∙ rw (← e, not-false q n))
+  hinting-yes n =
+      sym (hinting-is x hints confirmed ∙ rw (← e, not-false q n)
+      (sym (marks-last (hintsOk (x .area) (keptIn (x .hints) hints)) (marksOk (x .most) (keptIn (x .hints) hints)) (confirmationsOk (x .area) (confirmationsIn (x .confirmed) confirmed)) ((eqb (x .confirmed) 0) || isSome (stated (x .fingerprint))))))
 
 pub record HintsLong (x : AreaIndex) (s c : List ℕ) : Type 0 where
   pub hints : x .hints * 8 ≤ length s

@@ -16,20 +16,21 @@ use Rattle.rules.specs.declared.EndState.{EndState}
 use Rattle.rules.specs.declared.Held.{Held}
 use Rattle.rules.specs.Tests.{each}
 use Rattle.rules.specs.Values.{Index, lim, max64, maxMalformed, mergeRoom, boundaries, count, frontier, used}
-use Rattle.rules.specs.Sections.{begun, unfilled, checkpointsOk, framesOk, partsOk, malformedOk, rising, ownLsn, anyLsn, hintLsn, hintOk, hintsOk, confirmedLsn, confirmationOk, confirmationsOk}
+use Rattle.rules.specs.Sections.{begun, unfilled, checkpointsOk, framesOk, partsOk, malformedOk, rising, ownLsn, anyLsn, hintLsn, hintOk, hintsOk, markOk, marksOk, confirmedLsn, confirmationOk, confirmationsOk}
 use Rattle.rules.specs.Questions.{question3, scanRoom, hintingRoom}
-use Rattle.rules.specs.File.{encodeCheckpoint, encodeFrameHeader, encodeHeld, encodeLsn, encodeHint, encodeConfirmation, over}
-use Rattle.rules.proofs.Tests.{both, all→, each-both, each-map}
+use Rattle.rules.specs.File.{encodeCheckpoint, encodeFrameHeader, encodeHeld, encodeLsn, encodeConfirmation, over}
+use Rattle.rules.proofs.Tests.{both, all→, each→, each-both, each-map}
 use Rattle.rules.proofs.Walk.{rising-each}
 use Rattle.laws.proofs.scans.Parts.{frames-used}
 use Rattle.laws.specs.Statements.{Savable}
-use Rattle.laws.proofs.Layouts.{CheckpointFits, LsnFits, HeldFits, HintFits, ConfirmationFits, checkpoint-layout, lsn-layout, hint-layout, confirmation-layout, held-length, held-back, held-kind}
+use Rattle.laws.proofs.Layouts.{CheckpointFits, LsnFits, HeldFits, ConfirmationFits, checkpoint-layout, lsn-layout, confirmation-layout, held-length, held-back, held-kind}
 use Rattle.laws.proofs.Length.{length-each}
 use Rattle.laws.proofs.Readers as readers
 use Rattle.laws.proofs.Ranges.{Placed, frontier-small, checkpoints-fit, frames-placed, frames-fit, parts-fit}
 use Rattle.laws.proofs.Facts.{Facts, facts}
 use Rattle.laws.proofs.Header.{scan-counts, few-boundaries}
-use Rattle.tables.specs.Tables.{partsIn}
+use Rattle.tables.specs.Tables.{partsIn, encodeKept}
+use Rattle.tables.proofs.Kept.{KeptFits, kept-layout}
 use Rattle.index.specs.Index.{Tables, roomOf, indexIn, kindsOk, kindsIn, numbersFrom, storeOf, tablesFrom, tablesCleared}
 use Rattle.sections.specs.Numbers.{endIn, idIn, endFrom, idFrom}
 use Rattle.index.proofs.Back.{FrameFits, frames-back, header-length}
@@ -78,11 +79,11 @@ module _ (x : Index) (f : Facts x) where
       let u = frontier-small (x .scan .area) (x .scan .interval) (count (x .scan)) (x .scan .ending) (f .numbers .low) (f .area) (c .passed) in
       each-map (λ l p. omega arith) (rising-each ownLsn anyLsn (frontier (x .scan)) (x .scan .area .start) (x .scan .malformed) (all→ _ (f .scan .malformed) .1 .0))
 
-  pub hints-fits : Each HintFits (x .hinting .hints)
-  unfolding hintsOk rising
+  pub hints-fits : Each KeptFits (x .hinting .hints)
+  unfolding hintsOk rising marksOk
   hints-fits =
-      each-map (λ h p. let n = ltb-true (h .number) lim (p .1) in omega arith)
-      (rising-each hintLsn hintOk (x .scan .area .end) (x .scan .area .start) (x .hinting .hints) (f .hinting .hints))
+      each-both (λ h p q. let n = ltb-true (h .number) lim (p .1) in let m = leb-true (h .mark) 1 q in omega arith)
+      (rising-each hintLsn hintOk (x .scan .area .end) (x .scan .area .start) (x .hinting .hints) (f .hinting .hints)) (each→ markOk (x .hinting .hints) (all→ _ (f .hinting .marks) .0))
 
   pub confirmed-fits : Each ConfirmationFits (x .hinting .confirmed)
   unfolding confirmationsOk rising
@@ -107,7 +108,7 @@ stands x t s =
       held-records _ (parts-fits x f),
       ending-back (x .scan .ending),
       records-bytes lsn-layout _ (malformed-fits x f),
-      records-bytes hint-layout _ (hints-fits x f),
+      records-bytes kept-layout _ (hints-fits x f),
       records-bytes confirmation-layout _ (confirmed-fits x f),
       image-back (x .image),
     )
@@ -116,7 +117,7 @@ stands x t s =
 pub stands-cleared : (w : ℕ) (x : Index) (t : Tables) → Savable x → indexIn (numbersFrom x) (tablesCleared w x t) ≡ x
 stands-cleared w x t s =
     let f = facts x s in
-    let hs = bytesOf encodeHint (x .hinting .hints) in
+    let hs = bytesOf encodeKept (x .hinting .hints) in
     let zs : List ℕ = replicate ((w - length (x .hinting .hints)) * 8) 0 in
     let r = drop (length (hs ++ zs)) (t .hints) in
     let a : hs ++ zs ++ r ≡ hs ++ (zs ++ r) = append-assoc hs zs r in
@@ -127,7 +128,7 @@ stands-cleared w x t s =
       ending-back (x .scan .ending),
       records-bytes lsn-layout _ (malformed-fits x f),
       a,
-      records-bytes hint-layout (zs ++ r) (hints-fits x f),
+      records-bytes kept-layout (zs ++ r) (hints-fits x f),
       records-bytes confirmation-layout _ (confirmed-fits x f),
       image-back (x .image),
     )
@@ -199,16 +200,16 @@ module _ (x : Index) (t : Tables) (h : Within x t) where
         over-length (storeOf (x .scan .frames)) (t .store) (rw (store-length (x .scan .frames)) (h .store)),
         records-over encodeHeld 24 held-length (x .scan .parts) (t .parts) (h .parts),
         records-over encodeLsn 4 (lsn-layout .size) (x .scan .malformed) (t .malformed) (h .malformed),
-        records-over encodeHint 8 (hint-layout .size) (x .hinting .hints) (t .hints) (h .hints),
+        records-over encodeKept 8 (kept-layout .size) (x .hinting .hints) (t .hints) (h .hints),
         records-over encodeConfirmation 16 (confirmation-layout .size) (x .hinting .confirmed) (t .confirmed) (h .confirmed),
       )
 
   cleared-length : (w : ℕ) → w * 8 ≤ length (t .hints) → length (tablesCleared w x t .hints) ≡ length (t .hints)
   cleared-length w g =
-      let hs = bytesOf encodeHint (x .hinting .hints) in
+      let hs = bytesOf encodeKept (x .hinting .hints) in
       let k = (w - length (x .hinting .hints)) * 8 in
       let zs : List ℕ = replicate k 0 in
-      let n : length hs ≡ length (x .hinting .hints) * 8 = bytesOf-length hint-layout (x .hinting .hints) in
+      let n : length hs ≡ length (x .hinting .hints) * 8 = bytesOf-length kept-layout (x .hinting .hints) in
       let l : length (hs ++ zs) ≡ length (x .hinting .hints) * 8 + k = length-append hs zs ∙ rw (n, length-replicate {A = ℕ} k 0) in
       let i = h .hints in
       over-length (hs ++ zs) (t .hints) (omega arith)

@@ -10,7 +10,7 @@ use Rattle.rules.specs.declared.AreaIndex.{AreaIndex}
 use Rattle.rules.specs.Tests.{Answer, Refused, Accepted, after, numberOf, ask, firstNo}
 use Rattle.rules.specs.Values.{Frame, Index, frontierOf}
 use Rattle.rules.specs.Questions.{areaOk, question1, question2, question3, four}
-use Rattle.rules.specs.File.{encodeCheckpoint, encodeFrameHeader, encodeHeld, encodeLsn, encodeHint, encodeConfirmation, over}
+use Rattle.rules.specs.File.{encodeCheckpoint, encodeFrameHeader, encodeHeld, encodeLsn, encodeConfirmation, over}
 use Rattle.index.specs.declared.FrontierLsn.{FrontierLsn}
 use Rattle.index.specs.declared.FrontierLsn.the-variants as front
 use Rattle.index.specs.declared.Made.{Made}
@@ -19,7 +19,7 @@ unfoldable pub use Rattle.sections.specs.Numbers.{endIn, idIn, endFrom, idFrom}
 pub use Rattle.sections.specs.Numbers.{numbersFrom}
 pub use Rattle.index.specs.Room.{Tables, tables, roomOf}
 unfoldable pub use Rattle.tables.specs.Kinds.{kindsOk}
-use Rattle.tables.specs.Tables.{checkpointsIn, framesIn, partsIn, lsnsIn, hintsIn, confirmationsIn}
+use Rattle.tables.specs.Tables.{checkpointsIn, framesIn, partsIn, lsnsIn, encodeKept, keptIn, confirmationsIn}
 
 -- ---- the value that numbers and tables stand for
 abbrev pub indexIn : AreaIndex → Tables → Index
@@ -40,7 +40,7 @@ indexIn x t =
           record {
             spacing = x .spacing;
             most = x .most;
-            hints = hintsIn (x .hints) (t .hints);
+            hints = keptIn (x .hints) (t .hints);
             confirmed = confirmationsIn (x .confirmed) (t .confirmed);
           };
       fingerprint = x .fingerprint;
@@ -88,7 +88,7 @@ tablesFrom x t =
       store = over (storeOf (x .scan .frames)) (t .store);
       parts = over (bytesOf encodeHeld (x .scan .parts)) (t .parts);
       malformed = over (bytesOf encodeLsn (x .scan .malformed)) (t .malformed);
-      hints = over (bytesOf encodeHint (x .hinting .hints)) (t .hints);
+      hints = over (bytesOf encodeKept (x .hinting .hints)) (t .hints);
       confirmed = over (bytesOf encodeConfirmation (x .hinting .confirmed)) (t .confirmed);
     }
 
@@ -101,7 +101,7 @@ tablesCleared w x t =
       store = tablesFrom x t .store;
       parts = tablesFrom x t .parts;
       malformed = tablesFrom x t .malformed;
-      hints = over (bytesOf encodeHint (x .hinting .hints) ++ replicate ((w - length (x .hinting .hints)) * 8) 0) (t .hints);
+      hints = over (bytesOf encodeKept (x .hinting .hints) ++ replicate ((w - length (x .hinting .hints)) * 8) 0) (t .hints);
       confirmed = tablesFrom x t .confirmed;
     }
 

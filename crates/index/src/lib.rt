@@ -20,7 +20,7 @@ use sections::held_ok;
 use sections::is_complete_end;
 use sections::records::check_checkpoints;
 use sections::records::check_confirmations;
-use sections::records::check_hints;
+use sections::records::check_kept;
 use tables::kinds::check_kinds;
 ghost use mathlib.Core.Path.{_≡_};
 ghost use mathlib.Core.Bool.{true};
@@ -179,7 +179,7 @@ fn hint_counts(most: u32, s: u32, c: u32) -> bool
     and(most <= MAX_HINTS, and(s <= most, c <= most))
 }
 
-// Hints, and confirmations only beside a fingerprint.
+// Hints and their kept marks, and confirmations only beside a fingerprint.
 fn hinting_ok(x: AreaIndex, hints: &[u8], confirmed: &[u8]) -> bool
     requires { ⌜ hintRoom (x .most) (now hints) (now confirmed) ≡ true ⌝ }
     ensures { λ r. ⌜ r ≡ hintingIn x (now (hints .entry)) (now (confirmed .entry)) ⌝ }
@@ -193,7 +193,7 @@ fn hinting_ok(x: AreaIndex, hints: &[u8], confirmed: &[u8]) -> bool
     let c = x.confirmed as usize;
     let beside = or(x.confirmed == 0, is_stated(fingerprint));
     and(
-        check_hints(hints, s, area),
+        check_kept(hints, s, area, x.most),
         and(check_confirmations(confirmed, c, area), beside),
     )
 }

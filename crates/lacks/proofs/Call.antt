@@ -20,7 +20,7 @@ use Rattle.rules.specs.File.{decodeCheckpoint}
 use Rattle.rules.proofs.Tests.{all→}
 use Rattle.rules.proofs.Walk.{walk-head, walk-tail}
 use Rattle.laws.proofs.scans.Parts.{keep, part→}
-use Rattle.tables.specs.Tables.{decodeHeader, headersIn, framesIn, partsIn, lsnsIn, hintsIn, confirmationsIn}
+use Rattle.tables.specs.Tables.{decodeHeader, headersIn, framesIn, partsIn, lsnsIn, confirmationsIn, keptIn}
 use Rattle.tables.proofs.Frames.{frames-length}
 use Rattle.index.specs.Index.{Tables, indexIn}
 use Rattle.index.specs.Needs.{Passes}
@@ -75,7 +75,7 @@ module _ {x y : AreaIndex} {t u : Tables} (j : Joins x t y u) where
       (p0 : a ≡ y .checkpoints - x .checkpoints)
       (p1 : PartsMissed (standsIn (x .frames) (t .frames) (t .store) (y .frames) (u .frames) (u .store)) (partsIn (x .parts) (t .parts)) (partsIn (y .parts) (u .parts)) b)
       (p2 : Missed ownLsn anyLsn eqb (lsnsIn (x .malformed) (t .malformed)) (lsnsIn (y .malformed) (u .malformed)) c)
-      (p3 : Missed hintLsn hintOk sameHint (hintsIn (x .hints) (t .hints)) (hintsIn (y .hints) (u .hints)) d)
+      (p3 : Missed hintLsn hintOk sameHint (keptIn (x .hints) (t .hints)) (keptIn (y .hints) (u .hints)) d)
       (p4 : Missed confirmedLsn confirmationOk confirmsAlso (confirmationsIn (x .confirmed) (t .confirmed)) (confirmationsIn (y .confirmed) (u .confirmed)) e) where
     pub counts-are : _≡_ {A = Missing} (record { checkpoints = a; parts = b; malformed = c; hints = d; confirmed = e }) (countsIn x t y u)
     unfolding countsIn lacking malformedOk hintsOk confirmationsOk

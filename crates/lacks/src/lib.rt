@@ -25,7 +25,7 @@ ghost use Rattle.merge.specs.QuestionsNeeds.{Joins};
 ghost use Rattle.lacks.specs.Lacks.{lacksBy, countsIn, lackedOf, lacksIn};
 ghost use lib.ListN.{length, take, drop};
 ghost use Rattle.rules.specs.Sections.{hintLsn, hintOk, confirmedLsn, confirmationOk, ownLsn, anyLsn};
-ghost use Rattle.tables.specs.Tables.{hintsIn, confirmationsIn, lsnsIn, partsIn};
+ghost use Rattle.tables.specs.Tables.{confirmationsIn, lsnsIn, partsIn, keptIn};
 ghost use Rattle.rules_lacks.specs.Lacks.{sameHint, confirmsAlso, sameSigned};
 ghost use Rattle.lacks.specs.Pass.{fromKey, firstStands, missed, Missed, common};
 ghost use Rattle.parts.specs.Needs.{offsetTo};
@@ -64,7 +64,7 @@ pub struct PartStep {
 // The first hint from number i on whose LSN is low or more.
 fn skip_hints(t: &[u8], n: usize, i: usize, low: u32) -> usize
     requires { ⌜ (n * 8 ≤ length (now t)) × (i ≤ n) ⌝ }
-    ensures { λ r. ⌜ (r ≤ n) × (drop r (hintsIn n (now (t .entry))) ≡ fromKey hintLsn low (drop i (hintsIn n (now (t .entry))))) ⌝ }
+    ensures { λ r. ⌜ (r ≤ n) × (drop r (keptIn n (now (t .entry))) ≡ fromKey hintLsn low (drop i (keptIn n (now (t .entry))))) ⌝ }
 {
     let mut k = i;
     while k < n {
@@ -86,7 +86,7 @@ fn same_hint(h: Hint, k: Hint) -> bool
 // 0 where hint number i stands for y, else 1.
 fn lacks_hint(t: &[u8], n: usize, i: usize, y: Hint) -> usize
     requires { ⌜ (n * 8 ≤ length (now t)) × (i ≤ n) ⌝ }
-    ensures { λ r. ⌜ (r ≤ 1) × (r ≡ cond (firstStands sameHint (drop i (hintsIn n (now (t .entry)))) y) 0 1) ⌝ }
+    ensures { λ r. ⌜ (r ≤ 1) × (r ≡ cond (firstStands sameHint (drop i (keptIn n (now (t .entry)))) y) 0 1) ⌝ }
 {
     if n <= i {
         return 1;
@@ -98,7 +98,7 @@ fn lacks_hint(t: &[u8], n: usize, i: usize, y: Hint) -> usize
 // One pass over both lists.
 fn missing_hints(own: &[u8], n: usize, other: &[u8], m: usize) -> usize
     requires { ⌜ (n * 8 ≤ length (now own)) × (m * 8 ≤ length (now other)) ⌝ }
-    ensures { λ r. ⌜ (r ≤ m) × (r ≡ missed hintLsn sameHint (hintsIn n (now (own .entry))) (hintsIn m (now (other .entry)))) ⌝ }
+    ensures { λ r. ⌜ (r ≤ m) × (r ≡ missed hintLsn sameHint (keptIn n (now (own .entry))) (keptIn m (now (other .entry)))) ⌝ }
 {
     let mut i = 0;
     let mut j = 0;
@@ -115,7 +115,7 @@ fn missing_hints(own: &[u8], n: usize, other: &[u8], m: usize) -> usize
 // How many of the m hints of another list the n own ones lack.
 pub fn lacks_hints(own: &[u8], n: u32, other: &[u8], m: u32) -> u32
     requires { ⌜ (n * 8 ≤ length (now own)) × (m * 8 ≤ length (now other)) ⌝ }
-    ensures { λ r. ⌜ Missed hintLsn hintOk sameHint (hintsIn n (now (own .entry))) (hintsIn m (now (other .entry))) r ⌝ }
+    ensures { λ r. ⌜ Missed hintLsn hintOk sameHint (keptIn n (now (own .entry))) (keptIn m (now (other .entry))) r ⌝ }
 {
     missing_hints(own, n as usize, other, m as usize) as u32
 }

@@ -7,7 +7,7 @@ use Rattle.rules.specs.declared.FrameKind.the-variants.{Dsd}
 use Rattle.rules.specs.declared.Fingerprint.the-variants.{Checked}
 use Rattle.rules.specs.Tests.{all, each, walk, lastOr, isSome, Accepted}
 use Rattle.rules.specs.Values.{Index, boundaries, frontierOf, counted, stated, sameKind, used}
-use Rattle.rules.specs.Sections.{countsOk, checkpointOk, checkpointsOk, frameOk, framesOk, follows, belongs, partOk, reached, partsOk, endOk, endingOk, risingOk, rising, malformedOk, hintsOk, confirmationsOk}
+use Rattle.rules.specs.Sections.{countsOk, checkpointOk, checkpointsOk, frameOk, framesOk, follows, belongs, partOk, reached, partsOk, endOk, endingOk, risingOk, rising, malformedOk, hintsOk, isKept, keptCount, marksOk, confirmationsOk}
 use Rattle.rules.specs.Questions.{areaOk, numbersOk, heldOk, scanOk, hintingOk, question1, question2, question4}
 use Rattle.rules.specs.Sizes.{keySized, frameSized, scanSized, knownSized, hintingSized, sized}
 use Rattle.rules.specs.File.{hasHinting, versionOf, saved, savedLength}
@@ -29,13 +29,13 @@ example =
             ending = some (record { threshold = 9; malformed = 1 });
             malformed = 105 ∷ [];
           };
-      hinting = record { spacing = 8; most = 2048; hints = record { lsn = 101; number = 4 } ∷ []; confirmed = record { lsn = 130; threshold = 8; digest = 1 } ∷ [] };
+      hinting = record { spacing = 8; most = 2048; hints = record { lsn = 101; number = 4; mark = 1 } ∷ []; confirmed = record { lsn = 130; threshold = 8; digest = 1 } ∷ [] };
       fingerprint = Checked 99;
       image = some 3;
     }
 
 example-savable : Savable example
-unfolding example question1 question2 question4 sized areaOk numbersOk scanOk hintingOk heldOk countsOk checkpointsOk checkpointOk framesOk frameOk partsOk partOk follows belongs reached endingOk endOk malformedOk rising risingOk hintsOk confirmationsOk scanSized keySized frameSized hintingSized knownSized boundaries frontierOf counted stated sameKind all each walk lastOr isSome
+unfolding example question1 question2 question4 sized areaOk numbersOk scanOk hintingOk heldOk countsOk checkpointsOk checkpointOk framesOk frameOk partsOk partOk follows belongs reached endingOk endOk malformedOk rising risingOk hintsOk isKept keptCount marksOk confirmationsOk scanSized keySized frameSized hintingSized knownSized boundaries frontierOf counted stated sameKind all each walk lastOr isSome
 example-savable = record { one = refl; two = refl; four = refl; sizes = refl }
 
 -- a version 3 file of 231 bytes

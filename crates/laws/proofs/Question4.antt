@@ -15,10 +15,14 @@ use Rattle.field.proofs.Fields.{fieldBytes-bytes}
 use Rattle.field.proofs.Format.{Each, none, one, bytesOf-bytes}
 use Rattle.fnv.specs.Fnv.{fnv64}
 use Rattle.rules.specs.Values.{Index}
+use Rattle.rules.specs.Sections.{marksOk}
+use Rattle.rules.specs.Hints.{unkept}
 use Rattle.rules.specs.Questions.{hintingOk, question1, question4, question2}
 use Rattle.rules.specs.File.{headerBytes, headerOf, encodeCheckpoint, encodeFrame, encodeHeld, encodeLsn, versionOf, hintSection, confirmedSection, bodyOf, saved}
 use Rattle.laws.proofs.hint_lists.Closure.{unmarked-stated}
+use Rattle.laws.proofs.hint_lists.KeptHints.{unmarked-marks, unkept-unmarked}
 use Rattle.laws.specs.Statements.{stripped}
+use Rattle.laws.proofs.Marks.{unkept-length, unkept-ok}
 use Rattle.laws.proofs.Layouts.{checkpoint-layout, lsn-layout, hint-layout, confirmation-layout, header-bytes, held-bytes, hintWidths, hintValues, hintBytes}
 use Rattle.laws.proofs.Readers.{frame-bytes}
 use Rattle.laws.proofs.Facts.{SizeFacts, sized→}
@@ -53,15 +57,17 @@ saved-bytes x f =
     (rw (confirmed-bytes x) (bytes-cond (leb 3 (versionOf x)) _ (bytes-append (fieldBytes (4 ∷ 4 ∷ []) (length (x .hinting .confirmed) ∷ 0 ∷ [])) _ (fieldBytes-bytes (4 ∷ 4 ∷ []) (length (x .hinting .confirmed) ∷ 0 ∷ [])) (bytesOf-bytes confirmation-layout (x .hinting .confirmed)))))))))))
     (encode-bytes 8 (fnv64 (bodyOf x)))
 
--- the checked mark and the image id do not matter to question 4
-pub four-stripped : (x : Index) → question4 (stripped x) ≡ question4 x
+-- the checked mark and the image id do not matter to question 4, nor kept marks within the quarter
+pub four-stripped : (x : Index) → marksOk (x .hinting .most) (x .hinting .hints) ≡ true → question4 (stripped x) ≡ question4 x
 unfolding question4 hintingOk
-four-stripped x = rw (unmarked-stated (x .fingerprint))
+four-stripped x m =
+    let hs = x .hinting .hints in
+    rw (unmarked-stated (x .fingerprint), unkept-ok (x .scan .area) hs, unkept-length hs, m, unmarked-marks (x .hinting .most) (unkept hs) (unkept-unmarked hs))
 
-pub question4-is-loading : (x : Index) → question1 x ≡ true → question2 x ≡ true → sized x ≡ true
+pub question4-is-loading : (x : Index) → question1 x ≡ true → question2 x ≡ true → sized x ≡ true → marksOk (x .hinting .most) (x .hinting .hints) ≡ true
     → (question4 x ≡ true) ↔ (fromBytes (x .scan .area) (saved x) ≡ Accepted (stripped x))
 unfolding question1
-question4-is-loading x o t s = (
+question4-is-loading x o t s m = (
   (λ q. load-of-save x (record { one = o; two = t; four = q; sizes = s })),
-  (λ e. rw (four-stripped x) at (loaded-valid (x .scan .area) (saved x) (stripped x) (saved-bytes x (sized→ x s)) o e .four)),
+  (λ e. rw (four-stripped x m) at (loaded-valid (x .scan .area) (saved x) (stripped x) (saved-bytes x (sized→ x s)) o e .four)),
 )

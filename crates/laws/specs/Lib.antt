@@ -6,3 +6,4 @@ pub mod Order
 pub mod Passes
 pub mod Statements
 pub mod Twelve
+pub mod Marks

@@ -23,17 +23,17 @@ pub record Left (w : ℕ) (t o : List ℕ) (e n p q : ℕ) : Type 0 where
   pub own-there : e * w ≤ length t
   pub other-there : n * w ≤ length o
 
--- a step takes x, and goes on from p' and q'
-pub record Takes {A : Type 0} (w : ℕ) (d : List ℕ → A) (merge : List A → List A → List A) (t o : List ℕ) (e n p q : ℕ) (x : A) (p' q' : ℕ) : Type 0 where
-  pub first : merge (between w d p e t) (between w d q n o) ≡ x ∷ merge (between w d p' e t) (between w d q' n o)
+-- a step takes x, and goes on from p' and q'; the records of t are read by d, those of o by f
+pub record Takes {A : Type 0} (w : ℕ) (d f : List ℕ → A) (merge : List A → List A → List A) (t o : List ℕ) (e n p q : ℕ) (x : A) (p' q' : ℕ) : Type 0 where
+  pub first : merge (between w d p e t) (between w f q n o) ≡ x ∷ merge (between w d p' e t) (between w f q' n o)
   pub own : (p ≤ p') × (p' ≤ e)
   pub other : (q ≤ q') × (q' ≤ n)
   pub further : p + q < p' + q'
 
 -- what is asked of a merge of the records a to e of t with those from b to n of o, to the start of t: it ends where those of t do, or before
-pub record Fits {A : Type 0} (w : ℕ) (d : List ℕ → A) (merge : List A → List A → List A) (t o : List ℕ) (a e b n : ℕ) : Type 0 where
+pub record Fits {A : Type 0} (w : ℕ) (d f : List ℕ → A) (merge : List A → List A → List A) (t o : List ℕ) (a e b n : ℕ) : Type 0 where
   pub own : a ≤ e
   pub other : b ≤ n
   pub own-there : e * w ≤ length t
   pub other-there : n * w ≤ length o
-  pub most : length (merge (between w d a e t) (between w d b n o)) ≤ e
+  pub most : length (merge (between w d a e t) (between w f b n o)) ≤ e

@@ -24,9 +24,9 @@ ghost use mathlib.Core.List.{_++_};
 ghost use lib.ListN.{length, take, drop};
 ghost use Rattle.field.specs.Records.{bytesOf};
 ghost use Rattle.rules.specs.Values.{used};
-ghost use Rattle.rules.specs.File.{encodeFrameHeader, encodeHint, over};
+ghost use Rattle.rules.specs.File.{encodeFrameHeader, over};
 ghost use Rattle.rules.specs.Hints.{thin};
-ghost use Rattle.tables.specs.Tables.{hintsIn};
+ghost use Rattle.tables.specs.Tables.{encodeKept, keptIn};
 ghost use Rattle.tables.specs.Files.{placeAt, framesRead};
 ghost use Rattle.index.specs.Index.{tables, storeOf, tablesFrom, out};
 ghost use Rattle.load.specs.Limit.{Accepts, limitedIn, lengthHere, Moved};
@@ -85,7 +85,7 @@ fn commit_frames(frames: &mut [u8], store: &mut [u8], b: &[u8], at: usize, f: us
 // The n hints of b from at on, thinned to most.
 fn commit_hints(t: &mut [u8], b: &[u8], at: usize, n: usize, most: usize)
     requires { ⌜ (at + n * 8 ≤ length (now b)) × (min n most * 8 ≤ length (now t)) ⌝ }
-    ensures { λ _. ⌜ now (t .exit) ≡ over (bytesOf encodeHint (thin most (hintsIn n (drop at (now (b .entry)))))) (now (t .entry)) ⌝ }
+    ensures { λ _. ⌜ now (t .exit) ≡ over (bytesOf encodeKept (thin most (keptIn n (drop at (now (b .entry)))))) (now (t .entry)) ⌝ }
 {
     thin_into(t, behind(b, at), n, most);
 }

@@ -6,11 +6,11 @@ use native.Mathlib.Omega.{arith}
 use Rattle.field.proofs.Records.{records-length}
 use Rattle.rules.specs.declared.AreaIndex.{AreaIndex}
 use Rattle.rules.specs.Sections.{confirmationsOk, confirmedLsn, confirmationOk}
-use Rattle.rules.specs.File.{decodeLsn, decodeHint, decodeConfirmation}
+use Rattle.rules.specs.File.{decodeLsn, decodeConfirmation}
 use Rattle.rules.proofs.Tests.{test}
 use Rattle.laws.proofs.scans.Scans.{malformed-length}
 use Rattle.laws.proofs.hint_lists.Rising.{rising→, rises-from}
-use Rattle.tables.specs.Tables.{confirmationsIn}
+use Rattle.tables.specs.Tables.{decodeKept, confirmationsIn}
 use Rattle.index.specs.Index.{Tables}
 use Rattle.index.specs.Needs.{Passes}
 use Rattle.index.proofs.Questions.{space, passes-long, passes-hints}
@@ -48,7 +48,7 @@ module _ {x y : AreaIndex} {t u : Tables} {go : Bool} (j : Joins x t y u) (g : g
   hints-ready =
       let h = hinting-is (j .own) in let k = hinting-is (j .other) in
       let hf = h .few in let kf = k .few in let km = k .most in let r = hint-room (j .own) in let l = passes-hints (j .other) in
-      let n = records-length 8 decodeHint (x .hints) (t .hints) in let m = records-length 8 decodeHint (y .hints) (u .hints) in
+      let n = records-length 8 decodeKept (x .hints) (t .hints) in let m = records-length 8 decodeKept (y .hints) (u .hints) in
       record { room = omega arith; there = l .hints; own = h .hints; rising = rw (areas j) (k .hints) }
 
   pub confirmed-ready : Rising (x .most) (x .confirmed) (y .confirmed) (t .confirmed) (u .confirmed)

@@ -16,12 +16,12 @@ use Rattle.rules.specs.Tests.{Accepted, after}
 use Rattle.rules.specs.Values.{Scan, Index, isChecked}
 use Rattle.rules.specs.PartRule.{Stored, addParts}
 use Rattle.rules.specs.Hints.{keepAll}
-use Rattle.rules.specs.File.{encodeCheckpoint, encodeFrameHeader, encodeHeld, encodeLsn, encodeHint, encodeConfirmation, decodeCheckpoint, over}
+use Rattle.rules.specs.File.{encodeCheckpoint, encodeFrameHeader, encodeHeld, encodeLsn, encodeConfirmation, decodeCheckpoint, over}
 use Rattle.rules.specs.Merge.{further, mergedScan, merged, merge}
 use Rattle.rules.proofs.Tests.{test}
 use Rattle.laws.specs.Passes.{Begins}
 use Rattle.laws.proofs.Layouts.{confirmation-layout}
-use Rattle.tables.specs.Tables.{checkpointsIn, partsIn, confirmationsIn}
+use Rattle.tables.specs.Tables.{checkpointsIn, partsIn, encodeKept, confirmationsIn}
 use Rattle.index.specs.Index.{Tables, tables, indexIn, storeOf, numbersFrom, tablesCleared, Out, out, outOf}
 use Rattle.sections.specs.Numbers.{endIn, endFrom, idFrom}
 use Rattle.index.specs.declared.Made.the-variants as made
@@ -163,7 +163,7 @@ module _ (x y : AreaIndex) (t u : Tables) {go : Bool} (g : go ≡ furtherIn x y)
         let e2 : st ≡ over (storeOf (after-scan .frames)) (t .store) = ap (λ (h : Held). h .tables .store) parts-done in
         let e3 : ps ≡ over (bytesOf encodeHeld (after-scan .parts)) (t .parts) = ap (λ (h : Held). h .tables .parts) parts-done in
         let e4 : ms ≡ over (bytesOf encodeLsn (after-scan .malformed)) (t .malformed) = p3 .bytes ∙ rw malformed-are in
-        let e5 : hs ≡ over (bytesOf encodeHint (after-index .hinting .hints) ++ replicate ((hintsWritten x y - length (after-index .hinting .hints)) * 8) 0) (t .hints) =
+        let e5 : hs ≡ over (bytesOf encodeKept (after-index .hinting .hints) ++ replicate ((hintsWritten x y - length (after-index .hinting .hints)) * 8) 0) (t .hints) =
         ap (λ (h : Listed). h .table) hints-here in
         let e6 = confirmed-bytes in
         ends q e0 e1 e2 e3 e4 e5 e6

@@ -12,9 +12,9 @@ use Rattle.rules.specs.declared.Hint.{Hint}
 use Rattle.rules.specs.Values.{used}
 use Rattle.rules.specs.Sections.{hintsOk}
 use Rattle.rules.specs.PartRule.{addParts}
-use Rattle.rules.specs.Hints.{joinedHints}
-use Rattle.rules.specs.File.{encodeCheckpoint, encodeLsn, encodeHint, over}
-use Rattle.tables.specs.Tables.{checkpointsIn, lsnsIn, framesIn, partsIn, hintsIn}
+use Rattle.rules.specs.Hints.{joinedHints, unkept}
+use Rattle.rules.specs.File.{encodeCheckpoint, encodeLsn, over}
+use Rattle.tables.specs.Tables.{checkpointsIn, lsnsIn, framesIn, partsIn, encodeKept, keptIn}
 use Rattle.parts.specs.declared.Counts.{Counts}
 use Rattle.parts.specs.Parts.{PartTables, storedIn, Held, heldFrom}
 use Rattle.parts.specs.Needs.{Lent, Room, wanted}
@@ -60,8 +60,8 @@ partsTaken x f h t u =
 pub record HintsReady (a : Area) (n m : ℕ) (t u : List ℕ) : Type 0 where
   pub room : n + m ≤ length t / 8
   pub there : m * 8 ≤ length u
-  pub own : hintsOk a (hintsIn n t) ≡ true
-  pub rising : hintsOk a (hintsIn m u) ≡ true
+  pub own : hintsOk a (keptIn n t) ≡ true
+  pub rising : hintsOk a (keptIn m u) ≡ true
 
 -- a count, and a table
 pub record Listed : Type 0 where
@@ -73,10 +73,10 @@ listed n t = record { count = n; table = t }
 
 -- hints hs at the start of a table, which is cleared behind them up to record number w
 abbrev pub clearedUpTo : ℕ → List Hint → List ℕ → Listed
-clearedUpTo w hs t = listed (length hs) (over (bytesOf encodeHint hs ++ replicate ((w - length hs) * 8) 0) t)
+clearedUpTo w hs t = listed (length hs) (over (bytesOf encodeKept hs ++ replicate ((w - length hs) * 8) 0) t)
 
 abbrev pub writtenTo : ℕ → ℕ → ℕ → ℕ
 writtenTo most n m = cond (eqb most 0) n (n + m)
 
 unfoldable pub hintsJoined : Area → ℕ → ℕ → ℕ → List ℕ → List ℕ → Listed
-hintsJoined a most n m t u = clearedUpTo (writtenTo most n m) (joinedHints a most (hintsIn n t) (hintsIn m u)) t
+hintsJoined a most n m t u = clearedUpTo (writtenTo most n m) (joinedHints a most (keptIn n t) (unkept (keptIn m u))) t

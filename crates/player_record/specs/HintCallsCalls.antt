@@ -4,10 +4,13 @@ use mathlib.Core.List.{List}
 use Rattle.rules.specs.declared.Confirmation.{Confirmation}
 use Rattle.blocks.specs.Head.{hintRecorderWords}
 use Rattle.blocks.specs.IsHead.{isIndex, isHintRecorder}
+use Rattle.rules.specs.Tests.{numberOf}
 use Rattle.index.specs.Index.{Tables}
+use Rattle.index.specs.Calls.{madeOf}
 use Rattle.hint.specs.Calls.{hintIn}
 use Rattle.hint_recorder.specs.Recorder.{Out, SawOut, hintRecorderIn, seeIn, flushIn, takeIn}
 use Rattle.confirmations.specs.Keeping.{keepIn}
+use Rattle.keep_hint.specs.Keep.{keepHintIn}
 use Rattle.player.specs.Block.{Called, called, into, inBlock, inHead, headIndex, headHintRecorder}
 use Rattle.player_record.specs.Block.{CalledBoth, calledBoth, seenOf, sawOf, sectorWords, createdOf, createdWords, hintWords, takenInto, keptInto}
 
@@ -61,6 +64,19 @@ keepCall head c answer t =
     let o = keepIn (headIndex head) t c in
     inHead (isIndex head) (calledKept 3 head answer t)
     (inBlock answer (calledKept 3 head answer t) (withTables (keptInto head answer (o .answer)) (o .tables)))
+
+-- a number and the tables, where no block is written
+pub record CalledTables : Type 0 where
+  pub number : ℕ
+  pub tables : Tables
+
+abbrev pub calledTables : ℕ → Tables → CalledTables
+calledTables n t = record { number = n; tables = t }
+
+unfoldable pub keepHintCall : List ℕ → ℕ → Tables → CalledTables
+keepHintCall head lsn t =
+    let o = keepHintIn (headIndex head) t lsn in
+    inHead (isIndex head) (calledTables 3 t) (calledTables (numberOf (madeOf (o .answer))) (o .tables))
 
 -- the block is the answer's
 unfoldable pub hintCall : List ℕ → ℕ → ℕ → ℕ → List ℕ → Tables → Called

@@ -1,4 +1,4 @@
-// Answers of recorders, hint recorders, hint and keep_confirmation as a number and blocks; a frame under assembly and an image id from numbers.
+// Answers of recorders, hint recorders, hint, keep_hint and keep_confirmation as a number and blocks; a frame under assembly and an image id from numbers.
 use absorb::Absorbed;
 use blocks::hint_recorder_words;
 use blocks::index_words;
@@ -12,6 +12,7 @@ use hint_recorder::Created;
 use hint_recorder::Saw;
 use hint_recorder::Seen;
 use hint_recorder::Taken;
+use index::Made;
 use player::block::bit_word;
 use player::block::one_word;
 use recorder::Recorded;
@@ -28,6 +29,8 @@ ghost use Prim.Native.Nat.{_≤_};
 ghost use lib.ListN.{length};
 ghost use Rattle.blocks.specs.From.{imageFrom};
 ghost use Rattle.blocks.specs.Head.{recorderWords, hintRecorderWords};
+ghost use Rattle.rules.specs.Tests.{numberOf};
+ghost use Rattle.index.specs.Calls.{madeOf};
 ghost use Rattle.hint.specs.Calls.{namedOf, answerOf};
 ghost use Rattle.player.specs.Block.{called, into};
 ghost use Rattle.player_record.specs.Block.{kindFrom, numberFrom, frameFrom, recordedOf, seenOf, sawOf, sectorWords, createdOf, createdWords, hintWords, foundWords, calledBoth, takenInto, keptInto, absorbedInto, boundaryOf, lsnWords, boundaryWords};
@@ -174,6 +177,16 @@ fn found_words(named: NamedHint) -> [u64; 24]
         0,
         0,
     ]
+}
+
+// 0, or the refusal number.
+pub fn made_number(made: Made) -> u32
+    ensures { λ r. ⌜ r ≡ numberOf (madeOf made) ⌝ }
+{
+    match made {
+        Made::Refused(n) => n,
+        Made::Index(_) => 0,
+    }
 }
 
 // Where there is no hint, the words are 0.

@@ -1,4 +1,5 @@
 // What the player's C program calls for hints and confirmations: each call over blocks and lent tables, answered by a number.
+use crate::block::made_number;
 use crate::block::put_created;
 use crate::block::put_hint;
 use crate::block::put_kept;
@@ -15,7 +16,7 @@ ghost use Rattle.index.specs.Index.{tables};
 ghost use Rattle.confirmations.specs.Keeping.{given};
 ghost use Rattle.player.specs.Block.{called};
 ghost use Rattle.player_record.specs.Block.{calledBoth};
-ghost use Rattle.player_record.specs.HintCallsCalls.{calledList, calledKept, hintRecorderCall, seeCall, flushCall, takeCall, keepCall, hintCall};
+ghost use Rattle.player_record.specs.HintCallsCalls.{calledList, calledKept, calledTables, hintRecorderCall, seeCall, flushCall, takeCall, keepCall, keepHintCall, hintCall};
 
 // The hint recorder of a list, into its block; 24 words of 0 where there is none.
 #[no_mangle]
@@ -133,6 +134,39 @@ pub extern "C" fn seek_raw_keep_confirmation(
         confirmed,
     );
     put_kept(head, answer, kept)
+}
+
+// The hint with that LSN marked, so that thinning passes over it; the head is only read.
+#[no_mangle]
+pub extern "C" fn seek_raw_keep_hint(
+    head: &[u8],
+    lsn: u64,
+    checkpoints: &[u8],
+    frames: &[u8],
+    store: &[u8],
+    parts: &[u8],
+    malformed: &[u8],
+    hints: &mut [u8],
+    confirmed: &[u8],
+) -> u32
+    ensures { λ r. ⌜ calledTables r (tables (now (checkpoints .entry)) (now (frames .entry)) (now (store .entry)) (now (parts .entry)) (now (malformed .entry)) (now (hints .exit)) (now (confirmed .entry))) ≡ keepHintCall (now (head .entry)) lsn (tables (now (checkpoints .entry)) (now (frames .entry)) (now (store .entry)) (now (parts .entry)) (now (malformed .entry)) (now (hints .entry)) (now (confirmed .entry))) ⌝ }
+{
+    if !is_index(head) {
+        return 3;
+    }
+    let x = index_in(head);
+    let made = keep_hint::keep_hint(
+        x,
+        lsn,
+        checkpoints,
+        frames,
+        store,
+        parts,
+        malformed,
+        hints,
+        confirmed,
+    );
+    made_number(made)
 }
 
 // The hint for the frames from first up to end of an area of so many frames.

@@ -47,7 +47,7 @@ abbrev pub area : ℕ → ℕ → Area
 area start end = record { key = record { slot = 0; start = start; end = end; channels = 2; sectors = 9000 }; start = start; end = end }
 
 abbrev pub hintAt : ℕ → ℕ → Hint
-hintAt l t = record { lsn = l; number = t }
+hintAt l t = record { lsn = l; number = t; mark = 0 }
 
 abbrev pub confirmedAt : ℕ → ℕ → ℕ → Confirmation
 confirmedAt l t d = record { lsn = l; threshold = t; digest = d }

@@ -136,11 +136,12 @@ encodeLsn l = encode 4 l
 unfoldable pub decodeLsn : List ℕ → ℕ
 decodeLsn b = numberAt 4 b 0
 
+-- a file, a delivered list and a hint recorder's list hold no mark
 unfoldable pub encodeHint : Hint → List ℕ
 encodeHint h = encode 4 (h .lsn) ++ encode 4 (h .number)
 
 unfoldable pub decodeHint : List ℕ → Hint
-decodeHint b = record { lsn = numberAt 4 b 0; number = numberAt 4 b 4 }
+decodeHint b = record { lsn = numberAt 4 b 0; number = numberAt 4 b 4; mark = 0 }
 
 unfoldable pub encodeConfirmation : Confirmation → List ℕ
 encodeConfirmation c = encode 4 (c .lsn) ++ (encode 4 (c .threshold) ++ encode 8 (c .digest))

@@ -4,7 +4,7 @@ use mathlib.Core.Bool.{Bool, true, false, _&&_, _||_, not, cond}
 use mathlib.Core.List.{List, [], _∷_, _++_}
 use mathlib.Core.Option.{Option, none, some}
 use lib.Dec.{eqb, leb, ltb}
-use lib.ListN.{length, getD, drop}
+use lib.ListN.{length, getD, set, drop}
 use Rattle.rules.specs.declared.Area.{Area}
 use Rattle.rules.specs.declared.Confirmation.{Confirmation}
 use Rattle.rules.specs.declared.First.{First}
@@ -13,7 +13,7 @@ use Rattle.rules.specs.declared.Hint.{Hint}
 use Rattle.rules.specs.FirstRecord.{firstRecord}
 use Rattle.rules.specs.Tests.{each, orElse, Answer, Accepted, after, ask, firstNo}
 use Rattle.rules.specs.Values.{Scan, Hinting, Index, HintRecorder, Lengths, lim, maxList, max32, max64, hintReach, noHint, isChecked}
-use Rattle.rules.specs.Sections.{hintLsn, confirmedLsn}
+use Rattle.rules.specs.Sections.{hintLsn, confirmedLsn, isKept, keptCount}
 use Rattle.rules.specs.Questions.{four, hintRecorderFour}
 
 -- ---- see, flush, take
@@ -33,8 +33,8 @@ unfoldable pub seenRecord : HintRecorder → ℕ → First → HintRecorder
 seenRecord r lsn (Nothing a) = r
 seenRecord r lsn (Number t) =
     cond (ltb max32 lsn) r
-    (cond (spaced (r .last) (r .spacing) (t .number) && ltb (length (r .list)) maxList) (listed r (record { lsn = lsn; number = t .number }))
-    (tailed r (record { lsn = lsn; number = t .number })))
+    (cond (spaced (r .last) (r .spacing) (t .number) && ltb (length (r .list)) maxList) (listed r (record { lsn = lsn; number = t .number; mark = 0 }))
+    (tailed r (record { lsn = lsn; number = t .number; mark = 0 })))
 
 -- what a sector says, and the recorder afterwards
 pub record SeenSector : Type 0 where
@@ -83,10 +83,14 @@ countOf p (suc n) = countOf p n + cond (p n) 1 0
 unfoldable pub rise : ℕ → ℕ → ℕ
 rise p t = cond (ltb p t) (t - p) max32
 
--- the gap at place i: the rise from the neighbour
+-- the rise at place i: from the neighbour, kept or not
+unfoldable pub riseAt : List Hint → ℕ → ℕ
+riseAt hs zero = max32
+riseAt hs (suc i) = rise (getD hs i noHint .number) (getD hs (suc i) noHint .number)
+
+-- the gap at place i: the rise; of a kept hint 4,294,967,296, above every rise, so that thinning passes over it
 unfoldable pub gap : List Hint → ℕ → ℕ
-gap hs zero = max32
-gap hs (suc i) = rise (getD hs i noHint .number) (getD hs (suc i) noHint .number)
+gap hs i = cond (isKept (getD hs i noHint)) (suc max32) (riseAt hs i)
 
 -- is (gap, place) at k smaller than at i?
 unfoldable pub sooner : List Hint → ℕ → ℕ → Bool
@@ -109,9 +113,9 @@ thin most hs = kept (λ i. leb (length hs - most) (rank hs i)) hs (length hs)
 unfoldable pub inArea : Area → ℕ → Bool
 inArea a n = leb (a .start) n && ltb n (a .end)
 
--- of two hints at one LSN the one that arrives stays
+-- of two hints at one LSN the one that arrives stays, with the mark of the held one
 abbrev pub arrivedHint : Hint → Hint → Hint
-arrivedHint h new = new
+arrivedHint h new = record { lsn = new .lsn; number = new .number; mark = h .mark }
 
 -- each of the list in turn, LSNs outside the area dropped
 unfoldable pub insertAll : Area → List Hint → List Hint → List Hint
@@ -140,6 +144,39 @@ withHints a r list =
 unfoldable pub addHints : Lengths → Index → List Hint → Answer Index
 addHints l x list =
     after (firstNo (four l x (ask (question13 list) 13 ∷ []))) (Accepted (withHinting x (withHints (x .scan .area) (x .hinting) list)))
+
+-- ---- kept marks
+-- hints without their marks, as files and delivered lists have them
+abbrev pub unkeptHint : Hint → Hint
+unkeptHint h = record { lsn = h .lsn; number = h .number; mark = 0 }
+
+unfoldable pub unkept : List Hint → List Hint
+unkept [] = []
+unkept (h ∷ hs) = unkeptHint h ∷ unkept hs
+
+-- the place of the first hint with that LSN; the length where there is none
+unfoldable pub placeOf : ℕ → List Hint → ℕ
+placeOf lsn [] = 0
+placeOf lsn (h ∷ hs) = cond (eqb (h .lsn) lsn) 0 (suc (placeOf lsn hs))
+
+-- 53: is there a hint of that LSN, and is it kept or are fewer than M/4?
+unfoldable pub question53 : Hinting → ℕ → Bool
+question53 r lsn =
+    let i = placeOf lsn (r .hints) in
+    ltb i (length (r .hints)) && (isKept (getD (r .hints) i noHint) || ltb (keptCount (r .hints)) (r .most / 4))
+
+abbrev pub keptHint : Hint → Hint
+keptHint h = record { lsn = h .lsn; number = h .number; mark = 1 }
+
+-- behind 53: the hint of that LSN with the mark set
+unfoldable pub withMark : Hinting → ℕ → Hinting
+withMark r lsn =
+    let i = placeOf lsn (r .hints) in
+    record { spacing = r .spacing; most = r .most; hints = set (r .hints) i (keptHint (getD (r .hints) i noHint)); confirmed = r .confirmed }
+
+unfoldable pub keepHint : Lengths → Index → ℕ → Answer Index
+keepHint l x lsn =
+    after (firstNo (four l x (ask (question53 (x .hinting) lsn) 53 ∷ []))) (Accepted (withHinting x (withMark (x .hinting) lsn)))
 
 -- ---- confirmations
 -- same digest: the lower threshold stays; other digest: replaced

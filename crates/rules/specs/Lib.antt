@@ -21,3 +21,4 @@ pub mod AbsorbExamples
 pub mod HintExamples
 pub mod MergeExamples
 pub mod VersionExamples
+pub mod MarkExamples

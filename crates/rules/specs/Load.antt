@@ -23,7 +23,7 @@ use Rattle.rules.specs.Tests.{all, Ask, ask, firstNo, Answer, Refused, A
 use Rattle.rules.specs.Values.{Frame, Scan, Hinting, Index, Lengths, maxMalformed, maxHints, maxShortHints, maxInterval, max32, defaultSpacing, defaultHints, boundaries, frontierOf, counted, lastCheckpoint, sameKey}
 use Rattle.rules.specs.Sections.{countsOk, Passed, begun, passed, checkpointOk, Filled, unfilled, filled, frameOk, partOk, reached, endingOk, risingOk, risen, ownLsn, anyLsn, hintLsn, hintOk, confirmedLsn, confirmationOk}
 use Rattle.rules.specs.Questions.{areaOk, question3}
-use Rattle.rules.specs.Hints.{thin, lastOnes}
+use Rattle.rules.specs.Hints.{thin, lastOnes, unkept}
 use Rattle.rules.specs.Merge.{heldFrom}
 use Rattle.rules.specs.File.{readHeader, magicBytes, decodeCheckpoint, decodeHeld, decodeLsn, decodeHint, decodeConfirmation}
 
@@ -256,17 +256,17 @@ limitedScan limit x =
       malformed = x .malformed;
     }
 
--- M at most limit/8, the hints thinned to M, the last min(M, limit/16) confirmations; the divisions round down
+-- M at most limit/8, the hints, without marks, thinned to M, the last min(M, limit/16) confirmations; the divisions round down
 abbrev pub limitedHinting : ℕ → Hinting → Hinting
 limitedHinting limit r =
     record {
       spacing = r .spacing;
       most = min (r .most) (limit / 8);
-      hints = thin (min (r .most) (limit / 8)) (r .hints);
+      hints = thin (min (r .most) (limit / 8)) (unkept (r .hints));
       confirmed = lastOnes (min (min (r .most) (limit / 8)) (limit / 16)) (r .confirmed);
     }
 
--- image id and checked mark are not saved
+-- image id, checked mark and kept marks are not saved
 unfoldable pub unmarked : Fingerprint → Fingerprint
 unmarked Unknown = Unknown
 unmarked (fingerprint.Held v) = fingerprint.Held v

@@ -13,7 +13,7 @@ use Rattle.rules.specs.Tests.{all, orElse, agree, agrees, Answer, Accept
 use Rattle.rules.specs.Values.{Scan, Hinting, Index, Lengths, complete, count, stated, isChecked, sameArea, sameCheckpoint, sameEnd}
 use Rattle.rules.specs.Questions.{both, askFour, fourOf}
 use Rattle.rules.specs.PartRule.{Stored, addParts}
-use Rattle.rules.specs.Hints.{joinedHints, keepAll}
+use Rattle.rules.specs.Hints.{unkept, joinedHints, keepAll}
 
 -- 41: same area and interval?
 unfoldable pub question41 : Index → Index → Bool
@@ -64,13 +64,13 @@ mergedFingerprint Unknown g = heldFrom (stated g)
 mergedFingerprint (fingerprint.Held v) g = fingerprint.Held v
 mergedFingerprint (Checked v) g = Checked v
 
--- hints and confirmations by their rules, without 13 and 14: question 4 of the other answers them
+-- hints and confirmations by their rules, without 13 and 14: question 4 of the other answers them; none of the other's kept marks is taken
 abbrev pub mergedHinting : Area → Bool → Hinting → Hinting → Hinting
 mergedHinting a checked own other =
     record {
       spacing = own .spacing;
       most = own .most;
-      hints = joinedHints a (own .most) (own .hints) (other .hints);
+      hints = joinedHints a (own .most) (own .hints) (unkept (other .hints));
       confirmed = keepAll checked (own .most) (own .confirmed) (other .confirmed);
     }
 

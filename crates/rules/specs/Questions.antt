@@ -14,7 +14,7 @@ use Rattle.rules.specs.declared.Mode.{Mode}
 use Rattle.rules.specs.declared.Mode.the-variants.{Running, Finished, Stopped}
 use Rattle.rules.specs.Tests.{all, isSome, Ask, ask}
 use Rattle.rules.specs.Values.{Frame, Scan, Hinting, Index, Recorder, HintRecorder, Lengths, maxMalformed, maxHints, maxList, mergeRoom, maxInterval, max32, boundaries, count, complete, frontier, counted, stated}
-use Rattle.rules.specs.Sections.{countsOk, checkpointsOk, framesOk, partsOk, endingOk, malformedOk, hintsOk, confirmationsOk}
+use Rattle.rules.specs.Sections.{countsOk, checkpointsOk, framesOk, partsOk, endingOk, malformedOk, hintsOk, confirmationsOk, marksOk}
 
 -- ---- 1: is the slot 0 or 1 and start ≤ end ≤ 4,294,967,295?
 unfoldable pub areaOk : Area → Bool
@@ -43,11 +43,11 @@ scanOk x =
     ∷ checkpointsOk (x .interval) 0 (x .checkpoints) ∷ heldOk (x .area) (x .interval) (x .budget) 0 (x .checkpoints) (x .frames) (x .parts)
     ∷ endingOk (x .area) (x .checkpoints) (x .ending) ∷ malformedOk (x .area) (frontier x) (counted (x .checkpoints) (x .ending)) (x .malformed) ∷ [])
 
--- confirmations only beside a fingerprint
+-- confirmations only beside a fingerprint; the kept marks last
 unfoldable pub hintingOk : Area → Fingerprint → Hinting → Bool
 hintingOk a f r =
     all (leb (r .most) maxHints ∷ leb (length (r .hints)) (r .most) ∷ leb (length (r .confirmed)) (r .most) ∷ hintsOk a (r .hints)
-    ∷ confirmationsOk a (r .confirmed) ∷ (eqb (length (r .confirmed)) 0 || isSome (stated f)) ∷ [])
+    ∷ confirmationsOk a (r .confirmed) ∷ (eqb (length (r .confirmed)) 0 || isSome (stated f)) ∷ marksOk (r .most) (r .hints) ∷ [])
 
 -- ---- of an index
 unfoldable pub question1 : Index → Bool

@@ -1,5 +1,5 @@
 -- The rule of each section, once: for question 4, for loading and for a recorder's own stretch.
-use Prim.Native.Nat.{ℕ, suc, _+_, _-_, _*_, min}
+use Prim.Native.Nat.{ℕ, suc, _+_, _-_, _*_, _/_, min}
 use mathlib.Core.Bool.{Bool, true, _||_, not, cond}
 use mathlib.Core.List.{List, [], _∷_}
 use mathlib.Core.Option.{Option, none, some}
@@ -11,7 +11,7 @@ use Rattle.rules.specs.declared.EndState.{EndState}
 use Rattle.rules.specs.declared.Held.{Held}
 use Rattle.rules.specs.declared.Hint.{Hint}
 use Rattle.rules.specs.declared.Confirmation.{Confirmation}
-use Rattle.rules.specs.Tests.{all, walk, lastOr}
+use Rattle.rules.specs.Tests.{all, each, walk, lastOr}
 use Rattle.rules.specs.Values.{Frame, lim, maxFrame, maxMalformed, maxHints, checkpointAt, frameAt, lastCheckpoint, noHeld, lsnOf, sameKind}
 
 -- ---- counts: of boundaries, checkpoints, completeness, frames, parts, malformed LSNs
@@ -127,6 +127,20 @@ hintOk h = ltb (h .number) lim
 
 unfoldable pub hintsOk : Area → List Hint → Bool
 hintsOk a hs = rising hintLsn hintOk (a .start) (a .end) hs
+
+-- the kept marks of an index's hints: each is 0 or 1, and at most a quarter of M, rounded down, are kept
+unfoldable pub isKept : Hint → Bool
+isKept h = eqb (h .mark) 1
+
+unfoldable pub keptCount : List Hint → ℕ
+keptCount [] = 0
+keptCount (h ∷ hs) = cond (isKept h) 1 0 + keptCount hs
+
+abbrev pub markOk : Hint → Bool
+markOk h = leb (h .mark) 1
+
+unfoldable pub marksOk : ℕ → List Hint → Bool
+marksOk most hs = all (each markOk hs ∷ leb (keptCount hs) (most / 4) ∷ [])
 
 abbrev pub confirmedLsn : Confirmation → ℕ
 confirmedLsn c = c .lsn

@@ -100,9 +100,11 @@ pub struct Held {
     pub remaining: i32,
 }
 
+// A hint; its mark is 1 where it is kept, so that thinning passes over it, and else 0.
 pub struct Hint {
     pub lsn: u32,
     pub number: u32,
+    pub mark: u8,
 }
 
 pub struct Confirmation {

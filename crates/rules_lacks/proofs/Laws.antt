@@ -17,9 +17,10 @@ use Rattle.rules.specs.declared.Hint.{Hint}
 use Rattle.rules.specs.Tests.{each}
 use Rattle.rules.specs.Values.{Frame, partBytes}
 use Rattle.rules.specs.Run.{contentOf}
+use Rattle.rules.specs.Hints.{unkeptHint}
 use Rattle.rules.proofs.Tests.{test, never, all→, →all, or-cases, or-left, or-right, each-at, each-of}
 use Rattle.rules.proofs.Same.{eqb-self, sameKind-self, sameKind-eq}
-use Rattle.rules_lacks.specs.Lacks.{anyOf, covers, missing, sameSigned, samePart, sameHint, confirmsAlso}
+use Rattle.rules_lacks.specs.Lacks.{anyOf, covers, missing, sameSigned, samePart, sameHint, equalHint, confirmsAlso}
 
 -- ---- one of xs
 -- the place of one that p holds of
@@ -107,25 +108,42 @@ pub samePart-on : (fs gs hs : List Frame) (p q r : Held) → samePart fs gs p q 
 samePart-on fs gs hs p q r a b =
     let x = samePart→ fs gs p q a in let y = samePart→ gs hs q r b in →samePart fs hs p r (x .0 ∙ y .0) (x .1 ∙ y .1)
 
--- ---- hints
-pub sameHint-eq : (h k : Hint) → sameHint h k ≡ true → h ≡ k
+-- ---- malformed LSNs
+pub eqb-on : (a b c : ℕ) → eqb a b ≡ true → eqb b c ≡ true → eqb a c ≡ true
+eqb-on a b c p q = rw (eqb-true a b p) q
+
+-- ---- hints: equal but for the mark
+pub sameHint-eq : (h k : Hint) → sameHint h k ≡ true → unkeptHint h ≡ unkeptHint k
 unfolding sameHint
 sameHint-eq h k e =
     let t = all→ _ e in
     let e0 : h .lsn ≡ k .lsn = eqb-true _ _ (t .0) in
     let e1 : h .number ≡ k .number = eqb-true _ _ (t .1 .0) in
-    λ i. record { lsn = e0 i; number = e1 i }
+    λ i. record { lsn = e0 i; number = e1 i; mark = 0 }
 
 pub sameHint-self : (h : Hint) → sameHint h h ≡ true
 unfolding sameHint
 sameHint-self h = →all _ (eqb-self (h .lsn), (eqb-self (h .number), tt))
 
 pub sameHint-on : (h k m : Hint) → sameHint h k ≡ true → sameHint k m ≡ true → sameHint h m ≡ true
-sameHint-on h k m a b = rw (sameHint-eq h k a) b
+unfolding sameHint
+sameHint-on h k m a b =
+    let t = all→ _ a in let u = all→ _ b in
+    →all _ (eqb-on (h .lsn) (k .lsn) (m .lsn) (t .0) (u .0), (eqb-on (h .number) (k .number) (m .number) (t .1 .0) (u .1 .0), tt))
 
--- ---- malformed LSNs
-pub eqb-on : (a b c : ℕ) → eqb a b ≡ true → eqb b c ≡ true → eqb a c ≡ true
-eqb-on a b c p q = rw (eqb-true a b p) q
+-- equal with the mark
+pub equalHint-eq : (h k : Hint) → equalHint h k ≡ true → h ≡ k
+unfolding equalHint
+equalHint-eq h k e =
+    let t = all→ _ e in
+    let e0 : h .lsn ≡ k .lsn = eqb-true _ _ (t .0) in
+    let e1 : h .number ≡ k .number = eqb-true _ _ (t .1 .0) in
+    let e2 : h .mark ≡ k .mark = eqb-true _ _ (t .1 .1 .0) in
+    λ i. record { lsn = e0 i; number = e1 i; mark = e2 i }
+
+pub equalHint-self : (h : Hint) → equalHint h h ≡ true
+unfolding equalHint
+equalHint-self h = →all _ (eqb-self (h .lsn), (eqb-self (h .number), (eqb-self (h .mark), tt)))
 
 -- ---- confirmations
 pub record ConfirmsAlso (c d : Confirmation) : Type 0 where

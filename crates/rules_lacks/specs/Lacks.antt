@@ -41,9 +41,13 @@ samePart fs gs p q =
     all (eqb (p .at) (q .at) ∷ eqb (p .number) (q .number) ∷ sameKind (p .kind) (q .kind) ∷ sameSigned (p .remaining) (q .remaining)
     ∷ sameBytes (partBytes fs p) (partBytes gs q) ∷ [])
 
--- hints: the same LSN and number
+-- hints: the same LSN and number, kept or not, since no file holds the mark
 unfoldable pub sameHint : Hint → Hint → Bool
 sameHint h k = all (eqb (h .lsn) (k .lsn) ∷ eqb (h .number) (k .number) ∷ [])
+
+-- hints: the same LSN, number and mark (for adds)
+unfoldable pub equalHint : Hint → Hint → Bool
+equalHint h k = all (eqb (h .lsn) (k .lsn) ∷ eqb (h .number) (k .number) ∷ eqb (h .mark) (k .mark) ∷ [])
 
 -- confirmations: the same LSN and digest, and a threshold not above
 unfoldable pub confirmsAlso : Confirmation → Confirmation → Bool

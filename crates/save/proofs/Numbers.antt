@@ -9,8 +9,8 @@ use lib.Dec.{leb}
 use Rattle.field.proofs.Records.{records-length}
 use Rattle.rules.specs.declared.AreaIndex.{AreaIndex}
 use Rattle.rules.specs.Values.{used}
-use Rattle.rules.specs.File.{decodeHint, decodeConfirmation, hasHinting, versionOf, headerBytes, headerOf, hintSection, confirmedSection, bodyOf, savedLength}
-use Rattle.tables.specs.Tables.{framesIn}
+use Rattle.rules.specs.File.{decodeConfirmation, hasHinting, versionOf, headerBytes, headerOf, hintSection, confirmedSection, bodyOf, savedLength}
+use Rattle.tables.specs.Tables.{framesIn, decodeKept}
 use Rattle.index.specs.Index.{Tables, indexIn, tables}
 use Rattle.fnv.specs.Fnv.{fnvFrom}
 use Rattle.save.specs.Output.{Summed}
@@ -35,7 +35,7 @@ module _ (x : AreaIndex) (t : Tables) where
 module _ (x : AreaIndex) (hints confirmed : List ℕ) where
   hints-are : cond (leb 2 (versionOf (hintIndex x hints confirmed))) (hintBytes (hintHeaderOf x) hints) [] ≡ hintSection (hintIndex x hints confirmed)
   unfolding hintSection
-  hints-are = rw (records-length 8 decodeHint (x .hints) hints) (simp append-assoc)
+  hints-are = rw (records-length 8 decodeKept (x .hints) hints) (simp append-assoc)
 
   confirmed-are : cond (leb 3 (versionOf (hintIndex x hints confirmed))) (confirmedBytes (x .confirmed) confirmed) [] ≡ confirmedSection (hintIndex x hints confirmed)
   unfolding confirmedSection

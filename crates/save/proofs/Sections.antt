@@ -9,7 +9,8 @@ use Rattle.field.proofs.Number.{encode-length}
 use Rattle.fnv.specs.Fnv.{fnvFrom, fnv64, prime64}
 use Rattle.rules.specs.declared.Header.{Header}
 use Rattle.rules.specs.declared.HintHeader.{HintHeader}
-use Rattle.rules.specs.File.{headerBytes, encodeHint, decodeHint, encodeConfirmation, decodeConfirmation, over}
+use Rattle.rules.specs.File.{headerBytes, encodeHint, encodeConfirmation, decodeConfirmation, over}
+use Rattle.tables.specs.Tables.{decodeKept}
 use Rattle.laws.proofs.Layouts.{header-length, hint-layout, confirmation-layout}
 use Rattle.save.specs.Output.{Filled, Summed, upTo, nothingWritten}
 use Rattle.save.specs.declared.output.Written.{Written}
@@ -19,7 +20,7 @@ use Rattle.save.specs.Steps.{hintBytes, confirmedBytes}
 
 -- ---- sections with a header
 pub hint-size : (h : HintHeader) (t : List ℕ) → length (hintBytes h t) ≡ 24 + 8 * h .count
-hint-size h t = simp (length-append, encode-length, records-size 8 decodeHint encodeHint (hint-layout .size)) (omega arith)
+hint-size h t = simp (length-append, encode-length, records-size 8 decodeKept encodeHint (hint-layout .size)) (omega arith)
 
 pub confirmed-size : (n : ℕ) (t : List ℕ) → length (confirmedBytes n t) ≡ 8 + 16 * n
 confirmed-size n t = simp (length-append, encode-length, records-size 16 decodeConfirmation encodeConfirmation (confirmation-layout .size)) (omega arith)

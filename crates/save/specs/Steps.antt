@@ -11,7 +11,7 @@ use Rattle.rules.specs.declared.AreaIndex.{AreaIndex}
 use Rattle.rules.specs.declared.HintHeader.{HintHeader}
 use Rattle.rules.specs.Values.{Index, used}
 use Rattle.rules.specs.File.{encodeCheckpoint, encodeFrame, encodeHeld, encodeLsn, encodeHint, encodeConfirmation, versionOf}
-use Rattle.tables.specs.Tables.{checkpointsIn, partsIn, lsnsIn, hintsIn, confirmationsIn, framesIn}
+use Rattle.tables.specs.Tables.{checkpointsIn, partsIn, lsnsIn, keptIn, confirmationsIn, framesIn}
 use Rattle.index.specs.Index.{indexIn, kindsOk, tables}
 use Rattle.index.specs.Needs.{Long}
 use Rattle.save.specs.Layout.{Framed}
@@ -19,7 +19,7 @@ use Rattle.save.specs.Output.{hintHeader}
 
 -- the hint section with the first hints of a table
 abbrev pub hintBytes : HintHeader → List ℕ → List ℕ
-hintBytes h t = hintHeader h ++ bytesOf encodeHint (hintsIn (h .count) t)
+hintBytes h t = hintHeader h ++ bytesOf encodeHint (keptIn (h .count) t)
 
 -- the section of the first n confirmations of a table
 abbrev pub confirmedBytes : ℕ → List ℕ → List ℕ

@@ -1,16 +1,22 @@
 // The sections of a file, each written into its own stretch of a lent output, and summed.
 use crate::output::Written;
+use rules::Hint;
 use summing::copy_first_summed;
 use summing::copy_part_summed;
+use summing::sum_u32;
 use tables::read_header;
+use tables::read_hint;
+use tables::write_given;
 ghost use mathlib.Core.Path.{_≡_};
 ghost use mathlib.Core.Bool.{true};
 ghost use Prim.Native.Nat.{_+_, _*_, _≤_};
 ghost use lib.ListN.{length, drop};
+ghost use lib.Seq.{sets};
 ghost use Rattle.field.specs.Records.{bytesOf, recordAt};
+ghost use Rattle.fnv.specs.Fnv.{fnvFrom, prime64};
 ghost use Rattle.rules.specs.Values.{used};
 ghost use Rattle.rules.specs.File.{encodeCheckpoint, encodeFrame, encodeHeld, encodeLsn, encodeHint, encodeConfirmation};
-ghost use Rattle.tables.specs.Tables.{checkpointsIn, partsIn, lsnsIn, hintsIn, confirmationsIn, framesIn, decodeHeader, frameOf};
+ghost use Rattle.tables.specs.Tables.{checkpointsIn, partsIn, lsnsIn, keptIn, confirmationsIn, framesIn, decodeHeader, frameOf};
 ghost use Rattle.index.specs.Index.{kindsOk};
 ghost use Rattle.save.specs.Output.{Filled, Summed, upTo};
 
@@ -37,11 +43,28 @@ fn write_malformed(out: &mut [u8], table: &[u8], n: usize, sum: u64) -> u64
     copy_first_summed(out, table, n * 4, sum)
 }
 
+// Hint number j of a file, which holds no mark, and the hash of it from sum.
+fn put_hint(out: &mut [u8], j: usize, h: Hint, sum: u64) -> u64
+    requires { ⌜ j * 8 + 8 ≤ length (now out) ⌝ }
+    ensures { λ r. ⌜ (now (out .exit) ≡ sets (now (out .entry)) (j * 8) (encodeHint h)) × (r ≡ fnvFrom 64 prime64 sum (encodeHint h)) ⌝ }
+{
+    let x = sum_u32(sum, h.lsn);
+    let r = sum_u32(x, h.number);
+    write_given(out, j, h);
+    r
+}
+
 fn write_hints(out: &mut [u8], table: &[u8], n: usize, sum: u64) -> u64
     requires { ⌜ (n * 8 ≤ length (now table)) × (n * 8 ≤ length (now out)) ⌝ }
-    ensures { λ r. ⌜ Filled (bytesOf encodeHint (hintsIn n (now (table .entry)))) (now (out .entry)) sum r (now (out .exit)) ⌝ }
+    ensures { λ r. ⌜ Filled (bytesOf encodeHint (keptIn n (now (table .entry)))) (now (out .entry)) sum r (now (out .exit)) ⌝ }
 {
-    copy_first_summed(out, table, n * 8, sum)
+    let mut x = sum;
+    let mut j = 0;
+    while j < n {
+        x = put_hint(out, j, read_hint(table, j), x);
+        j += 1;
+    }
+    x
 }
 
 fn write_confirmations(out: &mut [u8], table: &[u8], n: usize, sum: u64) -> u64
@@ -87,7 +110,7 @@ pub fn put_malformed(out: &mut [u8], w: Written, table: &[u8], count: u32) -> Wr
 
 pub fn put_hints(out: &mut [u8], w: Written, table: &[u8], count: u32) -> Written
     requires { ⌜ (count * 8 ≤ length (now table)) × (w .next + count * 8 ≤ length (now out)) ⌝ }
-    ensures { λ r. ⌜ Summed (bytesOf encodeHint (hintsIn count (now (table .entry)))) (count * 8) (now (out .entry)) w r (now (out .exit)) ⌝ }
+    ensures { λ r. ⌜ Summed (bytesOf encodeHint (keptIn count (now (table .entry)))) (count * 8) (now (out .entry)) w r (now (out .exit)) ⌝ }
 {
     let at = w.next;
     let n = count as usize;

@@ -2,23 +2,27 @@
 use field::and;
 use rules::Area;
 use rules::Checkpoint;
+use rules::Hint;
 use rules::MAX_FRAME_BYTES;
 use rules::MAX_NEXT_ACCEPTABLE;
 use tables::FrameHeader;
 use tables::hint_at;
 use tables::read_checkpoint;
+use tables::read_given;
 use tables::read_header;
+use tables::read_hint;
 use tables::read_lsn;
 ghost use mathlib.Core.Path.{_≡_};
 ghost use mathlib.Core.List.{List};
 ghost use mathlib.Core.Bool.{_&&_};
-ghost use lib.Dec.{leb, ltb};
+ghost use lib.Dec.{eqb, leb, ltb};
 ghost use Prim.Native.Nat.{ℕ, _+_, _*_, _≤_, _<_};
 ghost use lib.ListN.{length};
 ghost use Rattle.field.specs.Records.{records};
-ghost use Rattle.rules.specs.Sections.{checkpointOk, checkpointsOk, framesOk, rising, ownLsn, anyLsn, hintsOk, confirmationsOk};
+ghost use Rattle.rules.specs.Values.{lim};
+ghost use Rattle.rules.specs.Sections.{checkpointOk, checkpointsOk, framesOk, rising, ownLsn, anyLsn, hintsOk, marksOk, confirmationsOk};
 ghost use Rattle.rules.specs.File.{decodeHint};
-ghost use Rattle.tables.specs.Tables.{checkpointsIn, lsnsIn, hintsIn, confirmationsIn, framesIn, headerOk, filledTo, passedAt, Checked};
+ghost use Rattle.tables.specs.Tables.{checkpointsIn, lsnsIn, hintsIn, keptIn, confirmationsIn, framesIn, headerOk, filledTo, passedAt, Checked};
 
 // b is the checkpoint before c, which is number.
 fn checkpoint_ok(interval: u32, number: usize, b: Checkpoint, c: Checkpoint) -> bool
@@ -90,7 +94,7 @@ pub fn check_lsns(section: &[u8], m: usize, area: Area, front: u64) -> bool
     true
 }
 
-// Records of w bytes that begin as hints do.
+// Records of w bytes that begin as hints of a file do.
 fn check_numbered(section: &[u8], n: usize, w: usize, area: Area) -> bool
     requires { ⌜ (n * w ≤ length (now section)) × (8 ≤ w) ⌝ }
     ensures { λ r. ⌜ r ≡ hintsOk area (records w decodeHint n (now (section .entry))) ⌝ }
@@ -118,6 +122,40 @@ pub fn check_hints(section: &[u8], n: usize, area: Area) -> bool
     ensures { λ r. ⌜ r ≡ hintsOk area (hintsIn n (now (section .entry))) ⌝ }
 {
     check_numbered(section, n, 8, area)
+}
+
+// Is the hint kept, its number below LIM?
+fn kept_ok(h: Hint) -> bool
+    ensures { λ r. ⌜ r ≡ (eqb (h .mark) 1 && ltb (h .number) lim) ⌝ }
+{
+    and(h.mark == 1, h.number < MAX_NEXT_ACCEPTABLE)
+}
+
+// Hints of an index's table and their marks. A number below LIM with the mark behind it has the mark 0.
+pub fn check_kept(hints: &[u8], n: usize, area: Area, most: u32) -> bool
+    requires { ⌜ n * 8 ≤ length (now hints) ⌝ }
+    ensures { λ r. ⌜ r ≡ (hintsOk area (keptIn n (now (hints .entry))) && marksOk most (keptIn n (now (hints .entry)))) ⌝ }
+{
+    let mut floor = area.start;
+    let mut kept = 0;
+    let mut j = 0;
+    while j < n {
+        let given = read_given(hints, j);
+        if !rising_ok(area.end, floor, given.lsn as u64, true) {
+            return false;
+        }
+        floor = given.lsn as u64 + 1;
+        if given.number < MAX_NEXT_ACCEPTABLE {
+            j += 1;
+        } else {
+            if !kept_ok(read_hint(hints, j)) {
+                return false;
+            }
+            kept += 1;
+            j += 1;
+        }
+    }
+    kept <= (most / 4) as usize
 }
 
 pub fn check_confirmations(section: &[u8], n: usize, area: Area) -> bool

@@ -1,4 +1,6 @@
+pub mod Kept
 pub mod Records
+pub mod Rest
 pub mod Tests
 pub mod Walk
 pub mod Reading

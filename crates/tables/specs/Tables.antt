@@ -1,12 +1,12 @@
 -- How the bytes of tables stand for the lists of an index. The tables are in the file's layout; the frames' bytes lie end to end in a store.
 use mathlib.Core.Path.{_≡_}
-use Prim.Native.Nat.{ℕ, _+_, _-_}
+use Prim.Native.Nat.{ℕ, _+_, _-_, _*_, _%_}
 use mathlib.Core.Bool.{Bool, true, false, _&&_}
 use lib.Dec.{leb, ltb}
 use mathlib.Core.List.{List, [], _∷_, _++_}
 use mathlib.Core.Option.{Option, none, some}
 use lib.ListN.{take, drop, getD, replicate}
-use Rattle.field.specs.Number.{numberAt}
+use Rattle.field.specs.Number.{encode, numberAt}
 use Rattle.field.specs.Records.{records}
 use Rattle.rules.specs.declared.Area.{Area}
 use Rattle.rules.specs.declared.Checkpoint.{Checkpoint}
@@ -27,8 +27,24 @@ partsIn h t = records 24 decodeHeld h t
 abbrev pub lsnsIn : ℕ → List ℕ → List ℕ
 lsnsIn m t = records 4 decodeLsn m t
 
+-- of a delivered list, a hint recorder's list or a file, which hold no mark
 abbrev pub hintsIn : ℕ → List ℕ → List Hint
 hintsIn n t = records 8 decodeHint n t
+
+-- a hint in an index's table: LSN, frame number in three bytes, and mark
+unfoldable pub encodeKept : Hint → List ℕ
+encodeKept h = encode 4 (h .lsn) ++ (encode 3 (h .number) ++ encode 1 (h .mark))
+
+unfoldable pub decodeKept : List ℕ → Hint
+decodeKept b = record { lsn = numberAt 4 b 0; number = numberAt 3 b 4; mark = numberAt 1 b 7 }
+
+-- of an index's table
+abbrev pub keptIn : ℕ → List ℕ → List Hint
+keptIn n t = records 8 decodeKept n t
+
+-- the four bytes of a frame number and a mark, as a number
+abbrev pub keptWord : ℕ → ℕ → ℕ
+keptWord number mark = number % 16777216 + mark * 16777216
 
 abbrev pub confirmationsIn : ℕ → List ℕ → List Confirmation
 confirmationsIn n t = records 16 decodeConfirmation n t

@@ -4,6 +4,7 @@ pub mod part_records;
 
 use field::read_u32;
 use field::read_u64;
+use field::write_u32;
 use rules::Checkpoint;
 use rules::Confirmation;
 use rules::FrameKind;
@@ -12,10 +13,11 @@ use rules::Hint;
 ghost use mathlib.Core.Path.{_≡_};
 ghost use Prim.Native.Nat.{_+_, _*_, _≤_};
 ghost use lib.ListN.{length, take, drop};
+ghost use lib.Seq.{sets};
 ghost use Rattle.field.specs.Records.{recordAt};
 ghost use Rattle.rules.specs.Values.{checkpointAt};
-ghost use Rattle.rules.specs.File.{kindOf, signed32, decodeCheckpoint, decodeHeld, decodeLsn, decodeHint, decodeConfirmation};
-ghost use Rattle.tables.specs.Tables.{checkpointsIn, decodeHeader, headersIn, headerAt};
+ghost use Rattle.rules.specs.File.{kindOf, signed32, decodeCheckpoint, decodeHeld, decodeLsn, encodeHint, decodeHint, decodeConfirmation};
+ghost use Rattle.tables.specs.Tables.{checkpointsIn, decodeHeader, headersIn, headerAt, encodeKept, decodeKept, keptWord};
 
 // Start and length of a frame, as they lie in a table.
 pub struct FrameHeader {
@@ -98,7 +100,7 @@ pub fn read_held(t: &[u8], j: usize) -> Held
     held_at(t, j * 24)
 }
 
-// An LSN and a number behind it, as a hint begins and a confirmation does.
+// An LSN and a number behind it, as a hint of a file or a delivered list begins and a confirmation does.
 pub fn hint_at(t: &[u8], at: usize) -> Hint
     requires { ⌜ at + 8 ≤ length (now t) ⌝ }
     ensures { λ r. ⌜ r ≡ decodeHint (drop at (now (t .entry))) ⌝ }
@@ -106,14 +108,29 @@ pub fn hint_at(t: &[u8], at: usize) -> Hint
     Hint {
         lsn: read_u32(t, at),
         number: read_u32(t, at + 4),
+        mark: 0,
     }
 }
 
-pub fn read_hint(t: &[u8], j: usize) -> Hint
+// Hint number j of a delivered list, a hint recorder's list or a file, which hold no mark.
+pub fn read_given(t: &[u8], j: usize) -> Hint
     requires { ⌜ j * 8 + 8 ≤ length (now t) ⌝ }
     ensures { λ r. ⌜ r ≡ recordAt 8 decodeHint (now (t .entry)) j ⌝ }
 {
     hint_at(t, j * 8)
+}
+
+// Hint number j of an index's table, with its mark.
+pub fn read_hint(t: &[u8], j: usize) -> Hint
+    requires { ⌜ j * 8 + 8 ≤ length (now t) ⌝ }
+    ensures { λ r. ⌜ r ≡ recordAt 8 decodeKept (now (t .entry)) j ⌝ }
+{
+    let at = j * 8;
+    Hint {
+        lsn: read_u32(t, at),
+        number: read_u32(t, at + 4) % 16777216,
+        mark: t[at + 7],
+    }
 }
 
 pub fn read_confirmation(t: &[u8], j: usize) -> Confirmation
@@ -159,6 +176,35 @@ pub fn get_header(t: &[u8], f: usize, i: usize) -> FrameHeader
         return read_header(t, i);
     }
     FrameHeader { start: 0, len: 0 }
+}
+
+// ---- hints written
+// The four bytes of a frame number and a mark, as a number.
+fn word_of(number: u32, mark: u8) -> u32
+    ensures { λ r. ⌜ r ≡ keptWord number mark ⌝ }
+{
+    number % 16777216 + mark as u32 * 16777216
+}
+
+// Hint number j of an index's table.
+pub fn write_hint(t: &mut [u8], j: usize, h: Hint)
+    requires { ⌜ j * 8 + 8 ≤ length (now t) ⌝ }
+    ensures { λ _. ⌜ now (t .exit) ≡ sets (now (t .entry)) (j * 8) (encodeKept h) ⌝ }
+{
+    let at = j * 8;
+    let word = word_of(h.number, h.mark);
+    write_u32(t, at, h.lsn);
+    write_u32(t, at + 4, word);
+}
+
+// Hint number j of a hint recorder's list, which holds no mark.
+pub fn write_given(t: &mut [u8], j: usize, h: Hint)
+    requires { ⌜ j * 8 + 8 ≤ length (now t) ⌝ }
+    ensures { λ _. ⌜ now (t .exit) ≡ sets (now (t .entry)) (j * 8) (encodeHint h) ⌝ }
+{
+    let at = j * 8;
+    write_u32(t, at, h.lsn);
+    write_u32(t, at + 4, h.number);
 }
 
 // ---- sections of a file

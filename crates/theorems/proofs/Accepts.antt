@@ -12,7 +12,7 @@ use Rattle.rules.specs.Sections.{endOk}
 use Rattle.rules.specs.Questions.{areaOk, question1, question2, question3, four, recorderFour, hintRecorderFour}
 use Rattle.rules.specs.Create.{emptyIndex, new, bindFingerprint, recorder, hintRecorder}
 use Rattle.rules.specs.Record.{isRunning, nextNumber, question5, question6, question7, recordAt, finish, isStopped, absorbNumber, absorb}
-use Rattle.rules.specs.Hints.{see, flush, takeList, question13, addHints, question14, keepConfirmation, hint}
+use Rattle.rules.specs.Hints.{see, flush, takeList, question13, addHints, question53, keepHint, question14, keepConfirmation, hint}
 use Rattle.rules.specs.Merge.{question41, question42, question43, mergeNumber, merge}
 use Rattle.rules.specs.File.{savedLength, save}
 use Rattle.rules.specs.Load.{limited, load}
@@ -42,7 +42,7 @@ merge-asked l m own other v w q41 q42 q43 =
     asks _ (both (v .one) (w .one), (both (v .two) (w .two), (both (v .three) (w .three), (both (v .four) (w .four), (q41, (q42, (q43, tt)))))))
 
 pub refuses-nothing : RefusesNothing
-unfolding new bindFingerprint recorder recordAt finish absorb hintRecorder see flush takeList addHints keepConfirmation hint plan save load merge brings lacks
+unfolding new bindFingerprint recorder recordAt finish absorb hintRecorder see flush takeList addHints keepHint keepConfirmation hint plan save load merge brings lacks
 refuses-nothing =
     record {
       made = λ l a k budget spacing most q1 q2 q3. let x = emptyIndex a k budget spacing most in →asked (ask (question1 x) 1 ∷ ask (question2 x) 2 ∷ ask (question3 l x) 3 ∷ []) (q1, (q2, (q3, tt))) refl;
@@ -81,6 +81,7 @@ refuses-nothing =
       flushes = λ n r w. →asked _ (hint-recorder-asked n r w) refl;
       takes = λ n r w. →asked _ (hint-recorder-asked n r w) refl;
       addsHints = λ l x list w q. →asked _ (index-asked l x (ask (question13 list) 13 ∷ []) w (q, tt)) refl;
+      keepsHints = λ l x lsn w q. →asked _ (index-asked l x (ask (question53 (x .hinting) lsn) 53 ∷ []) w (q, tt)) refl;
       confirms = λ l x c w q k m.
           →asked _ (index-asked l x (ask (question14 (x .scan .area) c) 14 ∷ []) w (q, tt)) (rw (k, ne-eqb (x .hinting .most) 0 m) refl);
       keepsNone = λ l x c w q k. →asked _ (index-asked l x (ask (question14 (x .scan .area) c) 14 ∷ []) w (q, tt)) (rw k refl);

@@ -23,7 +23,7 @@ use Rattle.rules.specs.Plan.{planned}
 use Rattle.rules.specs.Create.{bindFingerprint, recorder, hintRecorder}
 use Rattle.rules.specs.Record.{isRunning, nextNumber, question5, question6, question7, recorded, recordAt, withMode, finish, isStopped, question8, question9, question10, question11, question12, absorbedIndex, emptied}
 use Rattle.rules.specs.Hints as rules
-use Rattle.rules.specs.Hints.{see, addHints, keepConfirmation}
+use Rattle.rules.specs.Hints.{see, addHints, keepHint, keepConfirmation}
 use Rattle.rules_jump.specs.Names.{namedHint}
 use Rattle.rules_jump.proofs.Values.{named-number}
 use Rattle.rules_lacks.specs.Lacks.{lacks}
@@ -52,6 +52,7 @@ use Rattle.hint_recorder.specs.Recorder.{hintRecorderIn, seeIn, flushIn, takeIn
 use Rattle.hint_recorder.specs.Recorder as hinting
 use Rattle.add_hints.specs.JoinedMerged.{hintsOf}
 use Rattle.add_hints.specs.Added.{addHintsIn}
+use Rattle.keep_hint.specs.Keep.{keepHintIn}
 use Rattle.confirmations.specs.Keeping.{keepIn}
 use Rattle.confirmations.specs.Keeping as keeping
 use Rattle.adds.specs.Brings.{brings}
@@ -162,7 +163,7 @@ module _ (x : AreaIndex) (t : Tables) (image : ImageId) (given : List ℕ) (r : 
 
 -- ---- each call
 pub refuses-nothing-in : RefusesNothingIn
-unfolding newIn boundIn keepIn keeping.outOf seeIn flushIn takeIn hinting.outOf hinting.sawOf hinting.takenOf frontierIn boundaryAt newSizes fileSizes fileArea fold contentsIn contentsFrom discSizes bothSizes after firstNo numbersOf startedIn recorderOf hintRecorderIn hinting.createdOf hinting.lastFrom hinting.tailFrom addHintsIn hintIn planIn saveIn saveOut outOf isAccepted
+unfolding newIn boundIn keepIn keeping.outOf seeIn flushIn takeIn hinting.outOf hinting.sawOf hinting.takenOf frontierIn boundaryAt newSizes fileSizes fileArea fold contentsIn contentsFrom discSizes bothSizes after firstNo numbersOf startedIn recorderOf hintRecorderIn hinting.createdOf hinting.lastFrom hinting.tailFrom addHintsIn keepHintIn hintIn planIn saveIn saveOut outOf isAccepted
 refuses-nothing-in =
     record {
       made = λ t a k budget spacing most q1 q2 q3. rw (refuses-nothing .made (roomOf t) a k budget spacing most q1 q2 q3) refl;
@@ -181,6 +182,8 @@ refuses-nothing-in =
           rw (kinds-pass (kindsIn x t) (hintRecorder (roomOf t) (indexIn x t)) (v .kinds), refuses-nothing .hintRecorders (roomOf t) (indexIn x t) (v .valid), z) refl;
       addsHints = λ x t list v q.
           rw (kinds-pass (kindsIn x t) (addHints (roomOf t) (indexIn x t) (hintsOf list)) (v .kinds), refuses-nothing .addsHints (roomOf t) (indexIn x t) (hintsOf list) (v .valid) q) refl;
+      keepsHints = λ x t lsn v q.
+          rw (kinds-pass (kindsIn x t) (keepHint (roomOf t) (indexIn x t) lsn) (v .kinds), refuses-nothing .keepsHints (roomOf t) (indexIn x t) lsn (v .valid) q) refl;
       confirms = λ x t c v q k m.
           rw (kinds-pass (kindsIn x t) (keepConfirmation (roomOf t) (indexIn x t) c) (v .kinds), refuses-nothing .confirms (roomOf t) (indexIn x t) c (v .valid) q k m) refl;
       keepsNone = λ x t c v q k.

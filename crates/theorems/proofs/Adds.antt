@@ -14,8 +14,8 @@ use Rattle.rules.specs.Merge.{further, takenScan, mergedScan, merged, mergeNumb
 use Rattle.rules.specs.File.{over, hasHinting, versionOf, headerOf, hintSection, confirmedSection, bodyOf, saved}
 use Rattle.rules.proofs.Tests.{test, both, and-left, and-right, all→, →all, accepted→, accepted-eq, →after}
 use Rattle.rules.proofs.Same.{eqb-self, sameCheckpoint-self, sameCheckpoint-eq, sameEnd-self, sameEnd-eq}
-use Rattle.rules_lacks.specs.Lacks.{sameHint}
-use Rattle.rules_lacks.proofs.Laws.{sameHint-self, sameHint-eq}
+use Rattle.rules_lacks.specs.Lacks.{equalHint}
+use Rattle.rules_lacks.proofs.Laws.{equalHint-self, equalHint-eq}
 use Rattle.adds.specs.Same.{sameList, sameConfirmation}
 use Rattle.adds.proofs.compare.Same.{sameList-self, sameList-eq, sameConfirmation-self, sameConfirmation-eq}
 use Rattle.index.specs.Index.{Tables, roomOf, roomIn, indexIn, kindsIn, kinded, storeOf}
@@ -75,7 +75,7 @@ module _ (own other : Index) (e : noneButImage (bringsOf own (merged own other))
   hinting-same =
       let x = merged own other .hinting in
       let t = all→ _ e in
-      let e0 : own .hinting .hints ≡ x .hints = sameList-eq sameHint sameHint-eq _ _ (same-of (t .1 .1 .1 .1 .0)) in
+      let e0 : own .hinting .hints ≡ x .hints = sameList-eq equalHint equalHint-eq _ _ (same-of (t .1 .1 .1 .1 .0)) in
       let e1 : own .hinting .confirmed ≡ x .confirmed = sameList-eq sameConfirmation sameConfirmation-eq _ _ (same-of (t .1 .1 .1 .1 .1 .0)) in
       let f0 = sym e0 in let f1 = sym e1 in
       λ i. record { spacing = own .hinting .spacing; most = own .hinting .most; hints = f0 i; confirmed = f1 i }
@@ -109,7 +109,7 @@ module _ (own other : Index) where
         sameList-self sameFrame sameFrame-self (own .scan .frames),
         sameList-self sameHeld sameHeld-self (own .scan .parts),
         sameList-self eqb eqb-self (own .scan .malformed),
-        sameList-self sameHint sameHint-self (own .hinting .hints),
+        sameList-self equalHint equalHint-self (own .hinting .hints),
         sameList-self sameConfirmation sameConfirmation-self (own .hinting .confirmed),
         sameFingerprint-self (own .fingerprint),
         sameKnown-self eqb eqb-self (own .image),

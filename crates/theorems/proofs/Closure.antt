@@ -23,7 +23,7 @@ use Rattle.rules.specs.Sections.{countsOk, checkpointsOk, framesOk, partsOk, re
 use Rattle.rules.specs.Questions.{areaOk, heldOk, scanOk, question1, question2, question3, question4, recorderQuestion1, recorderQuestion2, recorderQuestion3, recorderQuestion4, hintRecorderFour}
 use Rattle.rules.specs.Create.{emptyIndex, new, bindFingerprint, emptyHintRecorder, hintRecorder}
 use Rattle.rules.specs.Record.{Assembling, recorded, recordAt, finish, Absorbed, absorbNumber, absorbedBy, absorbedIndex, absorb, emptied, withMode, isStopped}
-use Rattle.rules.specs.Hints.{Taken, SeenSector, spaced, listed, tailed, seenRecord, see, flushedList, flush, takeList, addHints, keepConfirmation, keepsNothing, question13, question14}
+use Rattle.rules.specs.Hints.{Taken, SeenSector, spaced, listed, tailed, seenRecord, see, flushedList, flush, takeList, unkept, addHints, keepHint, keepConfirmation, keepsNothing, question13, question14, question53, withMark}
 use Rattle.rules.specs.Merge.{merge, merged}
 use Rattle.rules.specs.Load.{load, limited, fromBytes}
 use Rattle.rules.proofs.Tests.{choose, given, and-left, and-right, →all, later, asked, asked→, accepted→, accepted-eq, bind→}
@@ -32,11 +32,12 @@ use Rattle.laws.specs.Kept.{Sound}
 use Rattle.laws.proofs.scans.Theorems.{absorb-sound}
 use Rattle.laws.proofs.scans.Scans.{scan-of}
 use Rattle.laws.proofs.scans.Record.{recorder-sound, record-sound, finish-sound, stopped-sound}
-use Rattle.laws.proofs.hint_lists.Calls.{HintingHolds, Answered, four→, taken, new-holds, bind-holds, add-hints-holds, keep-holds}
+use Rattle.laws.proofs.hint_lists.Calls.{HintingHolds, Answered, four→, taken, new-holds, bind-holds, add-hints-holds, mark-holds, keep-holds}
 use Rattle.laws.proofs.Loaded.{loaded-valid}
 use Rattle.theorems.proofs.CutLaws.{merged-one, merged-two, merged-three, merged-four, limited-two, limited-four}
 use Rattle.theorems.specs.Terms.{Valid, ValidRecorder, ValidHintRecorder}
 use Rattle.theorems.specs.Closure.{Closure}
+use Rattle.theorems.proofs.Hints.{unmarked-of}
 
 -- question 4 from its two parts
 four-of : (x : Index) → scanOk (x .scan) ≡ true → HintingHolds x → question4 x ≡ true
@@ -53,11 +54,17 @@ with-scan l x y e m v h =
 asked-valid : {A : Type 0} (l : Lengths) (x : Index) (q : Bool) (r y : A) → Answered l x q r y → Valid l x
 asked-valid l x q r y t = record { one = t .one; two = t .two; three = t .three; four = t .four }
 
-added-valid : (l : Lengths) (x y : Index) (list : List Hint) → addHints l x list ≡ Accepted y → Valid l y
+added-valid : (l : Lengths) (x y : Index) (list : List Hint) → unkept list ≡ list → addHints l x list ≡ Accepted y → Valid l y
 unfolding addHints
-added-valid l x y list e =
+added-valid l x y list n e =
     let t = four→ l x (question13 list) 13 _ y (omega arith) e in
-    with-scan l x y (ap (λ (z : Index). z .scan) (t .is)) (ap (λ (z : Index). z .hinting .most) (t .is)) (asked-valid l x _ _ y t) (add-hints-holds l x y list e)
+    with-scan l x y (ap (λ (z : Index). z .scan) (t .is)) (ap (λ (z : Index). z .hinting .most) (t .is)) (asked-valid l x _ _ y t) (add-hints-holds l x y list (unmarked-of list n) e)
+
+marked-valid : (l : Lengths) (x y : Index) (lsn : ℕ) → keepHint l x lsn ≡ Accepted y → Valid l y
+unfolding keepHint withMark
+marked-valid l x y lsn e =
+    let t = four→ l x (question53 (x .hinting) lsn) 53 _ y (omega arith) e in
+    with-scan l x y (ap (λ (z : Index). z .scan) (t .is)) (ap (λ (z : Index). z .hinting .most) (t .is)) (asked-valid l x _ _ y t) (mark-holds l x y lsn e)
 
 bound-valid : (l : Lengths) (x y : Index) (v : ℕ) → bindFingerprint l x v ≡ Accepted y → Valid l y
 unfolding bindFingerprint
@@ -223,7 +230,7 @@ module _ (n : ℕ) (r : HintRecorder) where
   unfolding seenRecord
   seen-few lsn (Nothing a) l = l
   seen-few lsn (Number t) l =
-      let h : Hint = record { lsn = lsn; number = t .number } in
+      let h : Hint = record { lsn = lsn; number = t .number; mark = 0 } in
       choose (λ (s : HintRecorder). length (s .list) ≤ maxList) (ltb max32 lsn) r _ (λ e. l)
       (λ e. choose (λ (s : HintRecorder). length (s .list) ≤ maxList) (spaced (r .last) (r .spacing) (t .number) && ltb (length (r .list)) maxList) (listed r h) (tailed r h)
       (λ d. let w = ltb-true (length (r .list)) maxList (and-right (spaced (r .last) (r .spacing) (t .number)) (ltb (length (r .list)) maxList) d) in omega (arith, length-snoc (r .list) h))
@@ -270,6 +277,7 @@ closure =
       flushed = flushed-valid;
       taken = taken-valid;
       hinted = added-valid;
+      marked = marked-valid;
       confirmed = confirmed-valid;
       loaded = loaded-passes;
       merged = merged-valid;

@@ -3,26 +3,29 @@ use mathlib.Core.Path.{_≡_, refl, sym, ap, subst, _∙_}
 use mathlib.Core.Bool.{Bool, true, false, cond}
 use mathlib.Core.List.{List, [], _∷_}
 use mathlib.Core.Option.{Option, none, some}
-use Prim.Native.Nat.{ℕ, _≤_}
+use Prim.Native.Nat.{ℕ, zero, suc, _/_, _≤_}
 use native.Mathlib.Omega.{arith}
 use lib.Dec.{eqb}
+use lib.ListN.{length, take, drop}
 use borrow.Author.Tests.{le-leb}
 use Rattle.field.specs.Records.{Bytes, records}
 use Rattle.rules.specs.declared.Area.{Area}
 use Rattle.rules.specs.declared.AreaIndex.{AreaIndex}
 use Rattle.rules.specs.declared.Confirmation.{Confirmation}
 use Rattle.rules.specs.declared.Fingerprint.the-variants.{Checked}
+use Rattle.rules.specs.declared.Hint.{Hint}
 use Rattle.rules.specs.Tests.{Answer, Refused, Accepted, each, ask, firstNo, agree}
-use Rattle.rules.specs.Values.{Index, Lengths, max64, stated, isChecked}
-use Rattle.rules.specs.Sizes.{sized}
+use Rattle.rules.specs.Values.{Hinting, Index, Lengths, max64, stated, isChecked}
+use Rattle.rules.specs.Sizes.{hintingSized, sized}
 use Rattle.rules.specs.Questions.{question1, question2, question3, question4, four}
 use Rattle.rules.specs.Create.{emptyIndex, new, bound, bindFingerprint}
-use Rattle.rules.specs.Hints.{question13, withHints, withHinting, addHints, question14, keepsNothing, keepConfirmation}
+use Rattle.rules.specs.Hints.{question13, withHints, withHinting, addHints, unkept, question53, withMark, keepHint, question14, keepsNothing, keepConfirmation}
+use Rattle.rules.specs.File.{decodeHint}
 use Rattle.rules.specs.Load.{load}
 use Rattle.rules.proofs.Tests.{all→, →all, accepted→}
 use Rattle.laws.specs.Statements.{Savable}
 use Rattle.laws.proofs.hint_lists.Closure.{keptHinting, add-hints-sized, keep-hinting-sized}
-use Rattle.tables.specs.Tables.{framesOf}
+use Rattle.tables.specs.Tables.{hintsIn, framesOf}
 use Rattle.tables.specs.Kinds.{kindsOk}
 use Rattle.index.specs.declared.Made.the-variants as made
 use Rattle.index.specs.Index.{Tables, roomOf, indexIn, kindsIn, kinded, endIn, endFrom, idIn, idFrom, numbersFrom, tablesFrom, tablesCleared, Out, out, outOf}
@@ -32,6 +35,7 @@ use Rattle.index.proofs.Lent.{sized-in}
 use Rattle.index.proofs.Standing.{stands, stands-cleared, kinds-from}
 use Rattle.add_hints.specs.JoinedMerged.{hintsOf, touched}
 use Rattle.add_hints.specs.Added.{addHintsIn}
+use Rattle.keep_hint.specs.Keep.{keepHintIn}
 use Rattle.confirmations.specs.declared.Kept.the-variants as kept
 use Rattle.confirmations.specs.Keeping.{keepIn}
 use Rattle.confirmations.specs.Keeping as keeping
@@ -107,6 +111,15 @@ put-stands l x n t t' v z e f =
     subst (λ (y : AreaIndex). Stands y t') e (subst (λ (u : Tables). Stands (numbersFrom x) u) f (stands-by l x (numbersFrom x) (tablesFrom x t) v (stands x t s) (kinds-from x t s)))
 
 -- ---- hints
+-- a delivered list has no marks
+records-unkept : (n : ℕ) (t : List ℕ) → unkept (hintsIn n t) ≡ hintsIn n t
+unfolding unkept records decodeHint
+records-unkept zero t = refl
+records-unkept (suc n) t = ap (λ (l : List Hint). decodeHint (take 8 t) ∷ l) (records-unkept n (drop 8 t))
+
+given-unkept : (list : List ℕ) → unkept (hintsOf list) ≡ hintsOf list
+given-unkept list = records-unkept (length list / 8) list
+
 hinted-in : (x : AreaIndex) (t : Tables) (list : List ℕ) (y : AreaIndex) (t' : Tables) → LentIn x t → addHintsIn x t list ≡ out (made.Index y) t' → Stands y t'
 unfolding addHintsIn addHints sized
 hinted-in x t list y t' a e =
@@ -116,13 +129,31 @@ hinted-in x t list y t' a e =
     let d = kinded→ (kindsIn x t) (addHints (roomOf t) j (hintsOf list)) (p .0) (p .1) in
     let i = withHinting j (withHints (j .scan .area) (j .hinting) (hintsOf list)) in
     let q : i ≡ p .0 = accepted→ (firstNo (four (roomOf t) j (ask (question13 (hintsOf list)) 13 ∷ []))) i (p .0) (d .1) .1 in
-    let v = closure .hinted (roomOf t) j (p .0) (hintsOf list) (d .1) in
+    let v = closure .hinted (roomOf t) j (p .0) (hintsOf list) (given-unkept list) (d .1) in
     let h = all→ _ (sized-in x t (a .typed) (a .bytes)) in
     let z : sized (p .0) ≡ true = subst (λ (u : Index). sized u ≡ true) q (→all _ (h .0, (add-hints-sized (j .scan .area) (j .hinting) (hintsOf list) (h .1 .0), (h .1 .1 .0, tt)))) in
     let s : Savable (p .0) = record { one = v .one; two = v .two; four = v .four; sizes = z } in
     subst (λ (n : AreaIndex). Stands n t') (p .2)
     (subst (λ (u : Tables). Stands (numbersFrom (p .0)) u) (p .3)
     (stands-by (roomOf t) (p .0) (numbersFrom (p .0)) (tablesCleared w (p .0) t) v (stands-cleared w (p .0) t s) (kinds-from (p .0) t s)))
+
+-- ---- kept marks
+mark-sized : (r : Hinting) (lsn : ℕ) → hintingSized r ≡ true → hintingSized (withMark r lsn) ≡ true
+unfolding hintingSized withMark
+mark-sized r lsn e = e
+
+marked-in : (x : AreaIndex) (t : Tables) (lsn : ℕ) (y : AreaIndex) (t' : Tables) → LentIn x t → keepHintIn x t lsn ≡ out (made.Index y) t' → Stands y t'
+unfolding keepHintIn keepHint sized
+marked-in x t lsn y t' a e =
+    let j = indexIn x t in
+    let p = put→ (λ z. tablesFrom z t) t (kinded (kindsIn x t) (keepHint (roomOf t) j lsn)) y t' e in
+    let d = kinded→ (kindsIn x t) (keepHint (roomOf t) j lsn) (p .0) (p .1) in
+    let i = withHinting j (withMark (j .hinting) lsn) in
+    let q : i ≡ p .0 = accepted→ (firstNo (four (roomOf t) j (ask (question53 (j .hinting) lsn) 53 ∷ []))) i (p .0) (d .1) .1 in
+    let v = closure .marked (roomOf t) j (p .0) lsn (d .1) in
+    let h = all→ _ (sized-in x t (a .typed) (a .bytes)) in
+    let z : sized (p .0) ≡ true = subst (λ (u : Index). sized u ≡ true) q (→all _ (h .0, (mark-sized (j .hinting) lsn (h .1 .0), (h .1 .1 .0, tt)))) in
+    put-stands (roomOf t) (p .0) y t t' v z (p .2) (p .3)
 
 -- ---- confirmations
 kept-is : (b : Bool) (i v : Index) → cond b none (some i) ≡ some v → i ≡ v
@@ -157,6 +188,7 @@ closure-in-tables =
       new = made-in;
       fingerprinted = bound-in;
       hinted = hinted-in;
+      marked = marked-in;
       confirmed = confirmed-in;
       loaded = loaded-in;
       merged = λ x t y u z t' a b e. let l = merge-left x t y u z t' a b e in stands-by (roomOf t) (l .list) z t' (l .valid) (l .stands) (l .kinds);

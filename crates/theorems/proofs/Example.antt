@@ -19,18 +19,20 @@ use Rattle.rules.specs.declared.Fingerprint.the-variants.{Unknown}
 use Rattle.rules.specs.declared.FrameKind.the-variants.{Dst, Dsd}
 use Rattle.rules.specs.Tests.{all, each, walk, lastOr, isSome, agree}
 use Rattle.rules.specs.Values.{Scan, Index, Lengths, boundaries, used, frontierOf, counted, stated, sameKind, noHeld}
-use Rattle.rules.specs.Sections.{countsOk, checkpointOk, checkpointsOk, frameOk, framesOk, follows, belongs, partOk, reached, partsOk, endOk, endingOk, risingOk, rising, malformedOk, hintsOk, confirmationsOk}
+use Rattle.rules.specs.Sections.{countsOk, checkpointOk, checkpointsOk, frameOk, framesOk, follows, belongs, partOk, reached, partsOk, endOk, endingOk, risingOk, rising, malformedOk, hintsOk, isKept, keptCount, marksOk, confirmationsOk}
 use Rattle.rules.specs.Questions.{areaOk, numbersOk, heldOk, scanOk, hintingOk, question1, question2, question3, question4, scanRoom, hintingRoom}
 use Rattle.rules.specs.Plan.{assemblyOf}
 use Rattle.rules.specs.Merge.{question42}
 use Rattle.rules.specs.Record.{below}
 use Rattle.rules.specs.Sizes.{keySized, frameSized, scanSized, knownSized, hintingSized, sized}
-use Rattle.rules.specs.File.{encodeCheckpoint, encodeFrameHeader, encodeHeld, encodeLsn, encodeHint, encodeConfirmation, over}
+use Rattle.rules.specs.File.{encodeCheckpoint, encodeFrameHeader, encodeHeld, encodeLsn, encodeConfirmation, over}
+use Rattle.tables.specs.Tables.{encodeKept}
+use Rattle.tables.proofs.Kept.{kept-layout}
 use Rattle.rules.specs.Run.{Reading, Cut, Place, countedFrom, Call, mergeRefusal}
 use Rattle.rules.proofs.Tests.{test}
 use Rattle.laws.specs.Statements.{Savable}
 use Rattle.laws.proofs.Facts.{SizeFacts, sized→, facts}
-use Rattle.laws.proofs.Layouts.{checkpoint-layout, lsn-layout, hint-layout, confirmation-layout, held-bytes}
+use Rattle.laws.proofs.Layouts.{checkpoint-layout, lsn-layout, confirmation-layout, held-bytes}
 use Rattle.laws.proofs.Readers.{each-bytes}
 use Rattle.index.specs.Index.{Tables, tables, roomOf, numbersFrom, tablesFrom, storeOf}
 use Rattle.index.proofs.Standing.{stands, kinds-from, within, room-from}
@@ -97,7 +99,7 @@ whole =
     (some 1)
 
 short-cut : Cut reading short
-unfolding all each walk lastOr isSome boundaries frontierOf counted stated countsOk checkpointOk checkpointsOk framesOk reached partsOk endingOk rising malformedOk hintsOk confirmationsOk areaOk numbersOk heldOk scanOk hintingOk question1 question2 question4 below keySized scanSized knownSized hintingSized sized countedFrom
+unfolding all each walk lastOr isSome boundaries frontierOf counted stated countsOk checkpointOk checkpointsOk framesOk reached partsOk endingOk rising malformedOk hintsOk isKept keptCount marksOk confirmationsOk areaOk numbersOk heldOk scanOk hintingOk question1 question2 question4 below keySized scanSized knownSized hintingSized sized countedFrom
 short-cut =
     record {
       one = refl;
@@ -113,7 +115,7 @@ short-cut =
     }
 
 whole-cut : Cut reading whole
-unfolding all each walk lastOr isSome boundaries frontierOf counted stated sameKind countsOk checkpointOk checkpointsOk frameOk framesOk follows belongs partOk reached partsOk endOk endingOk risingOk rising malformedOk hintsOk confirmationsOk areaOk numbersOk heldOk scanOk hintingOk question1 question2 question4 below keySized frameSized scanSized knownSized hintingSized sized countedFrom
+unfolding all each walk lastOr isSome boundaries frontierOf counted stated sameKind countsOk checkpointOk checkpointsOk frameOk framesOk follows belongs partOk reached partsOk endOk endingOk risingOk rising malformedOk hintsOk isKept keptCount marksOk confirmationsOk areaOk numbersOk heldOk scanOk hintingOk question1 question2 question4 below keySized frameSized scanSized knownSized hintingSized sized countedFrom
 whole-cut =
     record {
       one = refl;
@@ -222,7 +224,7 @@ lent-zeros x s h a b c d e f g =
             store = bytes-over (storeOf (x .scan .frames)) c (h .store);
             parts = bytes-over (bytesOf encodeHeld (x .scan .parts)) d (h .parts);
             malformed = bytes-over (bytesOf encodeLsn (x .scan .malformed)) e (bytesOf-bytes lsn-layout (x .scan .malformed));
-            hints = bytes-over (bytesOf encodeHint (x .hinting .hints)) f (bytesOf-bytes hint-layout (x .hinting .hints));
+            hints = bytes-over (bytesOf encodeKept (x .hinting .hints)) f (bytesOf-bytes kept-layout (x .hinting .hints));
             confirmed = bytes-over (bytesOf encodeConfirmation (x .hinting .confirmed)) g (bytesOf-bytes confirmation-layout (x .hinting .confirmed));
           };
     }

@@ -11,7 +11,8 @@ use Rattle.rules.specs.Values.{Index}
 use Rattle.rules.specs.Plan.{plan}
 use Rattle.rules_jump.specs.Names.{namedHint}
 use Rattle.rules_jump.proofs.Values.{named-none}
-use Rattle.rules.specs.File.{decodeHint, saved, save, over}
+use Rattle.tables.specs.Tables.{decodeKept}
+use Rattle.rules.specs.File.{saved, save, over}
 use Rattle.rules.proofs.Tests.{accepted→}
 use Rattle.laws.proofs.Facts.{sized→}
 use Rattle.laws.proofs.Length.{savedLength-is}
@@ -90,6 +91,6 @@ plan-looks-in =
 pub hint-looks-in : HintLooksIn
 unfolding hintIn
 hint-looks-in x t first end playtime i e l =
-    let n : i < length (indexIn x t .hinting .hints) = rw (records-length 8 decodeHint (x .hints) (t .hints)) l in
+    let n : i < length (indexIn x t .hinting .hints) = rw (records-length 8 decodeKept (x .hints) (t .hints)) l in
     hint-looks (roomOf t) (indexIn x t) first end playtime i
     (named-none (roomOf t) (indexIn x t) first end playtime (kinded→ (kindsIn x t) (namedHint (roomOf t) (indexIn x t) first end playtime) none e .1)) n

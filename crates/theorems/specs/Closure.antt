@@ -14,7 +14,7 @@ use Rattle.rules.specs.Values.{Index, Recorder, HintRecorder, Lengths, maxList}
 use Rattle.rules.specs.Questions.{recorderQuestion3}
 use Rattle.rules.specs.Create.{new, bindFingerprint, recorder, hintRecorder}
 use Rattle.rules.specs.Record.{Assembling, recordAt, finish, absorb}
-use Rattle.rules.specs.Hints.{Taken, SeenSector, see, flush, takeList, addHints, keepConfirmation}
+use Rattle.rules.specs.Hints.{Taken, SeenSector, see, flush, takeList, unkept, addHints, keepHint, keepConfirmation}
 use Rattle.rules.specs.Merge.{merge}
 use Rattle.rules.specs.Load.{load}
 use Rattle.theorems.specs.Terms.{Valid, ValidRecorder, ValidHintRecorder}
@@ -40,7 +40,9 @@ pub record Closure : Type 0 where
   pub seen : (n : ℕ) (r : HintRecorder) (lsn : ℕ) (sector : List ℕ) (s : SeenSector) → see n r lsn sector ≡ Accepted s → ValidHintRecorder n (s .recorder)
   pub flushed : (n : ℕ) (r s : HintRecorder) → flush n r ≡ Accepted s → ValidHintRecorder n s
   pub taken : (n : ℕ) (r : HintRecorder) (t : Taken) → takeList n r ≡ Accepted t → ValidHintRecorder n (t .recorder)
-  pub hinted : (l : Lengths) (x y : Index) (list : List Hint) → addHints l x list ≡ Accepted y → Valid l y
+  -- a delivered list has no marks
+  pub hinted : (l : Lengths) (x y : Index) (list : List Hint) → unkept list ≡ list → addHints l x list ≡ Accepted y → Valid l y
+  pub marked : (l : Lengths) (x y : Index) (lsn : ℕ) → keepHint l x lsn ≡ Accepted y → Valid l y
   pub confirmed : (l : Lengths) (x y : Index) (c : Confirmation) → keepConfirmation l x c ≡ Accepted (some y) → Valid l y
   pub loaded : (l : Lengths) (a : Area) (b : List ℕ) (limit : ℕ) (y : Index) → Bytes b → load l a b limit ≡ Accepted y → Valid l y
   pub merged : (l m : Lengths) (own other y : Index) → merge l own m other ≡ Accepted y → Valid l y

@@ -19,6 +19,7 @@ use Rattle.index.specs.declared.Made.the-variants as made
 use Rattle.index.specs.Index.{Tables, indexIn, kindsIn, out}
 use Rattle.index.specs.Calls.{newIn, boundIn}
 use Rattle.add_hints.specs.Added.{addHintsIn}
+use Rattle.keep_hint.specs.Keep.{keepHintIn}
 use Rattle.confirmations.specs.declared.Kept.the-variants as kept
 use Rattle.confirmations.specs.Keeping.{keepIn}
 use Rattle.confirmations.specs.Keeping as keeping
@@ -50,6 +51,7 @@ pub record ClosureInTables : Type 0 where
   pub new : (t : Tables) (a : Area) (k budget spacing most : ℕ) (x : AreaIndex) → newIn t a k budget spacing most ≡ Accepted x → Stands x t
   pub fingerprinted : (x : AreaIndex) (t : Tables) (v : ℕ) (y : AreaIndex) → boundIn x t v ≡ Accepted y → Stands y t
   pub hinted : (x : AreaIndex) (t : Tables) (list : List ℕ) (y : AreaIndex) (t' : Tables) → LentIn x t → addHintsIn x t list ≡ out (made.Index y) t' → Stands y t'
+  pub marked : (x : AreaIndex) (t : Tables) (lsn : ℕ) (y : AreaIndex) (t' : Tables) → LentIn x t → keepHintIn x t lsn ≡ out (made.Index y) t' → Stands y t'
   pub confirmed : (x : AreaIndex) (t : Tables) (c : Confirmation) (y : AreaIndex) (t' : Tables) → LentIn x t → c .digest ≤ max64
       → keepIn x t c ≡ keeping.out (kept.Index y) t' → Stands y t'
   pub loaded : (a : Area) (b : List ℕ) (limit : ℕ) (t : Tables) (y : AreaIndex) (t' : Tables) → Bytes b → loadIn a b limit t ≡ out (made.Index y) t' → Stands y t'

@@ -21,7 +21,7 @@ use Rattle.rules.specs.Plan.{jump, planned, bytesAt}
 use Rattle.index.specs.Index.{storeOf}
 use Rattle.rules.specs.Run.{Content, contentOf, Reading, Cut}
 use Rattle.rules.specs.Sections.{ownLsn}
-use Rattle.rules.specs.Hints.{insertAll, thin, keepsNothing, confirmedAt, Hinted, hint}
+use Rattle.rules.specs.Hints.{insertAll, unkept, thin, keepsNothing, confirmedAt, Hinted, hint}
 use Rattle.rules.specs.PartRule.{stores, piece, addParts}
 use Rattle.rules.specs.Merge.{merge}
 use Rattle.laws.specs.Order.{Rises}
@@ -30,7 +30,7 @@ use Rattle.adds.specs.Brings.{brings}
 use Rattle.rules_lacks.specs.declared.Lacks.{Lacks}
 use Rattle.rules_lacks.specs.Lacks.{covers, missing, lacking, holdsAll, lacks}
 use Rattle.theorems.specs.Terms.{Holds, storedIn}
-use Rattle.theorems.specs.Hints.{One, Among}
+use Rattle.theorems.specs.Hints.{One, Among, Stands}
 use Rattle.theorems.specs.Adds.{noneButImage}
 
 -- one of cs confirms the LSN of d, by the same digest and from no higher threshold on
@@ -61,8 +61,8 @@ pub record Serves (own other : Index) : Type 0 where
   -- and where both plan one checkpoint and the other names a part, it names the same, byte for byte
   pub plans : (t : ℕ) (r s : Resume) (h : HeldPart) → planned (other .scan) t ≡ At r → planned (own .scan) t ≡ At s → s .number ≡ r .number → r .assembly ≡ Stored h
       → (k : HeldPart) × (s .assembly ≡ Stored k) × SamePart (own .scan .frames) k (other .scan .frames) h
-  -- every hint is one of its own, and every confirmation, or a better one
-  pub hints : (h : Hint) → Among (other .hinting .hints) h → Among (own .hinting .hints) h
+  -- every hint is one of its own, kept or not, and every confirmation, or a better one
+  pub hints : (h : Hint) → Among (other .hinting .hints) h → Stands (own .hinting .hints) h
   pub confirmed : (i : ℕ) → i < length (other .hinting .confirmed) → Confirms (own .hinting .confirmed) (getD (other .hinting .confirmed) i noConfirmation)
   -- it states the other's fingerprint
   pub fingerprint : (v : ℕ) → stated (other .fingerprint) ≡ some v → stated (own .fingerprint) ≡ some v
@@ -150,7 +150,7 @@ MergeMalformed =
 -- ---- and which of them
 -- the hints of both in the order of their LSNs, before thinning
 abbrev pub together : Index → Index → List Hint
-together own other = insertAll (own .scan .area) (own .hinting .hints) (other .hinting .hints)
+together own other = insertAll (own .scan .area) (own .hinting .hints) (unkept (other .hinting .hints))
 
 -- they are more than M, and y has M − M/4 of them
 pub record Thinned (own other y : Index) : Type 0 where
@@ -188,8 +188,8 @@ pub record MergeLeaves (own other y : Index) : Type 0 where
   pub parts' :
       (xs ys : List Held) (q : Held) → other .scan .parts ≡ xs ++ (q ∷ ys)
       → Holds (storedIn (y .scan)) (q .at) (contentOf (other .scan .frames) q) ⊎ ((q .at < count (own .scan)) ⊎ (admitted own other xs q ≡ false))
-  -- hints where M is 0, or that are thinned
-  pub hints' : (h : Hint) → Among (other .hinting .hints) h → Among (y .hinting .hints) h ⊎ ((own .hinting .most ≡ 0) ⊎ Thinned own other y)
+  -- hints where M is 0, or that are thinned; their marks are not taken
+  pub hints' : (h : Hint) → Among (other .hinting .hints) h → Stands (y .hinting .hints) h ⊎ ((own .hinting .most ≡ 0) ⊎ Thinned own other y)
   -- confirmations, all of them where the own fingerprint is unchecked or M is 0, else those that are pushed out
   pub confirmed' :
       (i : ℕ) → i < length (other .hinting .confirmed)

@@ -15,7 +15,7 @@ use Rattle.rules.specs.Load.{limited, fromBytes, load}
 use Rattle.laws.specs.Statements.{stripped}
 use Rattle.theorems.specs.Terms.{Ample}
 
--- a saved list loads as itself, image id and checked mark apart, in tables that are long enough and under a limit that drops nothing
+-- a saved list loads as itself, image id, checked mark and kept marks apart, in tables that are long enough and under a limit that drops nothing
 abbrev pub SavedLoads : Type 0
 SavedLoads =
     (l m : Lengths) (x : Index) (out limit : ℕ) (b : List ℕ) → sized x ≡ true → save l x out ≡ Accepted b → question3 m x ≡ true → Ample limit x

@@ -23,7 +23,7 @@ use Rattle.rules.specs.Sections.{endOk}
 use Rattle.rules.specs.Questions.{areaOk, question1, question2, question3, endOf}
 use Rattle.rules.specs.Create.{emptyIndex, new, bound, bindFingerprint, emptyRecorder, recorder, emptyHintRecorder, hintRecorder}
 use Rattle.rules.specs.Record.{Assembling, isRunning, nextNumber, question5, question6, question7, recorded, recordAt, withMode, finish, question8, question9, question10, question11, question12, absorbedIndex, below, emptied, isStopped, absorb}
-use Rattle.rules.specs.Hints.{thin, lastOnes, joinedHints, keepsNothing, keep, keepAll, seenRecord, see, flushedList, flush, takeList, question13, withHints, withHinting, withConfirmed, addHints, question14, keepConfirmation, near, hint}
+use Rattle.rules.specs.Hints.{thin, lastOnes, unkept, joinedHints, keepsNothing, keep, keepAll, seenRecord, see, flushedList, flush, takeList, question13, withHints, withHinting, withConfirmed, addHints, question53, withMark, keepHint, question14, keepConfirmation, near, hint}
 use Rattle.rules.specs.Merge.{question41, question42, question43, further, merged, merge}
 use Rattle.rules.specs.File.{savedLength, saved, save}
 use Rattle.rules.specs.Load.{fromBytes, limited, load}
@@ -73,6 +73,8 @@ pub record RefusesNothing : Type 0 where
   pub addsHints :
       (l : Lengths) (x : Index) (list : List Hint) → Valid l x → question13 list ≡ true
       → addHints l x list ≡ Accepted (withHinting x (withHints (x .scan .area) (x .hinting) list))
+  pub keepsHints :
+      (l : Lengths) (x : Index) (lsn : ℕ) → Valid l x → question53 (x .hinting) lsn ≡ true → keepHint l x lsn ≡ Accepted (withHinting x (withMark (x .hinting) lsn))
   pub confirms :
       (l : Lengths) (x : Index) (c : Confirmation) → Valid l x → question14 (x .scan .area) c ≡ true → isChecked (x .fingerprint) ≡ true → x .hinting .most ≢ 0
       → keepConfirmation l x c ≡ Accepted (some (withHinting x (withConfirmed (x .hinting) (keep true (x .hinting .most) (x .hinting .confirmed) c))))
@@ -108,10 +110,10 @@ pub record LoadOf (limit : ℕ) (x y : Index) : Type 0 where
   -- the budget, and the parts that fit it
   pub budget : y .scan .budget ≡ min (x .scan .budget) limit
   pub parts : LoadedParts limit (x .scan) (y .scan)
-  -- M, as many of the hints, and the last confirmations
+  -- M, as many of the hints, without marks, and the last confirmations
   pub spacing : y .hinting .spacing ≡ x .hinting .spacing
   pub most : y .hinting .most ≡ min (x .hinting .most) (limit / 8)
-  pub hints : y .hinting .hints ≡ thin (y .hinting .most) (x .hinting .hints)
+  pub hints : y .hinting .hints ≡ thin (y .hinting .most) (unkept (x .hinting .hints))
   pub confirmed : y .hinting .confirmed ≡ lastOnes (min (y .hinting .most) (limit / 16)) (x .hinting .confirmed)
   pub fingerprint : stated (y .fingerprint) ≡ stated (x .fingerprint)
 
@@ -138,8 +140,8 @@ pub record MergedOf (own other y : Index) : Type 0 where
   pub image : y .image ≡ orElse (own .image) (other .image)
   pub fingerprint : stated (y .fingerprint) ≡ orElse (stated (own .fingerprint)) (stated (other .fingerprint))
   pub checked : isChecked (y .fingerprint) ≡ isChecked (own .fingerprint)
-  -- the other's hints and confirmations come to the own ones by the rules of add_hints and keep_confirmation
-  pub hints : y .hinting .hints ≡ joinedHints (own .scan .area) (own .hinting .most) (own .hinting .hints) (other .hinting .hints)
+  -- the other's hints, without their marks, and confirmations come to the own ones by the rules of add_hints and keep_confirmation
+  pub hints : y .hinting .hints ≡ joinedHints (own .scan .area) (own .hinting .most) (own .hinting .hints) (unkept (other .hinting .hints))
   pub confirmed :
       y .hinting .confirmed ≡ keepAll (isChecked (own .fingerprint)) (own .hinting .most) (own .hinting .confirmed) (other .hinting .confirmed)
 

@@ -30,7 +30,7 @@ use Rattle.rules.specs.Questions.{areaOk, numbersOk, question1, question2, ques
 use Rattle.rules.specs.Create.{emptyIndex, bound}
 use Rattle.rules.specs.Record.{isRunning, nextNumber, question5, question6, question7, recorded, withMode, isStopped, question8, question9, question10, question11, question12, absorbedIndex, emptied}
 use Rattle.rules.specs.Hints as rules
-use Rattle.rules.specs.Hints.{see, flushedList, near, question13, withHints, withHinting, question14, keepsNothing, keep, withConfirmed}
+use Rattle.rules.specs.Hints.{see, flushedList, near, question13, withHints, withHinting, question53, withMark, question14, keepsNothing, keep, withConfirmed}
 use Rattle.rules.specs.Load.{keyOf, bodyIn, fileNumber, fromBytes, limited}
 use Rattle.rules.specs.Merge.{question41, question42, question43, merged}
 use Rattle.rules.specs.File.{readHeader, encodeHint, savedLength, saved, over}
@@ -55,6 +55,7 @@ use Rattle.hint_recorder.specs.Recorder.{hintRecorderIn, seeIn, flushIn, takeIn
 use Rattle.hint_recorder.specs.Recorder as hinting
 use Rattle.add_hints.specs.JoinedMerged.{hintsOf, touched}
 use Rattle.add_hints.specs.Added.{addHintsIn}
+use Rattle.keep_hint.specs.Keep.{keepHintIn}
 use Rattle.confirmations.specs.declared.Kept.the-variants as keptAs
 use Rattle.confirmations.specs.Keeping.{keepIn}
 use Rattle.confirmations.specs.Keeping as keeping
@@ -112,6 +113,8 @@ pub record RefusesNothingIn : Type 0 where
   pub addsHints : (x : AreaIndex) (t : Tables) (list : List ℕ) → ValidIn x t → question13 (hintsOf list) ≡ true
       → let i = indexIn x t in let y = withHinting i (withHints (x .area) (i .hinting) (hintsOf list)) in
       addHintsIn x t list ≡ out (madeAs.Index (numbersFrom y)) (tablesCleared (touched (x .most) (x .hints) list) y t)
+  pub keepsHints : (x : AreaIndex) (t : Tables) (lsn : ℕ) → ValidIn x t → let i = indexIn x t in question53 (i .hinting) lsn ≡ true
+      → let y = withHinting i (withMark (i .hinting) lsn) in keepHintIn x t lsn ≡ out (madeAs.Index (numbersFrom y)) (tablesFrom y t)
   pub confirms : (x : AreaIndex) (t : Tables) (c : Confirmation) → ValidIn x t → question14 (x .area) c ≡ true → isChecked (x .fingerprint) ≡ true → x .most ≢ 0
       → let i = indexIn x t in let y = withHinting i (withConfirmed (i .hinting) (keep true (x .most) (i .hinting .confirmed) c)) in
       keepIn x t c ≡ keeping.out (keptAs.Index (numbersFrom y)) (tablesFrom y t)

@@ -1,20 +1,21 @@
 -- A cutoff gap and a number of those at it keep the same hints as the ranks. Assumes nothing.
 use mathlib.Core.Path.{_≡_, refl, sym, ap, _∙_}
-use mathlib.Core.Bool.{Bool, true, false, _&&_, _||_}
+use mathlib.Core.Bool.{Bool, true, false, not, _&&_, _||_}
 use mathlib.Core.List.{List}
 use Prim.Native.Nat.{ℕ, zero, suc, _+_, _-_, _<_, _≤_}
 use native.Mathlib.Numerals.{add-one}
 use native.Mathlib.Omega.{arith}
-use borrow.Author.Tests.{ltb-true, lt-ltb, le-ltb, le-leb, lt-leb, eq-eqb, ne-eqb}
+use borrow.Author.Tests.{leb-true, leb-false, ltb-true, lt-ltb, le-ltb, le-leb, lt-leb, eq-eqb, ne-eqb}
 use lib.Dec.{leb, ltb, eqb}
 use lib.ListN.{length, getD}
 use Rattle.rules.specs.declared.Hint.{Hint}
 use Rattle.rules.specs.Values.{noHint}
-use Rattle.rules.specs.Hints.{countOf, rise, gap, sooner, rank, kept, thin}
+use Rattle.rules.specs.Sections.{isKept}
+use Rattle.rules.specs.Hints.{countOf, rise, riseAt, gap, sooner, rank, kept, thin}
 use Rattle.rules.proofs.Tests.{test, order, never}
 use Rattle.laws.proofs.hint_lists.Ranks.{count-none, count-next, count-same, count-every, count-mono}
 use Rattle.thin.specs.declared.Cut.{Cut}
-use Rattle.thin.specs.Thin.{one, below, level, stays, remaining, ahead, Cuts}
+use Rattle.thin.specs.Thin.{one, below, level, stays, remaining, ahead, gapFrom, Cuts}
 
 -- ---- counting
 pub one-yes : {b : Bool} → b ≡ true → one b ≡ 1
@@ -134,10 +135,14 @@ unfolding thin
 thin-cut most hs k u = kept-same (stays hs k) (λ i. leb (length hs - most) (rank hs i)) hs (length hs) (λ i h. stays-rank hs (length hs - most) i k u h)
 
 -- ---- gaps as the passes compute them
-pub gap-at : (hs : List Hint) (i : ℕ) → getD hs i noHint .number < 4294967296 → rise (ahead hs i) (getD hs i noHint .number) ≡ gap hs i
-unfolding gap ahead rise
-gap-at hs zero h = rw (le-ltb 4294967295 (getD hs 0 noHint .number) (omega arith))
-gap-at hs (suc i) h = refl
+rise-at : (hs : List Hint) (i : ℕ) → getD hs i noHint .number < 4294967296 → rise (ahead hs i) (getD hs i noHint .number) ≡ riseAt hs i
+unfolding riseAt ahead rise
+rise-at hs zero h = rw (le-ltb 4294967295 (getD hs 0 noHint .number) (omega arith))
+rise-at hs (suc i) h = refl
+
+pub gap-at : (hs : List Hint) (i : ℕ) → getD hs i noHint .number < 4294967296 → gapFrom (ahead hs i) (getD hs i noHint) ≡ gap hs i
+unfolding gap gapFrom
+gap-at hs i h = rw (rise-at hs i h)
 
 pub ahead-next : (hs : List Hint) (i : ℕ) → ahead hs (i + 1) ≡ getD hs i noHint .number
 unfolding ahead
@@ -147,5 +152,17 @@ rise-fits : (p x : ℕ) → x < 4294967296 → rise p x < 4294967296
 unfolding rise
 rise-fits p x h = test (ltb p x) (λ e. rw e (omega arith)) (λ e. rw e (omega arith))
 
-pub gap-fits : (hs : List Hint) (i : ℕ) → getD hs i noHint .number < 4294967296 → gap hs i < 4294967296
-gap-fits hs i h = rw (gap-at hs i h) at (rise-fits (ahead hs i) (getD hs i noHint .number) h)
+pub gap-fits : (hs : List Hint) (i : ℕ) → getD hs i noHint .number < 4294967296 → gap hs i < 4294967297
+unfolding gap
+gap-fits hs i h =
+    let r : riseAt hs i < 4294967296 = rw (rise-at hs i h) at (rise-fits (ahead hs i) (getD hs i noHint .number) h) in
+    test (isKept (getD hs i noHint)) (λ e. rw e (omega arith)) (λ e. rw e (omega arith))
+
+-- a bound of 32 bits: a kept hint is above it
+pub within-is : {r : ℕ} {b : Bool} (before : ℕ) (h : Hint) (g : ℕ) → g < 4294967296 → r ≡ rise before (h .number) → b ≡ (not (eqb (h .mark) 1) && leb r g)
+    → b ≡ ltb (gapFrom before h) (g + 1)
+unfolding gapFrom isKept
+within-is before h g l e f =
+    f ∙ rw e (test (eqb (h .mark) 1) (λ k. rw (k, le-ltb 4294967296 (g + 1) (omega arith)))
+    (λ k. rw k (test (leb (rise before (h .number)) g) (λ t. let w = leb-true (rise before (h .number)) g t in rw (t, lt-ltb (rise before (h .number)) (g + 1) (omega arith)))
+    (λ t. let w = leb-false (rise before (h .number)) g t in rw (t, le-ltb (rise before (h .number)) (g + 1) (omega arith))))))

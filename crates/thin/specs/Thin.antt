@@ -7,8 +7,9 @@ use lib.Dec.{eqb, leb, ltb}
 use lib.ListN.{length, getD}
 use Rattle.rules.specs.declared.Hint.{Hint}
 use Rattle.rules.specs.Values.{noHint, max32}
-use Rattle.rules.specs.File.{encodeHint}
+use Rattle.rules.specs.Sections.{isKept}
 use Rattle.rules.specs.Hints.{countOf, rise, gap, kept}
+use Rattle.tables.specs.Tables.{encodeKept}
 use Rattle.laws.specs.Passes.{Begins}
 use Rattle.thin.specs.declared.Cut.{Cut}
 use Rattle.thin.specs.declared.Place.{Place}
@@ -41,6 +42,10 @@ unfoldable pub ahead : List Hint → ℕ → ℕ
 ahead hs zero = max32
 ahead hs (suc i) = getD hs i noHint .number
 
+-- the gap of a hint behind that number
+unfoldable pub gapFrom : ℕ → Hint → ℕ
+gapFrom before h = cond (isKept h) (suc max32) (rise before (h .number))
+
 -- the cutoff c drops e of the hints
 pub record Cuts (hs : List Hint) (e : ℕ) (c : Cut) : Type 0 where
   pub sum : lower hs (c .gap) + c .rest ≡ e
@@ -53,18 +58,18 @@ firstPlace c = record { left = c .rest; before = max32; kept = 0 }
 -- does the next hint stay?
 unfoldable pub stayed : Cut → Place → Hint → Bool
 stayed c p h =
-    let g = rise (p .before) (h .number) in
+    let g = gapFrom (p .before) h in
     ltb (c .gap) g || (eqb g (c .gap) && eqb (p .left) 0)
 
 -- the place behind it
 abbrev pub nextPlace : Cut → Place → Hint → Place
 nextPlace c p h =
     record {
-      left = p .left - one (eqb (rise (p .before) (h .number)) (c .gap));
+      left = p .left - one (eqb (gapFrom (p .before) h) (c .gap));
       before = h .number;
       kept = p .kept + one (stayed c p h);
     }
 
 -- the table new is old with the r hints xs at its start
 abbrev pub Starts : List Hint → ℕ → List ℕ → List ℕ → Type 0
-Starts xs r old new = Begins 8 encodeHint xs r old new
+Starts xs r old new = Begins 8 encodeKept xs r old new

@@ -1,21 +1,21 @@
 // Thinning of hints without a second table: the cutoff gap by bisection, then one pass that keeps what stays.
 pub mod gaps;
 
-use crate::gaps::is_kept;
-use crate::gaps::rise_of;
+use crate::gaps::gap_of;
+use crate::gaps::is_within;
+use crate::gaps::stays_at;
 use field::copy_first;
-use field::write_u32;
 use rules::Hint;
 use tables::read_hint;
+use tables::write_hint;
 ghost use mathlib.Core.Path.{_≡_};
 ghost use Prim.Native.Nat.{_+_, _<_, _≤_, _-_, _*_, min};
 ghost use lib.ListN.{length};
 ghost use mathlib.Core.Bool.{cond, _&&_, _||_};
 ghost use lib.Dec.{eqb, ltb};
 ghost use lib.Seq.{sets};
-ghost use Rattle.rules.specs.File.{encodeHint};
-ghost use Rattle.rules.specs.Hints.{rise, thin};
-ghost use Rattle.tables.specs.Tables.{hintsIn};
+ghost use Rattle.rules.specs.Hints.{thin};
+ghost use Rattle.tables.specs.Tables.{encodeKept, keptIn};
 ghost use Rattle.thin.specs.Thin.{one, lower, remaining, stayed, firstPlace, nextPlace, Cuts, Starts};
 
 fn one_of(b: bool) -> usize
@@ -24,21 +24,29 @@ fn one_of(b: bool) -> usize
     if b { 1 } else { 0 }
 }
 
-// How many gaps of the n hints are below g.
-fn count_below(t: &[u8], n: usize, g: u32) -> usize
+// How many gaps of the n hints are at most g.
+fn count_to(t: &[u8], n: usize, g: u32) -> usize
     requires { ⌜ n * 8 ≤ length (now t) ⌝ }
-    ensures { λ r. ⌜ r ≡ lower (hintsIn n (now (t .entry))) g ⌝ }
+    ensures { λ r. ⌜ r ≡ lower (keptIn n (now (t .entry))) (g + 1) ⌝ }
 {
     let mut found: usize = 0;
     let mut before: u32 = 4294967295;
     let mut i: usize = 0;
     while i < n {
         let h = read_hint(t, i);
-        found += one_of(rise_of(before, h.number) < g as u64);
+        found += one_of(is_within(before, h, g));
         before = h.number;
         i += 1;
     }
     found
+}
+
+// How many gaps of the n hints are below g.
+fn count_below(t: &[u8], n: usize, g: u64) -> usize
+    requires { ⌜ (n * 8 ≤ length (now t)) × (1 ≤ g) × (g ≤ 4294967296) ⌝ }
+    ensures { λ r. ⌜ r ≡ lower (keptIn n (now (t .entry))) g ⌝ }
+{
+    count_to(t, n, (g - 1) as u32)
 }
 
 // A cutoff: all gaps below `gap` go, and the first `rest` at it.
@@ -47,13 +55,13 @@ pub struct Cut {
     pub rest: usize,
 }
 
-// A gap between two bounds: the middle, but below the double of the lower one and 64 as long as the upper one is 2^32.
+// A gap between two bounds: the middle, but below the double of the lower one and 64 as long as the upper one is 2^32 + 1.
 fn probe(low: u64, high: u64) -> u64
-    requires { ⌜ (low + 1 < high) × (high ≤ 4294967296) ⌝ }
+    requires { ⌜ (low + 1 < high) × (high ≤ 4294967297) ⌝ }
     ensures { λ r. ⌜ (low < r) × (r < high) ⌝ }
 {
     let mid = (low + high) / 2;
-    if high < 4294967296 {
+    if high < 4294967297 {
         return mid;
     }
     let near = low * 2 + 64;
@@ -63,14 +71,14 @@ fn probe(low: u64, high: u64) -> u64
 // The cutoff that drops `excess` of the n hints, by bisection.
 pub fn cutoff(t: &[u8], n: usize, excess: usize) -> Cut
     requires { ⌜ (n * 8 ≤ length (now t)) × (excess ≤ n) ⌝ }
-    ensures { λ r. ⌜ Cuts (hintsIn n (now (t .entry))) excess r ⌝ }
+    ensures { λ r. ⌜ Cuts (keptIn n (now (t .entry))) excess r ⌝ }
 {
     let mut low: u64 = 0;
-    let mut high: u64 = 4294967296;
+    let mut high: u64 = 4294967297;
     let mut less: usize = 0;
     while low + 1 < high {
         let mid = probe(low, high);
-        let m = count_below(t, n, mid as u32);
+        let m = count_below(t, n, mid);
         if m == excess {
             return Cut { gap: mid, rest: 0 };
         }
@@ -100,16 +108,6 @@ pub fn spent(left: usize, hit: bool) -> usize
     left
 }
 
-// Hint number j of a table.
-pub fn write_hint(t: &mut [u8], j: usize, h: Hint)
-    requires { ⌜ j * 8 + 8 ≤ length (now t) ⌝ }
-    ensures { λ _. ⌜ now (t .exit) ≡ sets (now (t .entry)) (j * 8) (encodeHint h) ⌝ }
-{
-    let at = j * 8;
-    write_u32(t, at, h.lsn);
-    write_u32(t, at + 4, h.number);
-}
-
 // Where a pass is: how many more at the cutoff go, the number before, and how many hints are kept.
 struct Place {
     left: usize,
@@ -130,11 +128,11 @@ fn first_place(cut: Cut) -> Place
 // The next hint of a pass, kept or dropped.
 fn turn(t: &mut [u8], h: Hint, cut: Cut, p: Place) -> Place
     requires { ⌜ (p .kept + one (stayed cut p h)) * 8 ≤ length (now t) ⌝ }
-    ensures { λ r. ⌜ (r ≡ nextPlace cut p h) × (now (t .exit) ≡ cond (stayed cut p h) (sets (now (t .entry)) (p .kept * 8) (encodeHint h)) (now (t .entry))) ⌝ }
+    ensures { λ r. ⌜ (r ≡ nextPlace cut p h) × (now (t .exit) ≡ cond (stayed cut p h) (sets (now (t .entry)) (p .kept * 8) (encodeKept h)) (now (t .entry))) ⌝ }
 {
-    let g = rise_of(p.before, h.number);
+    let g = gap_of(p.before, h);
     let left = spent(p.left, g == cut.gap);
-    if is_kept(g, cut.gap, p.left) {
+    if stays_at(g, cut.gap, p.left) {
         write_hint(t, p.kept, h);
         return Place {
             left,
@@ -150,8 +148,8 @@ fn turn(t: &mut [u8], h: Hint, cut: Cut, p: Place) -> Place
 
 // The hints of src that stay, at the start of dst.
 fn keep_into(dst: &mut [u8], src: &[u8], n: usize, cut: Cut) -> usize
-    requires { ⌜ (n * 8 ≤ length (now src)) × (length (remaining (hintsIn n (now src)) cut) * 8 ≤ length (now dst)) ⌝ }
-    ensures { λ r. ⌜ Starts (remaining (hintsIn n (now (src .entry))) cut) r (now (dst .entry)) (now (dst .exit)) ⌝ }
+    requires { ⌜ (n * 8 ≤ length (now src)) × (length (remaining (keptIn n (now src)) cut) * 8 ≤ length (now dst)) ⌝ }
+    ensures { λ r. ⌜ Starts (remaining (keptIn n (now (src .entry))) cut) r (now (dst .entry)) (now (dst .exit)) ⌝ }
 {
     let mut p = first_place(cut);
     let mut i: usize = 0;
@@ -165,7 +163,7 @@ fn keep_into(dst: &mut [u8], src: &[u8], n: usize, cut: Cut) -> usize
 // The hints of t that stay, closed up.
 fn close_up(t: &mut [u8], n: usize, cut: Cut) -> usize
     requires { ⌜ n * 8 ≤ length (now t) ⌝ }
-    ensures { λ r. ⌜ Starts (remaining (hintsIn n (now (t .entry))) cut) r (now (t .entry)) (now (t .exit)) ⌝ }
+    ensures { λ r. ⌜ Starts (remaining (keptIn n (now (t .entry))) cut) r (now (t .entry)) (now (t .exit)) ⌝ }
 {
     let mut p = first_place(cut);
     let mut i: usize = 0;
@@ -180,7 +178,7 @@ fn close_up(t: &mut [u8], n: usize, cut: Cut) -> usize
 // The n hints of src thinned to `most`, at the start of dst. Answers how many are left.
 pub fn thin_into(dst: &mut [u8], src: &[u8], n: usize, most: usize) -> usize
     requires { ⌜ (n * 8 ≤ length (now src)) × (min n most * 8 ≤ length (now dst)) ⌝ }
-    ensures { λ r. ⌜ Starts (thin most (hintsIn n (now (src .entry)))) r (now (dst .entry)) (now (dst .exit)) ⌝ }
+    ensures { λ r. ⌜ Starts (thin most (keptIn n (now (src .entry)))) r (now (dst .entry)) (now (dst .exit)) ⌝ }
 {
     if n <= most {
         copy_first(dst, src, n * 8);
@@ -192,7 +190,7 @@ pub fn thin_into(dst: &mut [u8], src: &[u8], n: usize, most: usize) -> usize
 // The first n hints of t thinned to `most` in place. Past those left the table is as it was.
 pub fn thin_hints(t: &mut [u8], n: usize, most: usize) -> usize
     requires { ⌜ n * 8 ≤ length (now t) ⌝ }
-    ensures { λ r. ⌜ Starts (thin most (hintsIn n (now (t .entry)))) r (now (t .entry)) (now (t .exit)) ⌝ }
+    ensures { λ r. ⌜ Starts (thin most (keptIn n (now (t .entry)))) r (now (t .entry)) (now (t .exit)) ⌝ }
 {
     if n <= most {
         return n;

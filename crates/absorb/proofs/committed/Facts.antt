@@ -19,7 +19,8 @@ use Rattle.rules.specs.Record.{question9, question10, question12, moves, absorb
 use Rattle.rules.specs.File.{decodeCheckpoint}
 use Rattle.rules.proofs.Tests.{test, implied, all→, asked}
 use Rattle.laws.proofs.scans.Absorb.{unstopped}
-use Rattle.laws.proofs.Layouts.{hint-layout, confirmation-layout}
+use Rattle.laws.proofs.Layouts.{confirmation-layout}
+use Rattle.tables.proofs.Kept.{kept-layout}
 use Rattle.sections.specs.Numbers.{idIn}
 use Rattle.index.specs.Index.{Tables, roomOf, indexIn, kindsIn, orFour, kindedNumber}
 use Rattle.index.specs.Needs.{Passes}
@@ -83,6 +84,6 @@ module _ {x : AreaIndex} {t : Tables} {image : ImageId} {given : List ℕ} {r : 
   kept b c =
       let l = passes-hints own-passes in
       record {
-        hints = over-same _ _ (t .hints) (l .hints) (bytes-records hint-layout (x .hints) (t .hints) b (l .hints));
+        hints = over-same _ _ (t .hints) (l .hints) (bytes-records kept-layout (x .hints) (t .hints) b (l .hints));
         confirmed = over-same _ _ (t .confirmed) (l .confirmed) (bytes-records confirmation-layout (x .confirmed) (t .confirmed) c (l .confirmed));
       }

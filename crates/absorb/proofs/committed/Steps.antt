@@ -20,8 +20,8 @@ use Rattle.rules.specs.Values as values
 use Rattle.rules.specs.PartRule.{Stored, addParts}
 use Rattle.rules.specs.Questions.{endOf}
 use Rattle.rules.specs.Record.{below, moves}
-use Rattle.rules.specs.File.{encodeCheckpoint, encodeFrameHeader, encodeHeld, encodeLsn, decodeCheckpoint, decodeHint, decodeConfirmation, over}
-use Rattle.tables.specs.Tables.{lsnsIn, hintsIn, confirmationsIn}
+use Rattle.rules.specs.File.{encodeCheckpoint, encodeFrameHeader, encodeHeld, encodeLsn, decodeCheckpoint, decodeConfirmation, over}
+use Rattle.tables.specs.Tables.{lsnsIn, decodeKept, keptIn, confirmationsIn}
 use Rattle.index.specs.Index.{Tables, tables, indexIn, storeOf, numbersFrom}
 use Rattle.sections.specs.Numbers.{endIn, endFrom, idIn, idFrom}
 use Rattle.parts.specs.declared.Counts.{Counts}
@@ -96,7 +96,7 @@ module _ (x : AreaIndex) (t : Tables) (r : Recorder) (u : RecorderTables) (image
         let e4 : c .frames ≡ length (after-scan .frames) = ap (λ (h : Held). h .counts .frames) parts-done in
         let e5 : c .parts ≡ length (after-scan .parts) = ap (λ (h : Held). h .counts .parts) parts-done in
         let e6 : m ≡ length (after-scan .malformed) = p3 .count ∙ ap length (malformed-are (p1 .count) p0) in
-        let e7 : x .hints ≡ length (hintsIn (x .hints) (t .hints)) = sym (records-length 8 decodeHint (x .hints) (t .hints)) in
+        let e7 : x .hints ≡ length (keptIn (x .hints) (t .hints)) = sym (records-length 8 decodeKept (x .hints) (t .hints)) in
         let e8 : x .confirmed ≡ length (confirmationsIn (x .confirmed) (t .confirmed)) = sym (records-length 16 decodeConfirmation (x .confirmed) (t .confirmed)) in
         let e9 : e ≡ endFrom (after-scan .ending) = end-back e ∙ ap endFrom p0 in
         p4 ∙ (λ i. record {

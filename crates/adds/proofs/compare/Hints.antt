@@ -12,33 +12,35 @@ use Rattle.rules.specs.declared.Area.{Area}
 use Rattle.rules.specs.declared.Hint.{Hint}
 use Rattle.rules.specs.Values.{noHint, lim, max32}
 use Rattle.rules.specs.Sections.{hintLsn, hintOk, hintsOk}
-use Rattle.rules.specs.Hints.{countOf, kept, thin, insertAll, limitedTo, joinedHints}
+use Rattle.rules.specs.Hints.{countOf, kept, thin, insertAll, limitedTo, joinedHints, unkept}
 use Rattle.rules.proofs.Tests.{test}
 use Rattle.laws.specs.Order.{Rises}
+use Rattle.laws.proofs.Marks.{unkept-ok}
 use Rattle.laws.proofs.hint_lists.Lists.{All, all-map, all-at}
 use Rattle.laws.proofs.hint_lists.Rising.{rising→, rising-each}
 use Rattle.laws.proofs.hint_lists.Hints.{insertAll-keeps, hints-insert}
 use Rattle.laws.proofs.hint_lists.Adding.{insertAll-rising}
 use Rattle.laws.proofs.hint_lists.Thinning.{kept-length, kept-every, thin-length}
-use Rattle.rules_lacks.specs.Lacks.{sameHint}
-use Rattle.rules_lacks.proofs.Laws.{sameHint-self, sameHint-eq}
+use Rattle.rules_lacks.specs.Lacks.{equalHint}
+use Rattle.rules_lacks.proofs.Laws.{equalHint-self, equalHint-eq}
 use Rattle.adds.specs.declared.compare.Weighed.{Weighed}
 use Rattle.adds.specs.Same.{sameList}
 use Rattle.adds.specs.Marks.{marked, lower, unweighed, weighed, changedBy}
 use Rattle.adds.proofs.compare.Same.{differ, sameList-self, sameList-eq}
 use Rattle.adds.proofs.compare.Counts.{count-full}
-use Rattle.adds.proofs.compare.Marks.{hintsOf, noMark, newAt, someReplaced, hints-length, hints-at, marked-hints, kept-all-held}
-use Rattle.adds.proofs.compare.Weighing.{Numbered, weighed-replaced, weighed-all, leaves, changes}
+use Rattle.adds.proofs.compare.Marks.{hintsOf, noMark, newAt, someReplaced, hints-length, hints-at, marked-hints, kept-all-held, new-unkept}
+use Rattle.adds.proofs.compare.Weighing.{Numbered, NewUnkept, weighed-replaced, weighed-all, leaves, changes}
 use Rattle.adds.proofs.compare.Replaced.{replaced-changes}
 
-changed : (hs l : List Hint) → (l ≡ hs → ⊥) → not (sameList sameHint hs l) ≡ true
-changed hs l e = rw (differ (sameList sameHint) (sameList-eq sameHint sameHint-eq) hs l (λ p. e (sym p)))
+changed : (hs l : List Hint) → (l ≡ hs → ⊥) → not (sameList equalHint hs l) ≡ true
+changed hs l e = rw (differ (sameList equalHint) (sameList-eq equalHint equalHint-eq) hs l (λ p. e (sym p)))
 
-unchanged : (hs l : List Hint) → l ≡ hs → not (sameList sameHint hs l) ≡ false
-unchanged hs l e = rw (e, sameList-self sameHint sameHint-self hs)
+unchanged : (hs l : List Hint) → l ≡ hs → not (sameList equalHint hs l) ≡ false
+unchanged hs l e = rw (e, sameList-self equalHint equalHint-self hs)
 
 -- where no number is replaced
-module _ (a : Area) (hs xs : List Hint) (h : hintsOk a hs ≡ true) (g : hintsOk a xs ≡ true) (none : someReplaced (marked hs xs) ≡ false) where
+module _ (a : Area) (hs xs : List Hint) (h : hintsOk a hs ≡ true) (g : hintsOk a xs ≡ true) (none : someReplaced (marked hs xs) ≡ false)
+    (plain : NewUnkept (marked hs xs)) where
   abbrev all : List Hint
   all = hintsOf (marked hs xs)
 
@@ -93,7 +95,7 @@ module _ (a : Area) (hs xs : List Hint) (h : hintsOk a hs ≡ true) (g : hintsOk
     unfolding limitedTo
     over l = joined ∙ rw (hints-length (marked hs xs), lt-leb _ _ l)
 
-    none-replaced : not (sameList sameHint hs (joinedHints a most hs xs)) ≡ changedBy w (length hs) most
+    none-replaced : not (sameList equalHint hs (joinedHints a most hs xs)) ≡ changedBy w (length hs) most
     unfolding changedBy
     none-replaced =
         let n = length (marked hs xs) in
@@ -110,17 +112,19 @@ module _ (a : Area) (hs xs : List Hint) (h : hintsOk a hs ≡ true) (g : hintsOk
         (λ c. let s = eqb-true (length hs) (most - most / 4) c in
         rw c (test (lower (w .new) (w .held))
         (λ d. rw d (unchanged hs _ (over l ∙ rw (← s) (leaves (marked hs xs) small (a .start) all-rise hs (kept-all-held hs xs) d))))
-        (λ d. rw d (changed hs _ (λ z. changes (marked hs xs) small (a .start) all-rise hs (kept-all-held hs xs) (omega arith) (omega arith) d (rw s (sym (over l) ∙ z)))))))
+        (λ d. rw d (changed hs _ (λ z. changes (marked hs xs) small (a .start) all-rise hs (kept-all-held hs xs) (omega arith) plain d (rw s (sym (over l) ∙ z)))))))
         (λ c. let s = eqb-false (length hs) (most - most / 4) c in
         rw c (changed hs _ (λ z. let t = thin-length (most - most / 4) all in
         let y : length (thin (most - most / 4) all) ≡ length hs = ap length (sym (over l) ∙ z) in
         s (omega arith)))))))))
 
-pub hints-change : (a : Area) (hs xs : List Hint) → hintsOk a hs ≡ true → hintsOk a xs ≡ true → (most : ℕ) → length hs ≤ most → 1 ≤ most
-    → not (sameList sameHint hs (joinedHints a most hs xs)) ≡ changedBy (weighed unweighed (marked hs xs)) (length hs) most
+pub hints-change : (a : Area) (hs ys : List Hint) → hintsOk a hs ≡ true → hintsOk a ys ≡ true → (most : ℕ) → length hs ≤ most → 1 ≤ most
+    → not (sameList equalHint hs (joinedHints a most hs (unkept ys))) ≡ changedBy (weighed unweighed (marked hs (unkept ys))) (length hs) most
 unfolding changedBy
-hints-change a hs xs h g most few some =
+hints-change a hs ys h g most few some =
+    let xs = unkept ys in
+    let g' : hintsOk a xs ≡ true = unkept-ok a ys ∙ g in
     test (someReplaced (marked hs xs))
     (λ e. let f : weighed unweighed (marked hs xs) .replaced ≡ true = weighed-replaced unweighed (marked hs xs) ∙ e in
-    rw f (changed hs _ (replaced-changes a most hs xs h g some e)))
-    (λ e. none-replaced a hs xs h g e most few some)
+    rw f (changed hs _ (replaced-changes a most hs xs h g' some e)))
+    (λ e. none-replaced a hs xs h g' e (new-unkept hs ys) most few some)

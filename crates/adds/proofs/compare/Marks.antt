@@ -4,15 +4,16 @@ use mathlib.Core.Bool.{Bool, true, false, _||_, not, cond}
 use mathlib.Core.List.{List, [], _∷_, _++_, append-nil}
 use Prim.Native.Nat.{ℕ, zero, suc, _+_, _<_, _≤_}
 use native.Mathlib.Omega.{arith}
-use lib.ListN.{length, getD, take}
+use lib.ListN.{length, getD, take, drop}
 use lib.Seq.{take-suc, take-length}
 use lib.Dec.{eqb}
 use borrow.Author.Tests.{eqb-true, lt-ltb, le-ltb, not-false}
 use Rattle.rules.specs.declared.Hint.{Hint}
 use Rattle.rules.specs.Values.{noHint, max32}
-use Rattle.rules.specs.Sections.{hintLsn}
-use Rattle.rules.specs.Hints.{kept, arrivedHint}
-use Rattle.rules.proofs.Tests.{test, order, or-none}
+use Rattle.rules.specs.Sections.{hintLsn, isKept}
+use Rattle.rules.specs.Hints.{kept, arrivedHint, unkeptHint, unkept}
+use Rattle.rules.proofs.Tests.{test, never, order, or-none}
+use Rattle.laws.proofs.hint_lists.Lists.{All}
 use Rattle.laws.specs.Merging.{mergedWith}
 use Rattle.laws.proofs.hint_lists.Merging.{nil-with, with-nil, with-left, with-right, with-both}
 use Rattle.laws.proofs.hint_lists.Thinning.{kept-none, kept-yes, kept-no}
@@ -95,9 +96,9 @@ unfolding marksOf
 marks-hints b [] = refl
 marks-hints b (h ∷ hs) = rw (marks-hints b hs)
 
--- where no number is replaced: the merged list, since two of one LSN and number are the same hint
-same-hint : (x y : Hint) → x .lsn ≡ y .lsn → x .number ≡ y .number → x ≡ y
-same-hint x y e d = λ i. record { lsn = e i; number = d i }
+-- where no number is replaced: the merged list, since one of the same LSN and number leaves the held hint as it is
+same-hint : (x y : Hint) → x .lsn ≡ y .lsn → x .number ≡ y .number → x ≡ arrivedHint x y
+same-hint x y e d = λ i. record { lsn = e i; number = d i; mark = x .mark }
 
 pub marked-hints : (xs ys : List Hint) → someReplaced (marked xs ys) ≡ false → hintsOf (marked xs ys) ≡ mergedWith hintLsn arrivedHint xs ys
 marked-hints [] ys f = rw (nil-marked ys, marks-hints true ys, nil-with hintLsn arrivedHint ys)
@@ -150,3 +151,48 @@ kept-held ms (suc n) l =
 pub kept-all-held : (xs ys : List Hint) → kept (λ i. not (newAt (marked xs ys) i)) (hintsOf (marked xs ys)) (length (marked xs ys)) ≡ xs
 kept-all-held xs ys =
     let ms = marked xs ys in kept-held ms (length ms) (omega arith) ∙ rw (take-length ms) (marked-held xs ys)
+
+-- ---- a new one is not kept, where the other list has no marks
+abbrev Plain : Marked → Type 0
+Plain m = m .new ≡ true → isKept (m .hint) ≡ false
+
+plain-held : (h : Hint) (r : Bool) → Plain (record { hint = h; new = false; replaced = r })
+plain-held h r e = never e refl
+
+plain-new : (h : Hint) → Plain (mark true (unkeptHint h))
+unfolding isKept
+plain-new h e = refl
+
+plain-others : (ys : List Hint) → All Plain (marksOf true (unkept ys))
+unfolding marksOf unkept
+plain-others [] = tt
+plain-others (y ∷ ys) = (plain-new y, plain-others ys)
+
+plain-own : (xs : List Hint) → All Plain (marksOf false xs)
+unfolding marksOf
+plain-own [] = tt
+plain-own (x ∷ xs) = (plain-held x false, plain-own xs)
+
+plain-all : (xs ys : List Hint) → All Plain (marked xs (unkept ys))
+unfolding unkept
+plain-all [] ys = rw (nil-marked (unkept ys)) (plain-others ys)
+plain-all (x ∷ xs) [] = rw (marked-nil (x ∷ xs)) (plain-own (x ∷ xs))
+plain-all (x ∷ xs) (y ∷ ys) =
+    order (x .lsn) (y .lsn) (λ l. rw (marked-left x (unkeptHint y) xs (unkept ys) l) (plain-held x false, plain-all xs (y ∷ ys)))
+    (λ l. rw (marked-right x (unkeptHint y) xs (unkept ys) l) (plain-new y, plain-all (x ∷ xs) ys))
+    (λ e. rw (marked-both x (unkeptHint y) xs (unkept ys) e) (plain-held x (not (eqb (x .number) (y .number))), plain-all xs ys))
+
+plain-at : (ms : List Marked) → All Plain ms → (i : ℕ) → Plain (getD ms i noMark)
+plain-at [] a i = plain-held noHint false
+plain-at (m ∷ ms) a zero = a .0
+plain-at (m ∷ ms) a (suc i) = plain-at ms (a .1) i
+
+pub new-unkept : (xs ys : List Hint) (i : ℕ) → newAt (marked xs (unkept ys)) i ≡ true → isKept (getD (marked xs (unkept ys)) i noMark .hint) ≡ false
+new-unkept xs ys i = plain-at (marked xs (unkept ys)) (plain-all xs ys) i
+
+-- ---- the LSNs are those of the list with its marks
+pub lsn-unkept : (i : ℕ) (hs : List Hint) → lsnFrom (drop i (unkept hs)) ≡ lsnFrom (drop i hs)
+unfolding unkept lsnFrom
+lsn-unkept i [] = refl
+lsn-unkept zero (h ∷ hs) = refl
+lsn-unkept (suc i) (h ∷ hs) = lsn-unkept i hs

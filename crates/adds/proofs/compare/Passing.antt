@@ -17,15 +17,17 @@ use Rattle.rules.specs.declared.Hint.{Hint}
 use Rattle.rules.specs.Values.{max32, noHint, noConfirmation}
 use Rattle.rules.specs.Tests.{all}
 use Rattle.rules.specs.Sections.{hintsOk, confirmationsOk}
-use Rattle.rules.specs.File.{decodeHint, decodeConfirmation}
-use Rattle.rules.specs.Hints.{heldConfirmation, joinedHints, keepAll, keepsNothing}
+use Rattle.rules.specs.File.{decodeConfirmation}
+use Rattle.rules.specs.Hints.{heldConfirmation, joinedHints, unkept, keepAll, keepsNothing}
 use Rattle.rules.proofs.Tests.{test, never}
 use Rattle.rules.proofs.Same.{eqb-self}
 use Rattle.laws.proofs.hint_lists.Hints.{joined-none}
-use Rattle.tables.specs.Tables.{hintsIn, confirmationsIn}
+use Rattle.tables.specs.Tables.{confirmationsIn, decodeKept, keptIn}
 use Rattle.tables.proofs.Walk.{records-turn}
-use Rattle.rules_lacks.specs.Lacks.{sameHint}
-use Rattle.rules_lacks.proofs.Laws.{sameHint-self}
+use Rattle.add_hints.specs.Merged.{unkeptIn}
+use Rattle.add_hints.proofs.Arriving.{unkept-in}
+use Rattle.rules_lacks.specs.Lacks.{equalHint}
+use Rattle.rules_lacks.proofs.Laws.{equalHint-self}
 use Rattle.adds.specs.declared.compare.Turn.{Turn}
 use Rattle.adds.specs.declared.compare.Weighed.{Weighed}
 use Rattle.adds.specs.Same.{sameList, sameConfirmation}
@@ -33,27 +35,35 @@ use Rattle.adds.specs.Marks.{mark, markBoth, marked, marksOf, lsnFrom, u
 use Rattle.adds.specs.Confirmed.{absorbed, unmovedBy, fromLow, arriving, confirmedChange}
 use Rattle.adds.specs.Answers.{LsnAt, Turned, HintsAnswered, ConfirmedAnswered}
 use Rattle.adds.proofs.compare.Same.{sameList-self}
-use Rattle.adds.proofs.compare.Marks.{next-new, next-held, next-both}
+use Rattle.adds.proofs.compare.Marks.{next-new, next-held, next-both, lsn-unkept}
 use Rattle.adds.proofs.compare.Hints.{hints-change}
 use Rattle.adds.proofs.compare.Confirmed.{confirmed-change}
 
 -- ---- the next of two lists of hints
 module _ (n : ℕ) (t : List ℕ) where
-  pub lsn-here : {h : Hint} (i : ℕ) → i < n → h ≡ recordAt 8 decodeHint t i → h .lsn < 4294967296 → LsnAt (hintsIn n t) n i (h .lsn)
+  pub lsn-here : {h : Hint} (i : ℕ) → i < n → h ≡ recordAt 8 decodeKept t i → h .lsn < 4294967296 → LsnAt (keptIn n t) n i (h .lsn)
   unfolding lsnFrom
   lsn-here {h} i l e f = record {
-    is = sym (rw (records-turn 8 decodeHint n t i l, ← e));
+    is = sym (rw (records-turn 8 decodeKept n t i l, ← e));
     inside = λ k. omega arith;
     past = λ k. let z : ⊥ = omega arith in absurd z;
   }
 
-  pub lsn-none : (i : ℕ) → n ≤ i → LsnAt (hintsIn n t) n i (max32 + 1)
+  pub lsn-none : (i : ℕ) → n ≤ i → LsnAt (keptIn n t) n i (max32 + 1)
   unfolding lsnFrom
   lsn-none i l = record {
-    is = sym (ap lsnFrom (drop-of-length-le (hintsIn n t) (let k : length (hintsIn n t) ≤ i = rw records-length l in k)));
+    is = sym (ap lsnFrom (drop-of-length-le (keptIn n t) (let k : length (keptIn n t) ≤ i = rw records-length l in k)));
     inside = λ k. let z : ⊥ = omega arith in absurd z;
     past = λ k. refl;
   }
+
+-- the LSN is that of the hint without its mark
+pub unkept-at : (n : ℕ) (t : List ℕ) {i r : ℕ} → LsnAt (keptIn n t) n i r → LsnAt (unkeptIn n t) n i r
+unkept-at n t {i} p = record {
+  is = p .is ∙ sym (ap (λ (l : List Hint). lsnFrom (drop i l)) (unkept-in n t) ∙ lsn-unkept i (keptIn n t));
+  inside = p .inside;
+  past = p .past;
+}
 
 -- a record that was read is the next of its list
 pub read-turn : {A : Type 0} {x : A} (w : ℕ) (d : List ℕ → A) (n : ℕ) (t : List ℕ) (i : ℕ) → i < n → x ≡ recordAt w d t i
@@ -83,7 +93,7 @@ module _ {xs ys : List Hint} {n m i j a b : ℕ} (p : LsnAt xs n i a) (q : LsnAt
       test (leb m j) (λ f. let v = q .past (leb-true m j f) in let z : ⊥ = omega arith in absurd z) (λ f. leb-false m j f)
 
   module _ (hi : i ≤ n) (hj : j ≤ m) where
-    pub turn-new : {y : Hint} → b < a → drop j ys ≡ y ∷ drop (j + 1) ys → Turned xs ys n m i j (record { new = true; replaced = false; number = y .number; own = i; other = j + 1 })
+    pub turn-new : {y : Hint} → b < a → drop j ys ≡ y ∷ drop (j + 1) ys → Turned xs ys n m i j (record { new = true; replaced = false; hint = y; own = i; other = j + 1 })
     turn-new {y} l d =
         let k = other-inside hi l in
         let w : lsnFrom (y ∷ drop (j + 1) ys) < lsnFrom (drop i xs) = rw (← d, ← q .is, ← p .is) l in
@@ -92,14 +102,14 @@ module _ {xs ys : List Hint} {n m i j a b : ℕ} (p : LsnAt xs n i a) (q : LsnAt
           next = ap (marked (drop i xs)) d ∙ next-new (drop i xs) y (drop (j + 1) ys) w;
           new = refl;
           replaced = refl;
-          number = refl;
+          hint = refl;
           own = hi;
           other = omega arith;
           on = omega arith;
         }
 
     module _ {x : Hint} (k : i < n) (d : drop i xs ≡ x ∷ drop (i + 1) xs) where
-      pub turn-held : a < b → Turned xs ys n m i j (record { new = false; replaced = false; number = x .number; own = i + 1; other = j })
+      pub turn-held : a < b → Turned xs ys n m i j (record { new = false; replaced = false; hint = x; own = i + 1; other = j })
       turn-held l =
           let w : lsnFrom (x ∷ drop (i + 1) xs) < lsnFrom (drop j ys) = rw (← d, ← q .is, ← p .is) l in
           record {
@@ -107,14 +117,14 @@ module _ {xs ys : List Hint} {n m i j a b : ℕ} (p : LsnAt xs n i a) (q : LsnAt
             next = ap (λ (z : List Hint). marked z (drop j ys)) d ∙ next-held x (drop (i + 1) xs) (drop j ys) w;
             new = refl;
             replaced = refl;
-            number = refl;
+            hint = refl;
             own = omega arith;
             other = hj;
             on = omega arith;
           }
 
       pub turn-both : {y : Hint} → drop j ys ≡ y ∷ drop (j + 1) ys → b ≤ a → a ≤ b
-          → Turned xs ys n m i j (record { new = false; replaced = not (eqb (x .number) (y .number)); number = x .number; own = i + 1; other = j + 1 })
+          → Turned xs ys n m i j (record { new = false; replaced = not (eqb (x .number) (y .number)); hint = x; own = i + 1; other = j + 1 })
       turn-both {y} c l g =
           let z : a ≡ b = omega arith in
           let f = both-inside k l g in
@@ -124,7 +134,7 @@ module _ {xs ys : List Hint} {n m i j a b : ℕ} (p : LsnAt xs n i a) (q : LsnAt
             next = ap (λ (u : List Hint). marked u (drop j ys)) d ∙ ap (marked (x ∷ drop (i + 1) xs)) c ∙ next-both x y (drop (i + 1) xs) (drop (j + 1) ys) w;
             new = refl;
             replaced = refl;
-            number = refl;
+            hint = refl;
             own = omega arith;
             other = omega arith;
             on = omega arith;
@@ -140,18 +150,18 @@ pub record Weighing (xs ys : List Hint) (n m : ℕ) (s : Weighed) (i j : ℕ) : 
 pub weigh-start : {s : Weighed} (xs ys : List Hint) (n m : ℕ) → s ≡ unweighed → Weighing xs ys n m s 0 0
 weigh-start xs ys n m e = record { own = omega arith; other = omega arith; few = rw e (omega arith); rest = rw e }
 
-weigh-place : (s : Weighed) (b c : Bool) (k : ℕ) → weighOne s b c k .place ≡ s .place + 1
+weigh-place : (s : Weighed) (b c : Bool) (k : Hint) → weighOne s b c k .place ≡ s .place + 1
 unfolding weighOne
 weigh-place s b c k = refl
 
-pub weigh-on : {xs ys : List Hint} {n m i j : ℕ} {s s' : Weighed} {r : Turn} → Weighing xs ys n m s i j → Turned xs ys n m i j r → s' ≡ weighOne s (r .new) (r .replaced) (r .number)
+pub weigh-on : {xs ys : List Hint} {n m i j : ℕ} {s s' : Weighed} {r : Turn} → Weighing xs ys n m s i j → Turned xs ys n m i j r → s' ≡ weighOne s (r .new) (r .replaced) (r .hint)
     → Weighing xs ys n m s' (r .own) (r .other)
 unfolding weighed
 weigh-on {xs} {ys} {n} {m} {i} {j} {s} {s'} {r} w t e =
-    let f = w .few in let o = t .on in let q = weigh-place s (r .new) (r .replaced) (r .number) in
+    let f = w .few in let o = t .on in let q = weigh-place s (r .new) (r .replaced) (r .hint) in
     let z = sym (ap (weighed s) (t .next)) ∙ w .rest in
-    let y : weighed (weighOne s (r .new) (r .replaced) (r .number)) (marked (drop (r .own) xs) (drop (r .other) ys)) ≡ weighed unweighed (marked xs ys) =
-    rw (t .new, t .replaced, t .number) at z in
+    let y : weighed (weighOne s (r .new) (r .replaced) (r .hint)) (marked (drop (r .own) xs) (drop (r .other) ys)) ≡ weighed unweighed (marked xs ys) =
+    rw (t .new, t .replaced, t .hint) at z in
     record { own = t .own; other = t .other; few = rw e (omega arith); rest = rw e y }
 
 pub weigh-end : {xs ys : List Hint} {n m i j : ℕ} {s : Weighed} → length xs ≡ n → length ys ≡ m → Weighing xs ys n m s i j → n + m ≤ i + j → s ≡ weighed unweighed (marked xs ys)
@@ -164,10 +174,10 @@ weigh-end {xs} {ys} {n} {m} {i} {j} {s} f g w l =
 
 module _ {most : ℕ} (xs ys : List Hint) where
   pub hints-none : most ≡ 0 → HintsAnswered most xs ys false
-  hints-none e a h g = sym (rw (e, joined-none a xs ys, sameList-self sameHint sameHint-self xs))
+  hints-none e a h g = sym (rw (e, joined-none a xs (unkept ys), sameList-self equalHint equalHint-self xs))
 
-  pub hints-answered : {w : Weighed} {r : Bool} {n : ℕ} → length xs ≡ n → n ≤ most → (most ≡ 0 → ⊥) → w ≡ weighed unweighed (marked xs ys) → r ≡ changedBy w n most → HintsAnswered most xs ys r
-  hints-answered {w} {r} {n} k l z e f a h g = f ∙ rw (e, ← k) (sym (hints-change a xs ys h g most (omega arith) (omega (arith, z))))
+  pub hints-answered : {w : Weighed} {r : Bool} {n : ℕ} {zs : List Hint} → length xs ≡ n → n ≤ most → (most ≡ 0 → ⊥) → w ≡ weighed unweighed (marked xs zs) → zs ≡ unkept ys → r ≡ changedBy w n most → HintsAnswered most xs ys r
+  hints-answered {w} {r} {n} k l z e d f a h g = f ∙ rw (e, d, ← k) (sym (hints-change a xs ys h g most (omega arith) (omega (arith, z))))
 
 -- ---- confirmations
 pub stays-is : (c d : Confirmation) → (eqb (c .digest) (d .digest) && leb (c .threshold) (d .threshold)) ≡ sameConfirmation c (heldConfirmation c d)

@@ -27,12 +27,12 @@ abbrev merged : List Hint → List Hint → List Hint
 merged xs ys = mergedWith hintLsn arrivedHint xs ys
 
 -- what holds of each of both lists holds of each of the merged one
-all-merged : (P : Hint → Type 0) (xs ys : List Hint) → All P xs → All P ys → All P (merged xs ys)
-all-merged P [] ys h k = rw (nil-with hintLsn arrivedHint ys) k
-all-merged P (x ∷ xs) [] h k = rw (with-nil hintLsn arrivedHint (x ∷ xs)) h
-all-merged P (x ∷ xs) (y ∷ ys) h k =
-    with-cases hintLsn arrivedHint (All P) x y xs ys (λ l. (h .0, all-merged P xs (y ∷ ys) (h .1) k)) (λ l. (k .0, all-merged P (x ∷ xs) ys h (k .1)))
-    (λ e. (k .0, all-merged P xs ys (h .1) (k .1)))
+all-merged : (P : Hint → Type 0) → ((x y : Hint) → P x → P y → P (arrivedHint x y)) → (xs ys : List Hint) → All P xs → All P ys → All P (merged xs ys)
+all-merged P m [] ys h k = rw (nil-with hintLsn arrivedHint ys) k
+all-merged P m (x ∷ xs) [] h k = rw (with-nil hintLsn arrivedHint (x ∷ xs)) h
+all-merged P m (x ∷ xs) (y ∷ ys) h k =
+    with-cases hintLsn arrivedHint (All P) x y xs ys (λ l. (h .0, all-merged P m xs (y ∷ ys) (h .1) k)) (λ l. (k .0, all-merged P m (x ∷ xs) ys h (k .1)))
+    (λ e. (m x y (h .0) (k .0), all-merged P m xs ys (h .1) (k .1)))
 
 -- an LSN, b or more, at which all has one number, and xs another
 record Differ (b : ℕ) (xs all : List Hint) : Type 0 where
@@ -76,7 +76,7 @@ differ-at b (x ∷ xs) (y ∷ ys) r s f =
     ⊎-elim
     (λ n. let d = eqb-false (x .number) (y .number) (not-true (eqb (x .number) (y .number)) n) in
     let later : All (λ h. suc (y .lsn) ≤ h .lsn) (merged xs ys) =
-    all-merged (λ h. suc (y .lsn) ≤ h .lsn) xs ys (rises-all hintLsn (suc (y .lsn)) xs r') (rises-all hintLsn (suc (y .lsn)) ys (s .1)) in
+    all-merged (λ h. suc (y .lsn) ≤ h .lsn) (λ x y p q. q) xs ys (rises-all hintLsn (suc (y .lsn)) xs r') (rises-all hintLsn (suc (y .lsn)) ys (s .1)) in
     record {
       lsn = y .lsn;
       number = y .number;

@@ -12,8 +12,9 @@ use lib.Seq.{drop-cons}
 use borrow.Author.Tests.{eqb-true, eqb-false, leb-true, leb-false, ltb-true, ltb-false, le-ltb, le-leb, lt-leb, not-true}
 use Rattle.rules.specs.declared.Hint.{Hint}
 use Rattle.rules.specs.Values.{noHint, max32}
-use Rattle.rules.specs.Sections.{hintLsn}
-use Rattle.rules.specs.Hints.{countOf, rise, gap, sooner, rank, kept, thin}
+use Rattle.rules.specs.Sections.{hintLsn, isKept}
+use Rattle.rules.specs.Hints.{countOf, rise, riseAt, gap, sooner, rank, kept, thin}
+use Rattle.thin.specs.Thin.{gapFrom}
 use Rattle.rules.proofs.Tests.{test, never, and-left, and-right, or-cases, or-none}
 use Rattle.laws.specs.Order.{Rises}
 use Rattle.laws.proofs.hint_lists.Ranks.{count-every}
@@ -35,6 +36,10 @@ rise-some p t h =
 abbrev pub Numbered : List Marked → Type 0
 Numbered ms = (i : ℕ) → getD ms i noMark .hint .number ≤ max32
 
+-- new ones are not kept
+abbrev pub NewUnkept : List Marked → Type 0
+NewUnkept ms = (i : ℕ) → newAt ms i ≡ true → isKept (getD ms i noMark .hint) ≡ false
+
 -- whether a number is replaced
 or-nothing : (a : Bool) → a ≡ (a || false)
 or-nothing true = refl
@@ -47,7 +52,7 @@ or-assoc false b c = refl
 pub weighed-replaced : (s : Weighed) (ms : List Marked) → weighed s ms .replaced ≡ (s .replaced || someReplaced ms)
 unfolding weighed weighOne
 weighed-replaced s [] = or-nothing (s .replaced)
-weighed-replaced s (m ∷ ms) = weighed-replaced (weighOne s (m .new) (m .replaced) (m .hint .number)) ms ∙ or-assoc (s .replaced) (m .replaced) (someReplaced ms)
+weighed-replaced s (m ∷ ms) = weighed-replaced (weighOne s (m .new) (m .replaced) (m .hint)) ms ∙ or-assoc (s .replaced) (m .replaced) (someReplaced ms)
 
 -- pairs in order: the first no larger than the second, that smaller than the third, and that no larger than the fourth
 between : {g i n p h q m k : ℕ} → (g < n) ⊎ ((g ≡ n) × (i ≤ p)) → (n < h) ⊎ ((n ≡ h) × (p < q)) → (h < m) ⊎ ((m ≡ h) × (q ≤ k)) → (g < m) ⊎ ((g ≡ m) × (i < k))
@@ -71,13 +76,24 @@ module _ (ms : List Marked) (small : Numbered ms) where
   before zero = max32
   before (suc i) = number i
 
-  gap-is : (i : ℕ) → gap us i ≡ rise (before i) (number i)
-  unfolding gap rise
-  gap-is zero = sym (rw (le-ltb max32 (number 0) (small 0)))
-  gap-is (suc i) = rw (hints-at ms i, hints-at ms (suc i))
+  rise-is : (i : ℕ) → riseAt us i ≡ rise (before i) (number i)
+  unfolding riseAt rise
+  rise-is zero = sym (rw (le-ltb max32 (number 0) (small 0)))
+  rise-is (suc i) = rw (hints-at ms i, hints-at ms (suc i))
 
-  gap-range : (i : ℕ) → (1 ≤ gap us i) × (gap us i ≤ max32)
-  gap-range i = rw (gap-is i) (rise-some (before i) (number i) (small i))
+  gap-is : (i : ℕ) → gap us i ≡ gapFrom (before i) (getD ms i noMark .hint)
+  unfolding gap gapFrom
+  gap-is i = rw (rise-is i, hints-at ms i)
+
+  gap-range : (i : ℕ) → (1 ≤ gap us i) × (gap us i ≤ max32 + 1)
+  unfolding gapFrom
+  gap-range i =
+      let r = rise-some (before i) (number i) (small i) in let low = r .0 in let high = r .1 in
+      rw (gap-is i) (test (isKept (getD ms i noMark .hint)) (λ e. rw e (omega arith, omega arith)) (λ e. rw e (omega arith, omega arith)))
+
+  gap-low : (i : ℕ) → isKept (getD ms i noMark .hint) ≡ false → gap us i ≤ max32
+  unfolding gapFrom
+  gap-low i e = rw (gap-is i, e) (rise-some (before i) (number i) (small i) .1)
 
   -- s is what the first places give
   record Upto (s : Weighed) : Type 0 where
@@ -86,7 +102,7 @@ module _ (ms : List Marked) (small : Numbered ms) where
     new-most : (i : ℕ) → i < s .place → newAt ms i ≡ true → (gap us i < s .new .gap) ⊎ ((gap us i ≡ s .new .gap) × (i ≤ s .new .place))
     new-is : (s .new .gap ≡ 0) ⊎ ((s .new .place < s .place) × (newAt ms (s .new .place) ≡ true) × (gap us (s .new .place) ≡ s .new .gap))
     held-least : (i : ℕ) → i < s .place → newAt ms i ≡ false → (s .held .gap < gap us i) ⊎ ((gap us i ≡ s .held .gap) × (s .held .place ≤ i))
-    held-is : (s .held .gap ≡ max32 + 1) ⊎ ((s .held .place < s .place) × (newAt ms (s .held .place) ≡ false) × (gap us (s .held .place) ≡ s .held .gap))
+    held-is : ((s .held .gap ≡ max32 + 1) × (s .held .place ≡ 0)) ⊎ ((s .held .place < s .place) × (newAt ms (s .held .place) ≡ false) × (gap us (s .held .place) ≡ s .held .gap))
 
   none-yet : Upto unweighed
   none-yet = record {
@@ -95,7 +111,7 @@ module _ (ms : List Marked) (small : Numbered ms) where
     new-most = λ i l e. let z : ⊥ = omega arith in absurd z;
     new-is = inl refl;
     held-least = λ i l e. let z : ⊥ = omega arith in absurd z;
-    held-is = inl refl;
+    held-is = inl (refl, refl);
   }
 
   -- one place more: it is the next, or was passed
@@ -115,7 +131,7 @@ module _ (ms : List Marked) (small : Numbered ms) where
     new-was : (s .new .gap ≡ 0) ⊎ ((s .new .place < p + 1) × (newAt ms (s .new .place) ≡ true) × (gap us (s .new .place) ≡ s .new .gap))
     new-was = ⊎-elim (λ z. inl z) (λ t. let w = t .0 in inr (omega arith, t .1, t .2)) (u .new-is)
 
-    held-was : (s .held .gap ≡ max32 + 1) ⊎ ((s .held .place < p + 1) × (newAt ms (s .held .place) ≡ false) × (gap us (s .held .place) ≡ s .held .gap))
+    held-was : ((s .held .gap ≡ max32 + 1) × (s .held .place ≡ 0)) ⊎ ((s .held .place < p + 1) × (newAt ms (s .held .place) ≡ false) × (gap us (s .held .place) ≡ s .held .gap))
     held-was = ⊎-elim (λ z. inl z) (λ t. let w = t .0 in inr (omega arith, t .1, t .2)) (u .held-is)
 
     on : before (p + 1) ≡ number p
@@ -165,8 +181,7 @@ module _ (ms : List Marked) (small : Numbered ms) where
 
       held-larger : s .held .gap ≤ gap us p → Upto (goes (s .new) (s .held))
       held-larger h =
-          let r = gap-range p .1 in
-          let q : s .held .place ≤ p = ⊎-elim (λ z. let f : ⊥ = omega arith in absurd f) (λ t. let w = t .0 in omega arith) (u .held-is) in
+          let q : s .held .place ≤ p = ⊎-elim (λ z. let w = z .1 in omega arith) (λ t. let w = t .0 in omega arith) (u .held-is) in
           record {
             within = omega arith;
             last = sym on;
@@ -178,10 +193,10 @@ module _ (ms : List Marked) (small : Numbered ms) where
             held-is = held-was;
           }
 
-    here : rise (s .before) (number p) ≡ gap us p
+    here : gapFrom (s .before) (getD ms p noMark .hint) ≡ gap us p
     here = sym (gap-is p ∙ rw (u .last))
 
-    step : Upto (weighOne s (newAt ms p) (replacedAt ms p) (number p))
+    step : Upto (weighOne s (newAt ms p) (replacedAt ms p) (getD ms p noMark .hint))
     unfolding weighOne
     step =
         test (newAt ms p)
@@ -192,7 +207,7 @@ module _ (ms : List Marked) (small : Numbered ms) where
   abbrev Whole : Weighed → Type 0
   Whole s = Upto s × (s .place ≡ length ms)
 
-  next-place : (s : Weighed) (m : Marked) → weighOne s (m .new) (m .replaced) (m .hint .number) .place ≡ suc (s .place)
+  next-place : (s : Weighed) (m : Marked) → weighOne s (m .new) (m .replaced) (m .hint) .place ≡ suc (s .place)
   unfolding weighOne
   next-place s m = add-one (s .place)
 
@@ -206,8 +221,8 @@ module _ (ms : List Marked) (small : Numbered ms) where
       let d : getD ms (s .place) noMark ∷ drop (suc (s .place)) ms ≡ m ∷ rest = sym (drop-cons ms (s .place) noMark l) ∙ e in
       let q : getD ms (s .place) noMark ≡ m = cc in
       let r : drop (suc (s .place)) ms ≡ rest = cc in
-      let u' : Upto (weighOne s (m .new) (m .replaced) (m .hint .number)) = subst (λ (x : Marked). Upto (weighOne s (x .new) (x .replaced) (x .hint .number))) q (step s u l) in
-      weigh-from rest (weighOne s (m .new) (m .replaced) (m .hint .number)) u' (rw (next-place s m) r)
+      let u' : Upto (weighOne s (m .new) (m .replaced) (m .hint)) = subst (λ (x : Marked). Upto (weighOne s (x .new) (x .replaced) (x .hint))) q (step s u l) in
+      weigh-from rest (weighOne s (m .new) (m .replaced) (m .hint)) u' (rw (next-place s m) r)
 
   abbrev all-weighed : Weighed
   all-weighed = weighed unweighed ms
@@ -311,13 +326,10 @@ module _ (ms : List Marked) (small : Numbered ms) where
     pub leaves : lower (all-weighed .new) (all-weighed .held) ≡ true → thin (length hs) us ≡ hs
     leaves h = thin-leaves (some-sooner h) hs e
 
-    module _ (some-held : 1 ≤ length hs) (some-new : length hs < length ms) where
+    module _ (some-new : length hs < length ms) (plain : NewUnkept ms) where
       new-found : Passing (newAt ms) (length ms)
       unfolding fresh
       new-found = let c = fresh-count hs e in count-some (newAt ms) (length ms) (omega arith)
-
-      held-found : Passing stays (length ms)
-      held-found = let c = ap length (sym e) ∙ kept-length stays us (length ms) in count-some stays (length ms) (omega arith)
 
       largest-new : (all-weighed .new .place < length ms) × (newAt ms (all-weighed .new .place) ≡ true) × (gap us (all-weighed .new .place) ≡ all-weighed .new .gap)
       largest-new =
@@ -327,20 +339,25 @@ module _ (ms : List Marked) (small : Numbered ms) where
           (λ (a : (gap us (f .place) ≡ all-weighed .new .gap) × (f .place ≤ all-weighed .new .place)). let x : ⊥ = omega arith in absurd x) (w .new-most (f .place) (omega arith) (f .passes)))
           (λ t. let x = t .0 in (omega arith, t .1, t .2)) (w .new-is)
 
-      smallest-held : (all-weighed .held .place < length ms) × (newAt ms (all-weighed .held .place) ≡ false) × (gap us (all-weighed .held .place) ≡ all-weighed .held .gap)
-      smallest-held =
+      -- the largest pair of a new one is below that of a held one that is not known, or of a kept one
+      new-below : all-weighed .new .gap ≤ max32
+      new-below = let a = largest-new in let x = a .2 in let y = gap-low (all-weighed .new .place) (plain (all-weighed .new .place) (a .1)) in omega arith
+
+      smallest-held : lower (all-weighed .new) (all-weighed .held) ≡ false
+          → (all-weighed .held .place < length ms) × (newAt ms (all-weighed .held .place) ≡ false) × (gap us (all-weighed .held .place) ≡ all-weighed .held .gap)
+      unfolding lower
+      smallest-held h =
           let w = whole .0 in let n = whole .1 in
-          let f = held-found in let fi = f .inside in let g = gap-range (f .place) .1 in
-          ⊎-elim (λ z. ⊎-elim (λ (a : all-weighed .held .gap < gap us (f .place)). let x : ⊥ = omega arith in absurd x)
-          (λ (a : (gap us (f .place) ≡ all-weighed .held .gap) × (all-weighed .held .place ≤ f .place)). let x : ⊥ = omega arith in absurd x)
-          (w .held-least (f .place) (omega arith) (not-true (newAt ms (f .place)) (f .passes))))
-          (λ t. let x = t .0 in (omega arith, t .1, t .2)) (w .held-is)
+          let o = or-none (ltb (all-weighed .new .gap) (all-weighed .held .gap)) _ h in
+          let u = ltb-false (all-weighed .new .gap) (all-weighed .held .gap) (o .0) in
+          let below = new-below in
+          ⊎-elim (λ z. let g = z .0 in let x : ⊥ = omega arith in absurd x) (λ t. let x = t .0 in (omega arith, t .1, t .2)) (w .held-is)
 
       held-sooner : lower (all-weighed .new) (all-weighed .held) ≡ false → sooner us (all-weighed .new .place) (all-weighed .held .place) ≡ true
       unfolding lower
       held-sooner h =
           let s = all-weighed in
-          let a = largest-new in let b = smallest-held in
+          let a = largest-new in let b = smallest-held h in
           let x = a .2 in let y = b .2 in
           let o = or-none (ltb (s .new .gap) (s .held .gap)) _ h in
           let u = ltb-false (s .new .gap) (s .held .gap) (o .0) in
@@ -354,5 +371,5 @@ module _ (ms : List Marked) (small : Numbered ms) where
 
       pub changes : lower (all-weighed .new) (all-weighed .held) ≡ false → thin (length hs) us ≡ hs → ⊥
       changes h =
-          let n = largest-new in let k = smallest-held in
+          let n = largest-new in let k = smallest-held h in
           thin-changes b r (all-weighed .new .place) (all-weighed .held .place) (n .0) (k .0) (n .1) (k .1) (held-sooner h) hs e

@@ -140,7 +140,7 @@ module _ (most c d : ℕ) (t t1 o : List ℕ) (i j k : ℕ) (f : Rising most c d
   low-is : i ≤ at
   low-is = let a = s .own in let b = s .more in omega arith
 
-  pub keep-fits : Fits 16 decodeConfirmation confirmationsMerged t1 o at k j d
+  pub keep-fits : Fits 16 decodeConfirmation decodeConfirmation confirmationsMerged t1 o at k j d
   keep-fits =
       let r = f .room in let l = s .few in
       record {

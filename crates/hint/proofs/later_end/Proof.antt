@@ -2,10 +2,9 @@ use Prim.Native.Nat.{_-_}
 use lib.ListN.{drop}
 use mathlib.Core.Path.{_∙_}
 use native.Mathlib.Omega.{arith}
-use Rattle.rules.specs.File.{decodeHint}
 use Rattle.rules.specs.Hints.{firstFrom}
-use Rattle.tables.specs.Tables.{hintsIn}
-use Rattle.hint.proofs.nearest.Rest.{Rest, rest-start, rest-on, rest-stop, rest-end}
+use Rattle.tables.specs.Tables.{decodeKept, keptIn}
+use Rattle.tables.proofs.Rest.{Rest, rest-start, rest-on, rest-stop, rest-end}
 use Rattle.hint.specs.Needs.{laterEnd}
 use Rattle.hint.proofs.Later.{later-on, later-near, later-far, later-none}
 use borrow.Author.Needs.{needs}
@@ -14,7 +13,7 @@ use Rattle.hint.proofs.later_end.Tie as tie
 
 abbrev Inv-loop : tie.InvT-loop
 Inv-loop hints n i end j₀ j =
-    Rest 8 decodeHint n hints (λ hs. laterEnd end (firstFrom end hs)) (laterEnd end (firstFrom end (drop i (hintsIn n hints)))) j
+    Rest 8 decodeKept n hints (λ hs. laterEnd end (firstFrom end hs)) (laterEnd end (firstFrom end (drop i (keptIn n hints)))) j
 
 abbrev μ-loop : tie.MeasureT-loop
 μ-loop hints n i end j₀ j = n - j

@@ -15,13 +15,12 @@ use Rattle.rules.specs.declared.Confirmation.{Confirmation}
 use Rattle.rules.specs.declared.Hint.{Hint}
 use Rattle.rules.specs.Tests.{orElse}
 use Rattle.rules.specs.Values.{noHint, hintReach}
-use Rattle.rules.specs.File.{decodeHint}
 use Rattle.rules.specs.Hints.{near, confirmedAt, larger, largerOf, largestOf, hintPlace}
 use Rattle.rules.proofs.Tests.{test, never, and-left}
 use Rattle.rules_jump.specs.Names.{chosenBy, startRule}
 use Rattle.rules_jump.proofs.Largest.{largest-holds}
 use Rattle.rules_jump.specs.declared.HintStart.the-variants.{Confirmed, Nearest}
-use Rattle.tables.specs.Tables.{hintsIn}
+use Rattle.tables.specs.Tables.{decodeKept, keptIn}
 use Rattle.plan.specs.Search.{lastIn}
 use Rattle.hint.specs.Place.{candidate, largestIn}
 
@@ -90,11 +89,11 @@ module _ (hs : List Hint) (best i : ℕ) (counts : Bool) where
       larger-old y = last-some best z ∙ sym (rw (not-false counts h, last-some best z, ← e, y))
 
 -- by the two hints read
-pub larger-is : {a b : Hint} {s q : Bool} (n : ℕ) (t : List ℕ) (i k : ℕ) → i < n → k < n → a ≡ recordAt 8 decodeHint t i → b ≡ recordAt 8 decodeHint t k
-    → s ≡ (eqb (a .number) (b .number) && ltb (a .lsn) (b .lsn)) → q ≡ (ltb (a .number) (b .number) || s) → q ≡ larger (hintsIn n t) i k
+pub larger-is : {a b : Hint} {s q : Bool} (n : ℕ) (t : List ℕ) (i k : ℕ) → i < n → k < n → a ≡ recordAt 8 decodeKept t i → b ≡ recordAt 8 decodeKept t k
+    → s ≡ (eqb (a .number) (b .number) && ltb (a .lsn) (b .lsn)) → q ≡ (ltb (a .number) (b .number) || s) → q ≡ larger (keptIn n t) i k
 unfolding larger
 larger-is n t i k l m ea eb s q =
-    q ∙ rw (records-at 8 decodeHint n t i noHint l, records-at 8 decodeHint n t k noHint m, ← ea, ← eb, s)
+    q ∙ rw (records-at 8 decodeKept n t i noHint l, records-at 8 decodeKept n t k noHint m, ← ea, ← eb, s)
 
 -- ---- the largest
 pub largest-none : (checked any : Bool) (hs : List Hint) (cs : List Confirmation) (first : ℕ) → lastIn 0 ≡ largestIn checked any hs cs first 0
@@ -102,11 +101,11 @@ unfolding lastIn largestIn largestOf
 largest-none checked any hs cs first = refl
 
 pub largest-next : {h : Hint} {counts : Bool} {o o' : Option ℕ} (checked any : Bool) (n : ℕ) (t : List ℕ) (cs : List Confirmation) (first j : ℕ) → j < n
-    → o ≡ largestIn checked any (hintsIn n t) cs first j → h ≡ recordAt 8 decodeHint t j → counts ≡ candidate checked any cs first h
-    → o' ≡ cond counts (some (largerOf (hintsIn n t) o j)) o → o' ≡ largestIn checked any (hintsIn n t) cs first (j + 1)
+    → o ≡ largestIn checked any (keptIn n t) cs first j → h ≡ recordAt 8 decodeKept t j → counts ≡ candidate checked any cs first h
+    → o' ≡ cond counts (some (largerOf (keptIn n t) o j)) o → o' ≡ largestIn checked any (keptIn n t) cs first (j + 1)
 unfolding largestIn largestOf
 largest-next checked any n t cs first j l b e c g =
-    g ∙ sym (rw (add-one, records-at 8 decodeHint n t j noHint l, ← e, ← c, ← b))
+    g ∙ sym (rw (add-one, records-at 8 decodeKept n t j noHint l, ← e, ← c, ← b))
 
 pub largest-end : {o : Option ℕ} {j n : ℕ} (checked any : Bool) (hs : List Hint) (cs : List Confirmation) (first : ℕ) → j ≤ n → n ≤ j
     → o ≡ largestIn checked any hs cs first j → o ≡ largestIn checked any hs cs first n
@@ -120,7 +119,7 @@ largest-same p q hs e (suc n) = rw (e n, largest-same p q hs e n)
 
 module _ (checked : Bool) (n : ℕ) (t : List ℕ) (cs : List Confirmation) (first : ℕ) where
   abbrev hs : List Hint
-  hs = hintsIn n t
+  hs = keptIn n t
 
   near-all : largestIn checked true hs cs first n ≡ largestOf (λ i. near first (getD hs i noHint)) hs n
   unfolding largestIn candidate
@@ -149,12 +148,12 @@ or-holds P none o' i f g e = g e
 or-holds P (some k) o' i f g e = f e
 
 -- the place to begin at is one of the list, numbered below first
-pub place-near : (checked : Bool) (n : ℕ) (t : List ℕ) (cs : List Confirmation) (first i : ℕ) → hintPlace checked (hintsIn n t) cs first ≡ some i
-    → (i < n) × (getD (hintsIn n t) i noHint .number < first)
+pub place-near : (checked : Bool) (n : ℕ) (t : List ℕ) (cs : List Confirmation) (first i : ℕ) → hintPlace checked (keptIn n t) cs first ≡ some i
+    → (i < n) × (getD (keptIn n t) i noHint .number < first)
 unfolding hintPlace near
 place-near checked n t cs first i e =
-    let hs = hintsIn n t in
-    let k : length hs ≡ n = records-length 8 decodeHint n t in
+    let hs = keptIn n t in
+    let k : length hs ≡ n = records-length 8 decodeKept n t in
     or-holds (λ i. (i < n) × (getD hs i noHint .number < first)) _ _ i
     (λ d. let r = largest-holds _ hs (length hs) i d in (let l = r .0 in omega arith, ltb-true _ first (and-left _ _ (and-left _ _ (r .1)))))
     (λ d. let r = largest-holds _ hs (length hs) i d in (let l = r .0 in omega arith, ltb-true _ first (and-left _ _ (r .1)))) e

@@ -22,8 +22,8 @@ returns-2 c =
     let a = start .args in
     flushed-full (a .r) (a .list .now) (start .pre) (λ i. table .slice-known .given i .fits) (tail .tail .given .1) (room .has-room .ensures) (then1 .if1 .taken) (c .cleared2 .ensures)
 
-write-hint-requires : tie.Need-write-hint-requires
-write-hint-requires c κs =
+write-given-requires : tie.Need-write-given-requires
+write-given-requires c κs =
     let else1 : tie.Else1 = search in
     let room : tie.After-has-room = search in
     let start : tie.Start = search in
@@ -31,14 +31,14 @@ write-hint-requires c κs =
 
 returns-3 : tie.Need-returns-3
 returns-3 c =
-    let wrote : tie.After-write-hint = search in
+    let wrote : tie.After-write-given = search in
     let else1 : tie.Else1 = search in
     let room : tie.After-has-room = search in
     let tail : tie.After-tail = search in
     let table : tie.After-slice-known = search in
     let start : tie.Start = search in
     let a = start .args in
-    flushed-listed (a .r) (a .list .now) (start .pre) (λ i. table .slice-known .given i .fits) (tail .tail .given .1) (room .has-room .ensures) (else1 .if1 .left) (wrote .write-hint .ensures) (c .cleared3 .ensures)
+    flushed-listed (a .r) (a .list .now) (start .pre) (λ i. table .slice-known .given i .fits) (tail .tail .given .1) (room .has-room .ensures) (else1 .if1 .left) (wrote .write-given .ensures) (c .cleared3 .ensures)
 
 pub flushed-spec : {M : Type 1} → statement M
 flushed-spec =
@@ -52,7 +52,7 @@ flushed-spec =
     (λ c κs. search needs)
     returns-2
     (λ c. search needs)
-    write-hint-requires
+    write-given-requires
     (λ c. search needs)
     (λ c κs. search needs)
     (λ c. search needs)

@@ -4,8 +4,8 @@ use borrow.Author.Needs.{needs}
 use Rattle.hint_recorder.proofs.list_or_keep.Statement.{statement}
 use Rattle.hint_recorder.proofs.list_or_keep.Tie as tie
 
-write-hint-requires : tie.Need-write-hint-requires
-write-hint-requires c κs =
+write-given-requires : tie.Need-write-given-requires
+write-given-requires c κs =
     let then1 : tie.Then1 = search in
     let both : tie.After-and = search in
     let room : tie.After-has-room = search in
@@ -17,7 +17,7 @@ write-hint-requires c κs =
 
 returns : tie.Need-returns
 returns c =
-    let wrote : tie.After-write-hint = search in
+    let wrote : tie.After-write-given = search in
     let then1 : tie.Then1 = search in
     let both : tie.After-and = search in
     let room : tie.After-has-room = search in
@@ -25,7 +25,7 @@ returns c =
     let table : tie.After-slice-known = search in
     let start : tie.Start = search in
     let a = start .args in
-    hint-listed (a .r) (a .list .now) (start .pre) (λ i. table .slice-known .given i .fits) (a .h) (far .is-spaced .ensures) (rw (room .has-room .ensures) at (both .and .ensures)) (then1 .if1 .taken) (wrote .write-hint .ensures) (c .cleared .ensures)
+    hint-listed (a .r) (a .list .now) (start .pre) (λ i. table .slice-known .given i .fits) (a .h) (far .is-spaced .ensures) (rw (room .has-room .ensures) at (both .and .ensures)) (then1 .if1 .taken) (wrote .write-given .ensures) (c .cleared .ensures)
 
 returns-2 : tie.Need-returns-2
 returns-2 c =
@@ -45,7 +45,7 @@ list-or-keep-spec =
     (λ c κs. search needs)
     (λ c κs. search needs)
     (λ c. search needs)
-    write-hint-requires
+    write-given-requires
     (λ c. search needs)
     (λ c κs. search needs)
     (λ c. search needs)

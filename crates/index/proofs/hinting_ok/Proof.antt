@@ -1,4 +1,3 @@
-use Rattle.index.proofs.Questions.{hinting-yes}
 use Rattle.index.proofs.Questions.{hints-long, hinting-no, hinting-yes}
 use borrow.Author.Needs.{needs}
 use Rattle.index.proofs.hinting_ok.Statement.{statement}
@@ -9,8 +8,8 @@ returns c =
     let after-hint-counts : tie.After-hint-counts = search in
     hinting-no _ _ _ (after-hint-counts .hint-counts .ensures) (c .if1 .taken)
 
-check-hints-requires : tie.Need-check-hints-requires
-check-hints-requires c κs =
+check-kept-requires : tie.Need-check-kept-requires
+check-kept-requires c κs =
     let else1 : tie.Else1 = search in
     let after-hint-counts : tie.After-hint-counts = search in
     let start : tie.Start = search in
@@ -27,7 +26,7 @@ returns-2 : tie.Need-returns-2
 returns-2 c =
     let after-and : tie.After-and = search in
     let after-check-confirmations : tie.After-check-confirmations = search in
-    let after-check-hints : tie.After-check-hints = search in
+    let after-check-kept : tie.After-check-kept = search in
     let after-or : tie.After-or = search in
     let after-is-stated : tie.After-is-stated = search in
     let else1 : tie.Else1 = search in
@@ -37,7 +36,7 @@ returns-2 c =
       (c .and2 .ensures),
       (after-and .and .ensures),
       (after-or .or .ensures),
-      (after-check-hints .check-hints .ensures),
+      (after-check-kept .check-kept .ensures),
       (after-check-confirmations .check-confirmations .ensures),
       (after-is-stated .is-stated .ensures),
     ) (hinting-yes (start .args .x) _ _ (after-hint-counts .hint-counts .ensures) (else1 .if1 .left))
@@ -52,7 +51,7 @@ hinting-ok-spec =
     (λ c. search needs)
     (λ c κs. search needs)
     (λ c κs. search needs)
-    check-hints-requires
+    check-kept-requires
     check-confirmations-requires
     (λ c κs. search needs)
     (λ c κs. search needs)

@@ -10,13 +10,15 @@ use borrow.Author.Tests.{eqb-true, le-leb}
 use Rattle.rules.specs.Tests.{agree, ask, firstNo, Accepted, after}
 use Rattle.rules.specs.Values.{Scan, Index, Lengths, stated, isChecked}
 use Rattle.rules.specs.Questions.{question1, question2, question3, question4, four, hintingOk}
-use Rattle.rules.specs.Hints.{keep, keepsNothing, withHinting, withConfirmed, question13, question14, addHints, keepConfirmation}
+use Rattle.rules.specs.Hints.{keep, keepsNothing, withHinting, withConfirmed, question13, question14, question53, withMark, addHints, keepHint, keepConfirmation}
 use Rattle.rules.specs.Merge.{further, mergedScan, merged, mergeNumber, merge, question41, question43}
 use Rattle.rules.specs.Load.{limited}
 use Rattle.rules.specs.Create.{emptyIndex, bindFingerprint, new}
 use Rattle.rules.proofs.Tests.{test, given, and-left, and-right, both, all→, asked, accepted→}
 use Rattle.rules.proofs.Same.{sameArea-eq}
-use Rattle.laws.proofs.hint_lists.Closure.{add-hints-ok, keep-hinting-ok, merge-ok, bind-ok, new-ok, limit-ok}
+use Rattle.laws.proofs.hint_lists.Closure.{add-hints-ok, mark-ok, keep-hinting-ok, merge-ok, bind-ok, new-ok, limit-ok}
+use Rattle.laws.proofs.hint_lists.Lists.{All}
+use Rattle.laws.proofs.hint_lists.KeptHints.{Unmarked}
 use Rattle.rules.specs.declared.Hint.{Hint}
 use Rattle.rules.specs.declared.Area.{Area}
 use Rattle.rules.specs.declared.Confirmation.{Confirmation}
@@ -54,11 +56,18 @@ four→ l x q n r y h e =
     let s = asked (four l x (ask q n ∷ [])) (both (le-leb 1 n h) refl) (t .0) in
     record { one = s .0; two = s .1 .0; three = s .1 .1 .0; four = s .1 .1 .1 .0; own = s .1 .1 .1 .1 .0; is = t .1 }
 
-pub add-hints-holds : (l : Lengths) (x y : Index) (list : List Hint) → addHints l x list ≡ Accepted y → HintingHolds y
+-- a delivered list has no marks
+pub add-hints-holds : (l : Lengths) (x y : Index) (list : List Hint) → All Unmarked list → addHints l x list ≡ Accepted y → HintingHolds y
 unfolding addHints
-add-hints-holds l x y list e =
+add-hints-holds l x y list u e =
     let t = four→ l x (question13 list) 13 _ y (omega arith) e in
-    moved (t .is) (add-hints-ok (x .scan .area) (x .fingerprint) (x .hinting) list (t .own) (holds-of x (t .four)))
+    moved (t .is) (add-hints-ok (x .scan .area) (x .fingerprint) (x .hinting) list u (t .own) (holds-of x (t .four)))
+
+pub mark-holds : (l : Lengths) (x y : Index) (lsn : ℕ) → keepHint l x lsn ≡ Accepted y → HintingHolds y
+unfolding keepHint
+mark-holds l x y lsn e =
+    let t = four→ l x (question53 (x .hinting) lsn) 53 _ y (omega arith) e in
+    moved (t .is) (mark-ok (x .scan .area) (x .fingerprint) (x .hinting) lsn (t .own) (holds-of x (t .four)))
 
 pub keep-holds : (l : Lengths) (x y : Index) (c : Confirmation) → keepConfirmation l x c ≡ Accepted (some y) → HintingHolds y
 unfolding keepConfirmation

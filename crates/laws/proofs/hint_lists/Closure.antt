@@ -1,5 +1,5 @@
 -- Hints and confirmations keep question 4, room and sizes. Assumes nothing.
-use mathlib.Core.Path.{_≡_, refl}
+use mathlib.Core.Path.{_≡_, refl, sym, ap, _∙_}
 use mathlib.Core.Bool.{true, false, not, _||_}
 use mathlib.Core.Logic.{⊎-elim}
 use mathlib.Core.List.{List, []}
@@ -7,7 +7,7 @@ use mathlib.Core.Option.{Option, none, some}
 use Prim.Native.Nat.{ℕ, _+_, _/_, _≤_, min}
 use native.Mathlib.Omega.{arith}
 use lib.Dec.{eqb, leb}
-use lib.ListN.{length}
+use lib.ListN.{length, set, length-set}
 use borrow.Author.Tests.{eqb-true, leb-true, eq-eqb, le-leb}
 use Rattle.rules.specs.declared.Area.{Area}
 use Rattle.rules.specs.declared.Confirmation.{Confirmation}
@@ -17,17 +17,19 @@ use Rattle.rules.specs.declared.Fingerprint.the-variants as fingerprint
 use Rattle.rules.specs.declared.Hint.{Hint}
 use Rattle.rules.specs.Tests.{isSome, orElse}
 use Rattle.rules.specs.Values.{Hinting, maxHints, maxList, mergeRoom, stated, isChecked, max32, max64, Lengths}
-use Rattle.rules.specs.Sections.{hintLsn, hintOk, hintsOk, confirmedLsn, confirmationOk, confirmationsOk}
+use Rattle.rules.specs.Sections.{hintLsn, hintOk, hintsOk, marksOk, confirmedLsn, confirmationOk, confirmationsOk}
 use Rattle.rules.specs.Questions.{hintingOk, hintingRoom}
-use Rattle.rules.specs.Hints.{lastOnes, withHints, question13, question14, keep, withConfirmed}
+use Rattle.rules.specs.Hints.{lastOnes, thin, unkept, withHints, question13, question14, question53, withMark, placeOf, keep, withConfirmed}
 use Rattle.rules.specs.Merge.{heldFrom, mergedFingerprint, mergedHinting}
 use Rattle.rules.specs.Load.{limitedHinting, unmarked}
 use Rattle.rules.specs.Sizes.{hintingSized, knownSized}
 use Rattle.rules.proofs.Tests.{test, never, and-right, all→, →all, or-cases, or-left, or-right}
-use Rattle.laws.proofs.hint_lists.Lists.{sub-last, last-length, Passes, each→, →each, all-sub, all-map}
+use Rattle.laws.proofs.Marks.{unkept-ok}
+use Rattle.laws.proofs.hint_lists.Lists.{sub-last, last-length, All, Passes, each→, →each, all-sub, all-map}
 use Rattle.laws.proofs.hint_lists.Rising.{rising-none, rising-each}
-use Rattle.laws.proofs.hint_lists.Thinning.{thin-length}
+use Rattle.laws.proofs.hint_lists.Thinning.{thin-sub, thin-length}
 use Rattle.laws.proofs.hint_lists.Hints.{hints-thin, joined-ok, joined-length}
+use Rattle.laws.proofs.hint_lists.KeptHints.{Unmarked, markedAt, unmarked-marks, unkept-unmarked, joined-marks-ok, marked-unkept, marked-ok}
 use Rattle.laws.proofs.hint_lists.Confirmations.{digestSized, keep-length, keepAll-length, keep-ok, keepAll-ok, keep-sized, keepAll-sized, keep-none, keepAll-none, confirmed-pass, confirmed-sub}
 use Rattle.rules.specs.Create.{emptyIndex}
 
@@ -47,6 +49,7 @@ pub record HintingIs (a : Area) (f : Fingerprint) (r : Hinting) : Type 0 where
   pub hints : hintsOk a (r .hints) ≡ true
   pub confirmed : confirmationsOk a (r .confirmed) ≡ true
   pub known : (eqb (length (r .confirmed)) 0 || isSome (stated f)) ≡ true
+  pub marks : marksOk (r .most) (r .hints) ≡ true
 
 pub hinting→ : (a : Area) (f : Fingerprint) (r : Hinting) → hintingOk a f r ≡ true → HintingIs a f r
 unfolding hintingOk
@@ -59,12 +62,13 @@ hinting→ a f r e =
       hints = t .1 .1 .1 .0;
       confirmed = t .1 .1 .1 .1 .0;
       known = t .1 .1 .1 .1 .1 .0;
+      marks = t .1 .1 .1 .1 .1 .1 .0;
     }
 
 pub →hinting : (a : Area) (f : Fingerprint) (r : Hinting) → HintingIs a f r → hintingOk a f r ≡ true
 unfolding hintingOk
 →hinting a f r h =
-    →all _ (le-leb _ _ (h .most), (le-leb _ _ (h .few), (le-leb _ _ (h .fewer), (h .hints, (h .confirmed, (h .known, tt))))))
+    →all _ (le-leb _ _ (h .most), (le-leb _ _ (h .few), (le-leb _ _ (h .fewer), (h .hints, (h .confirmed, (h .known, (h .marks, tt)))))))
 
 -- ---- a fingerprint beside confirmations
 -- one that is checked is known
@@ -96,18 +100,20 @@ unchecked : (f : Fingerprint) (most : ℕ) → isChecked f ≡ false → (not (i
 unchecked f most e = rw e
 
 -- ---- question 4
-pub add-hints-ok : (a : Area) (f : Fingerprint) (r : Hinting) (list : List Hint) → question13 list ≡ true → hintingOk a f r ≡ true → hintingOk a f (withHints a r list) ≡ true
+-- a delivered list has no marks
+pub add-hints-ok : (a : Area) (f : Fingerprint) (r : Hinting) (list : List Hint) → All Unmarked list → question13 list ≡ true → hintingOk a f r ≡ true → hintingOk a f (withHints a r list) ≡ true
 unfolding question13
-add-hints-ok a f r list q e =
-    let h = hinting→ a f r e in
+add-hints-ok a f r list u q e =
+    let h = hinting→ a f r e in let p = each→ hintOk list (and-right (leb (length list) maxList) _ q) in
     →hinting a f (withHints a r list)
     (record {
       most = h .most;
       few = joined-length a (r .most) (r .hints) list (h .few);
       fewer = h .fewer;
-      hints = joined-ok a (r .most) (r .hints) list (h .hints) (each→ hintOk list (and-right (leb (length list) maxList) _ q));
+      hints = joined-ok a (r .most) (r .hints) list (h .hints) p;
       confirmed = h .confirmed;
       known = h .known;
+      marks = joined-marks-ok a (r .most) (r .hints) list (h .hints) p u (h .marks);
     })
 
 pub keep-hinting-ok : (a : Area) (f : Fingerprint) (r : Hinting) (c : Confirmation) → question14 a c ≡ true → hintingOk a f r ≡ true → hintingOk a f (keptHinting f r c) ≡ true
@@ -121,6 +127,7 @@ keep-hinting-ok a f r c q e =
       hints = h .hints;
       confirmed = keep-ok (isChecked f) (r .most) a (r .confirmed) c q (h .confirmed);
       known = known-after f (stated f) (r .most) (r .confirmed) (λ z. z) (h .known) _ (λ d. keep-none (isChecked f) (r .most) (unchecked f (r .most) d) (r .confirmed) c);
+      marks = h .marks;
     })
 
 hints-pass : (a : Area) (hs : List Hint) → hintsOk a hs ≡ true → Passes hintOk hs
@@ -130,16 +137,18 @@ hints-pass a hs e = all-map _ (λ h. hintOk h ≡ true) (λ h u. u .1 .1) hs (ri
 pub merge-ok : (a : Area) (f g : Fingerprint) (own other : Hinting) → hintingOk a f own ≡ true → hintingOk a g other ≡ true
     → hintingOk a (mergedFingerprint f g) (mergedHinting a (isChecked f) own other) ≡ true
 merge-ok a f g own other e d =
-    let h = hinting→ a f own e in let k = hinting→ a g other d in
+    let h = hinting→ a f own e in let k = hinting→ a g other d in let list = unkept (other .hints) in
+    let p = hints-pass a list (unkept-ok a (other .hints) ∙ k .hints) in
     →hinting a (mergedFingerprint f g) (mergedHinting a (isChecked f) own other)
     (record {
       most = h .most;
-      few = joined-length a (own .most) (own .hints) (other .hints) (h .few);
+      few = joined-length a (own .most) (own .hints) list (h .few);
       fewer = keepAll-length (isChecked f) (own .most) (own .confirmed) (other .confirmed) (h .fewer);
-      hints = joined-ok a (own .most) (own .hints) (other .hints) (h .hints) (hints-pass a (other .hints) (k .hints));
+      hints = joined-ok a (own .most) (own .hints) list (h .hints) p;
       confirmed = keepAll-ok (isChecked f) (own .most) a (own .confirmed) (other .confirmed) (confirmed-pass a (other .confirmed) (k .confirmed)) (h .confirmed);
       known = known-after f (stated (mergedFingerprint f g)) (own .most) (own .confirmed) (merged-known f g) (h .known) _
           (λ z. keepAll-none (isChecked f) (own .most) (unchecked f (own .most) z) (own .confirmed) (other .confirmed));
+      marks = joined-marks-ok a (own .most) (own .hints) list (h .hints) p (unkept-unmarked (other .hints)) (h .marks);
     })
 
 pub unmarked-stated : (f : Fingerprint) → stated (unmarked f) ≡ stated f
@@ -154,11 +163,12 @@ limit-ok a f limit r e =
     →hinting a (unmarked f) (limitedHinting limit r)
     (record {
       most = omega arith;
-      few = omega (arith, thin-length m (r .hints));
+      few = omega (arith, thin-length m (unkept (r .hints)));
       fewer = omega arith;
-      hints = hints-thin a m (r .hints) (h .hints);
+      hints = hints-thin a m (unkept (r .hints)) (unkept-ok a (r .hints) ∙ h .hints);
       confirmed = confirmed-sub a (sub-last n (r .confirmed)) (h .confirmed);
       known = rw (unmarked-stated f) (known-from (length (r .confirmed)) (length (lastOnes n (r .confirmed))) (stated f) (stated f) (λ z. omega arith) (λ z. z) (h .known));
+      marks = unmarked-marks m (thin m (unkept (r .hints))) (all-sub Unmarked (thin-sub m (unkept (r .hints))) (unkept-unmarked (r .hints)));
     })
 
 pub bind-ok : (a : Area) (f : Fingerprint) (v : ℕ) (r : Hinting) → hintingOk a f r ≡ true → hintingOk a (Checked v) r ≡ true
@@ -173,6 +183,7 @@ bind-ok a f v r e =
       hints = h .hints;
       confirmed = h .confirmed;
       known = or-right (eqb (length (r .confirmed)) 0) refl;
+      marks = h .marks;
     })
 
 pub new-ok : (a : Area) (k budget spacing most : ℕ) → hintingOk a Unknown (newHinting a k budget spacing most) ≡ true
@@ -186,6 +197,23 @@ new-ok a k budget spacing most =
       hints = rising-none hintLsn hintOk (a .start) (a .end);
       confirmed = rising-none confirmedLsn confirmationOk (a .start) (a .end);
       known = refl;
+      marks = unmarked-marks (min most maxHints) [] tt;
+    })
+
+-- a mark set: LSNs and numbers stay
+pub mark-ok : (a : Area) (f : Fingerprint) (r : Hinting) (lsn : ℕ) → question53 r lsn ≡ true → hintingOk a f r ≡ true → hintingOk a f (withMark r lsn) ≡ true
+unfolding withMark
+mark-ok a f r lsn q e =
+    let h = hinting→ a f r e in let hs = r .hints in let i = placeOf lsn hs in
+    →hinting a f (withMark r lsn)
+    (record {
+      most = h .most;
+      few = rw length-set (h .few);
+      fewer = h .fewer;
+      hints = sym (unkept-ok a (markedAt hs i)) ∙ ap (hintsOk a) (marked-unkept hs i) ∙ unkept-ok a hs ∙ h .hints;
+      confirmed = h .confirmed;
+      known = h .known;
+      marks = marked-ok r lsn q (h .marks);
     })
 
 -- ---- sizes

@@ -6,6 +6,7 @@ use Prim.Native.Nat.{ℕ, zero, suc, _+_, _-_, _<_, _≤_, min}
 use native.Mathlib.Omega.{arith}
 use lib.ListN.{length, getD, take, drop, length-drop}
 use borrow.Author.Tests.{lt-ltb, le-ltb}
+use Rattle.field.proofs.Format.{Each, none, one}
 use Rattle.rules.specs.Tests.{each}
 use Rattle.rules.specs.Hints.{insert, lastOnes}
 use Rattle.laws.specs.Adding.{passing}
@@ -70,6 +71,10 @@ module _ {A : Type 0} (P : A → Type 0) where
   all-sub empty h = tt
   all-sub (same s) h = (h .0, all-sub s (h .1))
   all-sub (skip s) h = all-sub s (h .1)
+
+  pub all-of : {xs : List A} → Each P xs → All P xs
+  all-of none = tt
+  all-of (one p ps) = (p, all-of ps)
 
   pub all-append : (xs ys : List A) → All P xs → All P ys → All P (xs ++ ys)
   all-append [] ys h k = k

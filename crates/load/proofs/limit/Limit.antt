@@ -20,11 +20,12 @@ use Rattle.rules.specs.declared.Fingerprint.the-variants.{Unknown}
 use Rattle.rules.specs.declared.Fingerprint.the-variants as fingerprint
 use Rattle.rules.specs.Tests.{Accepted}
 use Rattle.rules.specs.Values.{Frame, Index, used}
-use Rattle.rules.specs.Hints.{thin, lastOnes}
+use Rattle.rules.specs.Hints.{thin, lastOnes, unkept}
 use Rattle.rules.specs.File.{readHeader}
 use Rattle.rules.specs.Load.{HintSection, hasFingerprint, indexFrom, bodyIn, fromBytes, fitting, within, unmarked, limited}
 use Rattle.rules.proofs.Tests.{after→}
 use Rattle.laws.proofs.Parsed.{sections-forth}
+use Rattle.laws.proofs.Marks.{unkept-length}
 use Rattle.laws.proofs.hint_lists.Thinning.{thin-length}
 use Rattle.laws.proofs.hint_lists.Lists.{last-length}
 use Rattle.tables.specs.Tables.{partsIn}
@@ -96,7 +97,7 @@ module _ {b : List ℕ} {x : Index} (l : Laid b x) (p : Plain x) (limit : ℕ) w
       → keptWith (numbersFrom x) budget frames parts most hints confirmed ≡ numbersFrom (limited limit x)
   unfolding limited
   numbers-of eb ef ep em eh ec =
-      rw (ep, eh, ec, em, ef, eb, l .frames, l .parts, p .mark, p .image, thin-length (min (x .hinting .most) (limit / 8)) (x .hinting .hints), last-length (min (min (x .hinting .most) (limit / 8)) (limit / 16)) (x .hinting .confirmed))
+      rw (ep, eh, ec, em, ef, eb, l .frames, l .parts, p .mark, p .image, thin-length (min (x .hinting .most) (limit / 8)) (unkept (x .hinting .hints)), unkept-length (x .hinting .hints), last-length (min (min (x .hinting .most) (limit / 8)) (limit / 16)) (x .hinting .confirmed))
 
 pub kept-is : {a : Area} {b : List ℕ} {found : Found} {budget at frames parts-at parts most hints confirmed : ℕ} (limit : ℕ) → Bytes b → Accepts a b found
     → budget ≡ min (found .index .budget) limit → at ≡ 80 + found .index .checkpoints * 24

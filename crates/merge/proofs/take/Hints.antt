@@ -14,13 +14,16 @@ use Rattle.field.proofs.Format.{bytesOf-length}
 use Rattle.field.proofs.Records.{records-length, records-take}
 use Rattle.rules.specs.declared.Area.{Area}
 use Rattle.rules.specs.declared.Hint.{Hint}
-use Rattle.rules.specs.Hints.{insertAll, joinedHints}
-use Rattle.rules.specs.File.{encodeHint, decodeHint, over}
+use Rattle.rules.specs.Hints.{insertAll, joinedHints, unkept}
+use Rattle.rules.specs.File.{over}
 use Rattle.rules.proofs.Tests.{test}
 use Rattle.laws.proofs.hint_lists.Hints.{joined-none, joined-cases, limitedTo-keeps, insertAll-length}
 use Rattle.laws.proofs.hint_lists.Thinning.{thin-length}
-use Rattle.laws.proofs.Layouts.{hint-layout}
-use Rattle.tables.specs.Tables.{hintsIn}
+use Rattle.laws.proofs.Marks.{unkept-length}
+use Rattle.tables.specs.Tables.{encodeKept, decodeKept, keptIn}
+use Rattle.tables.proofs.Kept.{kept-layout}
+use Rattle.add_hints.specs.Merged.{decodeUnkept}
+use Rattle.add_hints.proofs.Arriving.{unkept-in}
 use Rattle.add_hints.specs.JoinedMerged.{joinedIn, touched, clearedTo}
 use Rattle.merge.specs.TakeNeeds.{HintsReady, listed, writtenTo, hintsJoined}
 
@@ -34,12 +37,12 @@ joined-most a most hs xs =
     none e = rw (eqb-true most 0 e) (rw (joined-none a hs xs) (omega arith))
 
 -- zeros behind the hints, as one list over the table
-cleared-over : (w : ℕ) (hs : List Hint) (t : List ℕ) → length hs ≤ w → clearedTo w hs t ≡ over (bytesOf encodeHint hs ++ replicate ((w - length hs) * 8) 0) t
+cleared-over : (w : ℕ) (hs : List Hint) (t : List ℕ) → length hs ≤ w → clearedTo w hs t ≡ over (bytesOf encodeKept hs ++ replicate ((w - length hs) * 8) 0) t
 cleared-over w hs t l =
-    let b = bytesOf encodeHint hs in
+    let b = bytesOf encodeKept hs in
     let z = replicate {A = ℕ} ((w - length hs) * 8) 0 in
     let n : length (b ++ z) ≡ w * 8 =
-    length-append b z ∙ rw (bytesOf-length hint-layout hs, length-replicate {A = ℕ} ((w - length hs) * 8) 0)
+    length-append b z ∙ rw (bytesOf-length kept-layout hs, length-replicate {A = ℕ} ((w - length hs) * 8) 0)
     (let q : length hs + (w - length hs) ≡ w = omega arith in let p = add-mul (length hs) (w - length hs) 8 in sym p ∙ rw q) in
     rw (n, append-assoc)
 
@@ -57,9 +60,10 @@ unfolding hintsJoined touched
 hints-done {a} {n} {m} {e} {r} {t'} most t u h q c b =
     let l : length (take (m * 8) u) ≡ m * 8 = length-take-le (m * 8) u (h .there) in
     let k : length (take (m * 8) u) / 8 ≡ m = omega arith in
-    let s = records-take 8 decodeHint m (m * 8) u (omega arith) in
-    let hs = joinedHints a most (hintsIn n t) (hintsIn m u) in
+    let s = records-take 8 decodeUnkept m (m * 8) u (omega arith) ∙ unkept-in m u in
+    let hs = joinedHints a most (keptIn n t) (unkept (keptIn m u)) in
+    let many : length (unkept (keptIn m u)) ≡ m = unkept-length (keptIn m u) ∙ records-length 8 decodeKept m u in
     let c' : r ≡ length hs = rw (sub-zero e, q, k, s) at c in
     let b' : t' ≡ clearedTo (writtenTo most n m) hs t = rw (sub-zero e, q, k, s) at b in
-    let most-is : length hs ≤ writtenTo most n m = rw (records-length 8 decodeHint n t, records-length 8 decodeHint m u) at (joined-most a most (hintsIn n t) (hintsIn m u)) in
+    let most-is : length hs ≤ writtenTo most n m = rw (records-length 8 decodeKept n t, many) at (joined-most a most (keptIn n t) (unkept (keptIn m u))) in
     rw (c', b', cleared-over (writtenTo most n m) hs t most-is)

@@ -9,7 +9,11 @@ use Rattle.rules.specs.declared.Confirmation.{Confirmation}
 use Rattle.rules.specs.declared.HintRecorder.{HintRecorder}
 use Rattle.blocks.specs.Head.{hintRecorderWords}
 use Rattle.blocks.specs.IsHead.{isIndex, isHintRecorder}
-use Rattle.index.specs.Index.{Tables}
+use Rattle.rules.specs.Tests.{numberOf}
+use Rattle.index.specs.Index.{Tables, out}
+use Rattle.index.specs.declared.Made.{Made}
+use Rattle.index.specs.Calls.{madeOf}
+use Rattle.keep_hint.specs.Keep.{keepHintIn}
 use Rattle.hint.specs.declared.HintAnswer.{HintAnswer}
 use Rattle.hint.specs.Calls.{answerOf, hintIn}
 use Rattle.hint_recorder.specs.declared.Created.{Created}
@@ -24,7 +28,7 @@ use Rattle.confirmations.specs.Keeping as keeping
 use Rattle.player.specs.Block.{called, into, headIndex, headHintRecorder}
 use Rattle.player.proofs.block.Blocks.{long-enough, is-head}
 use Rattle.player_record.specs.Block.{calledBoth, seenOf, sawOf, sectorWords, createdOf, createdWords, hintWords, takenInto, keptInto}
-use Rattle.player_record.specs.HintCallsCalls.{calledList, calledKept, hintRecorderCall, seeCall, flushCall, takeCall, keepCall, hintCall}
+use Rattle.player_record.specs.HintCallsCalls.{calledList, calledKept, calledTables, hintRecorderCall, seeCall, flushCall, takeCall, keepCall, keepHintCall, hintCall}
 
 -- ---- a block that is only written, and a list's head
 module _ (b b' : List ℕ) (n : ℕ) (l : 192 ≤ length b) (h : List ℕ) (g : isIndex h ≡ true) (x : AreaIndex) (t : Tables) where
@@ -60,3 +64,9 @@ pub keep-done : (b b' : List ℕ) (n : ℕ) → isIndex b ≡ true → (a a' : L
     → calledBoth n b' a' ≡ keptInto b a q → keeping.out q t' ≡ keepIn x t c → x ≡ headIndex b → calledKept n b' a' t' ≡ keepCall b c a t
 unfolding keepCall
 keep-done b b' n l a a' k x t t' c q p e z = is-head _ _ _ l (long-enough a _ _ k (rw (← z, ← e, p)))
+
+-- ---- a list's head that is only read
+pub keep-hint-done : (h : List ℕ) → isIndex h ≡ true → (x : AreaIndex) (t t' : Tables) (lsn n : ℕ) (q : Made)
+    → n ≡ numberOf (madeOf q) → out q t' ≡ keepHintIn x t lsn → x ≡ headIndex h → calledTables n t' ≡ keepHintCall h lsn t
+unfolding keepHintCall
+keep-hint-done h l x t t' lsn n q p e z = is-head _ _ _ l (rw (← z, ← e, p))

@@ -11,17 +11,17 @@ use lib.ListN.{length, take, drop, length-take, length-drop, take-append-drop, d
 use lib.Seq.{drop-drop}
 use Rattle.field.specs.Number.{encode, numberAt}
 use Rattle.field.specs.Records.{records, bytesOf, Bytes}
-use Rattle.field.proofs.Bytes.{bytes-drop, bytes-take, bytes-part}
+use Rattle.field.proofs.Bytes.{bytes-drop, bytes-part}
 use Rattle.field.proofs.Number.{encode-number}
 use Rattle.field.proofs.Format.{Each, none as nothing, one, bytes-records}
 use Rattle.field.proofs.Records.{records-length}
 use Rattle.rules.specs.declared.Area.{Area}
-use Rattle.rules.specs.Tests.{Answer, Refused, Accepted, ask, firstNo, after, bind}
+use Rattle.rules.specs.Tests.{Answer, Refused, Accepted, ask, firstNo, bind}
 use Rattle.rules.specs.Values.{Index, Lengths, max32}
 use Rattle.rules.specs.Questions.{areaOk, question1, question2, question3, question4, four, fourOf, askFour}
-use Rattle.rules.specs.File.{readHeader, saved, savedLength, save}
-use Rattle.rules.specs.Load.{bodyIn, fromBytes, fileNumber, headerNumber, readSections, limited, load}
-use Rattle.rules.proofs.Tests.{test, all→, →all, asked→, →asked, accepted-eq, after→, bind→}
+use Rattle.rules.specs.File.{saved, savedLength, save}
+use Rattle.rules.specs.Load.{fromBytes, limited, load}
+use Rattle.rules.proofs.Tests.{test, all→, →all, asked→, →asked, accepted-eq, bind→}
 use Rattle.laws.specs.Statements.{Savable, stripped}
 use Rattle.laws.proofs.Facts.{sized→}
 use Rattle.laws.proofs.Length.{savedLength-is}
@@ -29,10 +29,9 @@ use Rattle.laws.proofs.Limit.{large-limit}
 use Rattle.laws.proofs.Loaded.{loaded-valid}
 use Rattle.laws.proofs.Question4.{saved-bytes}
 use Rattle.laws.proofs.Saved.{load-of-save}
-use Rattle.laws.proofs.Parsed.{sections-forth}
 use Rattle.theorems.specs.Terms.{Ample}
 use Rattle.theorems.proofs.Closure.{load→}
-use Rattle.theorems.proofs.RoundTrip.{loaded-saves}
+use Rattle.theorems.proofs.RoundTrip.{loaded-saves, loaded-area}
 use Rattle.rules_disc.specs.declared.Entry.{Entry}
 use Rattle.rules_disc.specs.Disc.{Disc, entry, encodeEntry, decodeEntry, tableSize, countIn, entriesIn, laid, contentsOk, entryOf, bodyOf, slotArea, slotOf, entriesFrom, contentsOf, discBytes, bodiesLength, discLength, listed, loadBody}
 use Rattle.theorems.specs.DiscFile.{Whole, Loads}
@@ -204,16 +203,6 @@ pub record Kept (l : Lengths) (a : Area) (c : List ℕ) (x : Index) : Type 0 whe
 pub as-saved : (x : Index) → Savable x → Savable (stripped x)
 unfolding question1
 as-saved x v = loaded-valid (x .scan .area) (saved x) (stripped x) (saved-bytes x (sized→ x (v .sizes))) (v .one) (load-of-save x v)
-
-loaded-area : (a : Area) (b : List ℕ) (x : Index) → Bytes b → fromBytes a b ≡ Accepted x → x .scan .area ≡ a
-unfolding fromBytes
-loaded-area a b x g e =
-    let h = readHeader (bodyIn b) in
-    let r = drop 80 (bodyIn b) in
-    let p = after→ (fileNumber b) (after (headerNumber a h (length r)) (readSections a h r)) x e in
-    let q = after→ (headerNumber a h (length r)) (readSections a h r) x (p .1) in
-    let s = sections-forth a h r x (bytes-drop (bodyIn b) 80 (bytes-take b (length b - 8) g)) (q .1) in
-    sym (ap (λ (i : Index). i .scan .area) (s .is))
 
 -- the list of a file under a limit that drops nothing
 list-savable : (a : Area) (c : List ℕ) (limit : ℕ) (w x : Index) → Bytes c → areaOk a ≡ true → fromBytes a c ≡ Accepted w → Ample limit w → limited limit w ≡ x → Savable x

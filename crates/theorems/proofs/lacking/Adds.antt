@@ -18,7 +18,7 @@ use Rattle.rules.specs.Tests.{isSome, orElse, Accepted}
 use Rattle.rules.specs.Values.{Scan, Index, Lengths, noHint, noConfirmation, count, complete, stated, isChecked}
 use Rattle.rules.specs.Sections.{hintLsn, hintOk, hintsOk, confirmedLsn, confirmationOk, confirmationsOk}
 use Rattle.rules.specs.Questions.{question4}
-use Rattle.rules.specs.Hints.{insert, arrivedHint, inArea, insertAll, limitedTo, joinedHints, heldConfirmation, lastOnes, keepsNothing, keep, keepAll}
+use Rattle.rules.specs.Hints.{insert, arrivedHint, unkeptHint, unkept, inArea, insertAll, limitedTo, joinedHints, heldConfirmation, lastOnes, keepsNothing, keep, keepAll}
 use Rattle.rules.specs.Merge.{further, mergedScan, heldFrom, mergedFingerprint, merged, merge}
 use Rattle.rules.proofs.Tests.{test, never, and-left, choose, →after}
 use Rattle.laws.specs.Order.{Rises}
@@ -45,20 +45,22 @@ module _ {A : Type 0} (key : A → ℕ) (meet : A → A → A) (d x : A) where
 
 -- ---- hints
 module _ (a : Area) (hs : List Hint) (b : ℕ) (r : Rises hintLsn b hs) where
-  all-held : (list : List Hint) → ((i : ℕ) → i < length list → Found noHint (λ x. sameHint x (getD list i noHint)) hs) → insertAll a hs list ≡ hs
-  unfolding insertAll
+  all-held : (list : List Hint) → ((i : ℕ) → i < length list → Found noHint (λ x. sameHint x (getD list i noHint)) hs) → insertAll a hs (unkept list) ≡ hs
+  unfolding insertAll unkept
   all-held [] f = refl
-  all-held (x ∷ xs) f =
-      let h = f zero (omega arith) in let e = sameHint-eq _ x (h .holds) in
-      let s : insert hintLsn arrivedHint x hs ≡ hs = insert-held hintLsn arrivedHint noHint x b hs r (h .place) (h .inside) (ap hintLsn e) (sym e) in
+  all-held (z ∷ xs) f =
+      let x = unkeptHint z in let h = f zero (omega arith) in let y = getD hs (h .place) noHint in
+      let e : unkeptHint y ≡ x = sameHint-eq _ z (h .holds) in
+      let d = sym e in let k : arrivedHint y x ≡ y = λ i. record { lsn = d i .lsn; number = d i .number; mark = y .mark } in
+      let s : insert hintLsn arrivedHint x hs ≡ hs = insert-held hintLsn arrivedHint noHint x b hs r (h .place) (h .inside) (ap hintLsn e) k in
       let t : cond (inArea a (x .lsn)) (insert hintLsn arrivedHint x hs) hs ≡ hs = choose (λ z. z ≡ hs) (inArea a (x .lsn)) _ _ (λ w. s) (λ w. refl) in
-      rw t (all-held xs (λ i l. f (suc i) (omega arith)))
+      ap (λ (y : List Hint). insertAll a y (unkept xs)) t ∙ all-held xs (λ i l. f (suc i) (omega arith))
 
-pub joined-same : (a : Area) (most : ℕ) (hs list : List Hint) → hintsOk a hs ≡ true → length hs ≤ most → covers sameHint hs list ≡ true → joinedHints a most hs list ≡ hs
+pub joined-same : (a : Area) (most : ℕ) (hs list : List Hint) → hintsOk a hs ≡ true → length hs ≤ most → covers sameHint hs list ≡ true → joinedHints a most hs (unkept list) ≡ hs
 unfolding joinedHints limitedTo hintsOk
 joined-same a most hs list ok l c =
     let r = rising→ hintLsn hintOk (a .start) (a .end) hs ok .order in
-    let e : insertAll a hs list ≡ hs = all-held a hs (a .start) r list (covers→ noHint sameHint hs list c) in
+    let e : insertAll a hs (unkept list) ≡ hs = all-held a hs (a .start) r list (covers→ noHint sameHint hs list c) in
     choose (λ z. z ≡ hs) (eqb most 0) hs _ (λ w. refl) (λ w. rw (e, le-leb (length hs) most l))
 
 -- ---- confirmations
@@ -112,7 +114,7 @@ unfolding merged
 merged-same own other q h =
     let k = hinting→ (own .scan .area) (own .fingerprint) (own .hinting) (holds-of own q) in
     let e0 : mergedScan (own .scan) (other .scan) ≡ own .scan = scan-same (own .scan) (other .scan) (h .checkpoints) (h .ending) in
-    let e1 : joinedHints (own .scan .area) (own .hinting .most) (own .hinting .hints) (other .hinting .hints) ≡ own .hinting .hints =
+    let e1 : joinedHints (own .scan .area) (own .hinting .most) (own .hinting .hints) (unkept (other .hinting .hints)) ≡ own .hinting .hints =
     joined-same (own .scan .area) (own .hinting .most) (own .hinting .hints) (other .hinting .hints) (k .hints) (k .few) (h .hints) in
     let e2 : keepAll (isChecked (own .fingerprint)) (own .hinting .most) (own .hinting .confirmed) (other .hinting .confirmed) ≡ own .hinting .confirmed =
     kept-same (own .scan .area) (isChecked (own .fingerprint)) (own .hinting .most) (own .hinting .confirmed) (other .hinting .confirmed) (k .confirmed) (k .fewer) (h .confirmed) in

@@ -8,8 +8,8 @@ use Rattle.rules.specs.Questions.{question4}
 use Rattle.rules.specs.Merge.{merged, mergeNumber}
 use Rattle.rules.proofs.Tests.{both, and-left, →all, accepted→}
 use Rattle.rules.proofs.Same.{eqb-self, sameCheckpoint-self, sameEnd-self}
-use Rattle.rules_lacks.specs.Lacks.{sameHint}
-use Rattle.rules_lacks.proofs.Laws.{sameHint-self}
+use Rattle.rules_lacks.specs.Lacks.{equalHint}
+use Rattle.rules_lacks.proofs.Laws.{equalHint-self}
 use Rattle.adds.specs.declared.Brings.{Brings}
 use Rattle.adds.specs.Same.{sameConfirmation}
 use Rattle.adds.specs.Brings.{sameFrame, sameHeld, bringsOf, brings}
@@ -37,7 +37,7 @@ same-brings own x s h f =
           (
             again (sameList-self eqb eqb-self (own .scan .malformed)),
             (
-              again (sameList-self sameHint sameHint-self (own .hinting .hints)),
+              again (sameList-self equalHint equalHint-self (own .hinting .hints)),
               (again (sameList-self sameConfirmation sameConfirmation-self (own .hinting .confirmed)), (again (sameFingerprint-self (own .fingerprint)), tt)),
             ),
           ),

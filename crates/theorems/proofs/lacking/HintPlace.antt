@@ -16,9 +16,9 @@ use Rattle.rules.specs.declared.Hint.{Hint}
 use Rattle.rules.specs.Tests.{isSome, orElse, Accepted, ask, firstNo}
 use Rattle.rules.specs.Values.{Index, Lengths, hintReach, noHint, noConfirmation, isChecked}
 use Rattle.rules.specs.Questions.{four, question1, question2, question3, question4}
-use Rattle.rules.specs.Hints.{larger, largerOf, largestOf, near, confirmedAt, hintPlace, Hinted, hintedLocally, hintedLater, hintedAt, hint}
+use Rattle.rules.specs.Hints.{unkeptHint, larger, largerOf, largestOf, near, confirmedAt, hintPlace, Hinted, hintedLocally, hintedLater, hintedAt, hint}
 use Rattle.rules.proofs.Tests.{test, never, choose, both, and-left, and-right, or-cases, or-left, or-right, asked, asks, accepted→, →after}
-use Rattle.theorems.specs.Hints.{Among}
+use Rattle.theorems.specs.Hints.{Stands}
 use Rattle.theorems.specs.Lacks.{Confirms, Serves, NotLower, ConfirmedFor, HintServes, LacksHint}
 use Rattle.theorems.proofs.Useful.{largest-found}
 use Rattle.theorems.proofs.lacking.Trans.{Asked, lacks→}
@@ -211,14 +211,18 @@ module _ (own other : Index) (s : Serves own other) (mark : isChecked (other .fi
 
   -- the own place of a hint of the other
   module _ (i : ℕ) (l : i < length gs) (n : nearAt other i ≡ true) where
-    abbrev same : Among hs (getD gs i noHint)
+    abbrev same : Stands hs (getD gs i noHint)
     same = s .hints (getD gs i noHint) (record { place = i; inside = l; holds = refl })
 
     abbrev j : ℕ
     j = same .place
 
+    near-like : (h k : Hint) → unkeptHint h ≡ unkeptHint k → near first h ≡ true → near first k ≡ true
+    unfolding near
+    near-like h k e p = subst (λ (z : Hint). near first z ≡ true) e p
+
     near-own : nearAt own j ≡ true
-    near-own = subst (λ (h : Hint). near first h ≡ true) (sym (same .holds)) n
+    near-own = near-like (getD gs i noHint) (getD hs j noHint) (sym (same .holds)) n
 
     best-own : confirms other (getD gs i noHint .lsn) ≡ true → bestAt own j ≡ true
     best-own c = both near-own (subst (λ (h : Hint). confirms own (h .lsn) ≡ true) (sym (same .holds)) (confirms-on (getD gs i noHint .lsn) c))

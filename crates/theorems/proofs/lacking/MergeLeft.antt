@@ -14,8 +14,8 @@ use Rattle.rules.specs.declared.Held.{Held}
 use Rattle.rules.specs.declared.Hint.{Hint}
 use Rattle.rules.specs.Tests.{Accepted}
 use Rattle.rules.specs.Values.{Scan, Index, Lengths, noHeld, noHint, noConfirmation, boundaries, count, complete, isChecked}
-use Rattle.rules.specs.Sections.{hintsOk, confirmedLsn}
-use Rattle.rules.specs.Hints.{insert, insertAll, limitedTo, joinedHints, heldConfirmation, lastOnes, keepsNothing, keep, keepAll}
+use Rattle.rules.specs.Sections.{hintLsn, hintsOk, confirmedLsn}
+use Rattle.rules.specs.Hints.{insert, arrivedHint, unkeptHint, unkept, insertAll, limitedTo, joinedHints, heldConfirmation, lastOnes, keepsNothing, keep, keepAll}
 use Rattle.rules.specs.PartRule.{stores, addParts, piece}
 use Rattle.rules.specs.Merge.{further, merged, mergeNumber, merge}
 use Rattle.rules.specs.Run.{contentOf}
@@ -23,6 +23,7 @@ use Rattle.rules.proofs.Tests.{test, never, order, or-right, accepted→}
 use Rattle.laws.specs.Order.{Rises}
 use Rattle.laws.specs.Merging.{insertedWith}
 use Rattle.laws.proofs.hint_lists.Lists.{All, all-at, all-map, all-sub, sub-last, last-length, insert-none, insert-cases}
+use Rattle.laws.proofs.Marks.{unkept-length, unkept-ok}
 use Rattle.laws.proofs.hint_lists.Rising.{rises-all, rises-insert}
 use Rattle.laws.proofs.scans.Parts.{part-at}
 use Rattle.laws.proofs.hint_lists.Merging.{inserted-with}
@@ -32,12 +33,12 @@ use Rattle.laws.proofs.hint_lists.Closure.{HintingIs, hinting→}
 use Rattle.laws.proofs.hint_lists.Calls.{Taken, taken, holds-of}
 use Rattle.rules_lacks.proofs.Laws.{ConfirmsAlso}
 use Rattle.theorems.specs.Terms.{Holds, storedIn}
-use Rattle.theorems.specs.Hints.{One, Among}
+use Rattle.theorems.specs.Hints.{One, Among, Stands}
 use Rattle.theorems.specs.Useful.{MergeOf}
 use Rattle.theorems.specs.Lacks.{Confirms, together, Thinned, PushedOut, OtherDigest, MergeLeaves, MergeLeft}
 use Rattle.theorems.proofs.Jump.{Joinable, joinable}
 use Rattle.theorems.proofs.ScanLaws.{counts}
-use Rattle.theorems.proofs.Hints.{Any, any-at, one→, →one, lsn-inside, last-of, met-or-not, unmet-stays, given-all}
+use Rattle.theorems.proofs.Hints.{Any, any-all, all-places, unique, unkept-at, one→, →one, lsn-inside, last-of, met-or-not, unmet-stays, given-all}
 use Rattle.theorems.proofs.Useful.{merge-takes}
 
 -- ---- one of a list, by cases
@@ -208,8 +209,8 @@ module _ (own other y : Index) (k : HintingIs (own .scan .area) (own .fingerprin
       (λ e. ⊎-elim (λ q. inl q) (λ q. inr (inr q)) (stays-or-out (getD ds i noConfirmation) e (new-all cs ds 0 i rises' l)))
 
 -- ---- hints
-same-hint : (h k : Hint) → k .lsn ≡ h .lsn → k .number ≡ h .number → k ≡ h
-same-hint h k e d = λ i. record { lsn = e i; number = d i }
+same-hint : (h k : Hint) → k .lsn ≡ h .lsn → k .number ≡ h .number → arrivedHint h k ≡ h
+same-hint h k e d = λ i. record { lsn = e i; number = d i; mark = h .mark }
 
 -- has x the LSN of h, with another number?
 abbrev Renumbers : Hint → Hint → Type 0
@@ -218,7 +219,7 @@ Renumbers h x = (x .lsn ≡ h .lsn) × (x .number ≡ h .number → ⊥)
 -- what is there before thinning
 module _ (a : Area) (hs gs : List Hint) (ok : hintsOk a gs ≡ true) (h : Hint) where
   -- a hint of the other list
-  other-there : Any (λ z. z ≡ h) gs → Any (λ z. z ≡ h) (insertAll a hs gs)
+  other-there : Any (λ z. z ≡ h) gs → Any (λ z. unkeptHint z ≡ unkeptHint h) (insertAll a hs gs)
   other-there m = given-all a hs gs h (last-of a gs ok h m) (lsn-inside a gs ok h m)
 
   -- a hint of the own list, unless the other has another number at its LSN
@@ -228,40 +229,57 @@ module _ (a : Area) (hs gs : List Hint) (ok : hintsOk a gs ≡ true) (h : Hint) 
       (λ v.
       let k = getD gs (v .place) noHint in
       test (eqb (k .number) (h .number))
-      (λ q. inl (other-there (any-at (λ z. z ≡ h) gs (v .place) (v .inside) (same-hint h k (v .holds) (eqb-true (k .number) (h .number) q)))))
+      (λ q. inl (any-all (λ z. z ≡ h) a hs gs
+      (all-places (λ x. (y : Hint) → y .lsn ≡ x .lsn → y ≡ h → arrivedHint y x ≡ h) gs
+      (λ i l y e p.
+      let u = unique a gs ok i (v .place) l (v .inside) (sym e ∙ ap hintLsn p ∙ sym (v .holds)) in let x = getD gs i noHint in
+      ap (λ (z : Hint). arrivedHint z x) p ∙ same-hint h x (ap hintLsn u ∙ v .holds) (ap (λ (z : Hint). z .number) u ∙ eqb-true (k .number) (h .number) q))) m))
       (λ q. inr (record { place = v .place; inside = v .inside; holds = (v .holds, eqb-false (k .number) (h .number) q) })))
       (λ n. inl (unmet-stays a hs gs h n m)) (met-or-not gs (h .lsn))
 
 module _ (own other y : Index) (k : HintingIs (own .scan .area) (own .fingerprint) (own .hinting)) (o : HintingIs (other .scan .area) (other .fingerprint) (other .hinting))
-    (area : own .scan .area ≡ other .scan .area) (is : y .hinting .hints ≡ joinedHints (own .scan .area) (own .hinting .most) (own .hinting .hints) (other .hinting .hints)) where
+    (area : own .scan .area ≡ other .scan .area) (is : y .hinting .hints ≡ joinedHints (own .scan .area) (own .hinting .most) (own .hinting .hints) (unkept (other .hinting .hints))) where
   abbrev ms : ℕ
   ms = own .hinting .most
+
+  abbrev gs : List Hint
+  gs = other .hinting .hints
 
   abbrev found : List Hint
   found = together own other
 
   -- what is there before thinning
-  there : (h : Hint) → eqb ms 0 ≡ false → Any (λ z. z ≡ h) found → Among (y .hinting .hints) h ⊎ Thinned own other y
+  there : (P : Hint → Type 0) → eqb ms 0 ≡ false → Any P found → One P (y .hinting .hints) ⊎ Thinned own other y
   unfolding joinedHints limitedTo
-  there h e a =
-      test (leb (length found) ms) (λ w. inl (subst (λ (z : List Hint). Among z h) (sym (is ∙ rw (e, w))) (→one (λ z. z ≡ h) found a)))
+  there P e a =
+      test (leb (length found) ms) (λ w. inl (subst (λ (z : List Hint). One P z) (sym (is ∙ rw (e, w))) (→one P found a)))
       (λ w. let l = leb-false (length found) ms w in inr (record { above = omega arith; left = is ∙ rw (e, w) }))
 
-  ok-there : hintsOk (own .scan .area) (other .hinting .hints) ≡ true
-  ok-there = subst (λ (z : Area). hintsOk z (other .hinting .hints) ≡ true) (sym area) (o .hints)
+  ok-there : hintsOk (own .scan .area) (unkept gs) ≡ true
+  ok-there = unkept-ok (own .scan .area) gs ∙ subst (λ (z : Area). hintsOk z gs ≡ true) (sym area) (o .hints)
+
+  -- the other's hints without their marks
+  renumbers : (h : Hint) → One (Renumbers h) (unkept gs) → One (Renumbers h) gs
+  renumbers h v =
+      let l = v .inside in
+      record { place = v .place; inside = omega (arith, unkept-length gs); holds = subst (λ (z : Hint). Renumbers h z) (unkept-at gs (v .place)) (v .holds) }
+
+  unkept-among : (h : Hint) → Among gs h → Among (unkept gs) (unkeptHint h)
+  unkept-among h v = let l = v .inside in record { place = v .place; inside = omega (arith, unkept-length gs); holds = unkept-at gs (v .place) ∙ ap unkeptHint (v .holds) }
 
   own-hint : (h : Hint) → Among (own .hinting .hints) h → Among (y .hinting .hints) h ⊎ (One (Renumbers h) (other .hinting .hints) ⊎ Thinned own other y)
   unfolding joinedHints
   own-hint h a =
       test (eqb ms 0) (λ e. inl (subst (λ (z : List Hint). Among z h) (sym (is ∙ rw e)) a))
-      (λ e. ⊎-elim (λ p. ⊎-elim (λ q. inl q) (λ q. inr (inr q)) (there h e p)) (λ p. inr (inl p))
-      (own-there (own .scan .area) (own .hinting .hints) (other .hinting .hints) ok-there h (one→ (λ z. z ≡ h) (own .hinting .hints) a)))
+      (λ e. ⊎-elim (λ p. ⊎-elim (λ q. inl q) (λ q. inr (inr q)) (there (λ z. z ≡ h) e p)) (λ p. inr (inl (renumbers h p)))
+      (own-there (own .scan .area) (own .hinting .hints) (unkept gs) ok-there h (one→ (λ z. z ≡ h) (own .hinting .hints) a)))
 
-  other-hint : (h : Hint) → Among (other .hinting .hints) h → Among (y .hinting .hints) h ⊎ ((own .hinting .most ≡ 0) ⊎ Thinned own other y)
+  other-hint : (h : Hint) → Among (other .hinting .hints) h → Stands (y .hinting .hints) h ⊎ ((own .hinting .most ≡ 0) ⊎ Thinned own other y)
   other-hint h a =
       test (eqb ms 0) (λ e. inr (inl (eqb-true ms 0 e)))
       (λ e. ⊎-elim (λ q. inl q) (λ q. inr (inr q))
-      (there h e (other-there (own .scan .area) (own .hinting .hints) (other .hinting .hints) ok-there h (one→ (λ z. z ≡ h) (other .hinting .hints) a))))
+      (there (λ z. unkeptHint z ≡ unkeptHint h) e
+      (other-there (own .scan .area) (own .hinting .hints) (unkept gs) ok-there (unkeptHint h) (one→ (λ z. z ≡ unkeptHint h) (unkept gs) (unkept-among h a)))))
 
 -- ---- parts
 at-length : (xs ys : List Held) (q : Held) → getD (xs ++ (q ∷ ys)) (length xs) noHeld ≡ q
@@ -304,7 +322,7 @@ merge-left l m own other y e =
     let r = accepted→ (mergeNumber l own m other) (merged own other) y e in let c = taken l m own other (r .0) in
     let k = hinting→ (own .scan .area) (own .fingerprint) (own .hinting) (holds-of own (c .four)) in
     let o = hinting→ (other .scan .area) (other .fingerprint) (other .hinting) (holds-of other (c .four')) in
-    let ih : y .hinting .hints ≡ joinedHints (own .scan .area) (own .hinting .most) (own .hinting .hints) (other .hinting .hints) = sym (ap (λ (z : Index). z .hinting .hints) (r .1)) in
+    let ih : y .hinting .hints ≡ joinedHints (own .scan .area) (own .hinting .most) (own .hinting .hints) (unkept (other .hinting .hints)) = sym (ap (λ (z : Index). z .hinting .hints) (r .1)) in
     let ic : y .hinting .confirmed ≡ keepAll (isChecked (own .fingerprint)) (own .hinting .most) (own .hinting .confirmed) (other .hinting .confirmed) =
     sym (ap (λ (z : Index). z .hinting .confirmed) (r .1)) in
     record {

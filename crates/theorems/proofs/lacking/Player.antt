@@ -10,7 +10,8 @@ use borrow.Author.Tests.{eqb-true, eqb-false, ltb-true}
 use Rattle.field.proofs.Format.{Each, none, one, numbers, records-bytes}
 use Rattle.field.proofs.Records.{records-length}
 use Rattle.rules.specs.declared.AreaIndex.{AreaIndex}
-use Rattle.rules.specs.File.{bit, over, decodeCheckpoint, decodeHeld, decodeLsn, decodeHint, decodeConfirmation}
+use Rattle.rules.specs.File.{bit, over, decodeCheckpoint, decodeHeld, decodeLsn, decodeConfirmation}
+use Rattle.tables.specs.Tables.{decodeKept}
 use Rattle.rules.specs.Tests.{Answer, Refused, Accepted, numberOf, after}
 use Rattle.rules.specs.Merge.{mergeNumber}
 use Rattle.rules.proofs.Tests.{test, and-left, all→, →all, accepted→}
@@ -97,7 +98,7 @@ module _ (x : AreaIndex) (t : Tables) (y : AreaIndex) (u : Tables) where
       (one (bit-fits (l .ending))
       (one (wide _ _ _ (few _ _ _) (records-length 24 decodeHeld (y .parts) (u .parts)) p)
       (one (wide _ _ _ (few _ _ _) (records-length 4 decodeLsn (y .malformed) (u .malformed)) m)
-      (one (wide _ _ _ (few _ _ _) (records-length 8 decodeHint (y .hints) (u .hints)) h)
+      (one (wide _ _ _ (few _ _ _) (records-length 8 decodeKept (y .hints) (u .hints)) h)
       (one (wide _ _ _ (few _ _ _) (records-length 16 decodeConfirmation (y .confirmed) (u .confirmed)) k)
       (one (bit-fits (l .fingerprint)) (one (bit-fits (l .image)) (one (bit-fits (l .budget)) (one (bit-fits (l .most))
       (one z (one z (one z (one z (one z (one z (one z (one z (one z (one z (one z (one z (one z (one z none)))))))))))))))))))))))

@@ -27,7 +27,8 @@ use Rattle.laws.proofs.scans.Scans.{scan-of, scan→}
 use Rattle.rules_lacks.specs.Lacks.{samePart, sameHint, confirmsAlso}
 use Rattle.rules_lacks.proofs.Laws.{covers→, samePart→, sameHint-eq, confirms→}
 use Rattle.theorems.specs.Terms.{Holds, storedIn}
-use Rattle.theorems.specs.Hints.{Among}
+use Rattle.theorems.specs.Hints.{Among, Stands}
+use Rattle.rules.specs.Hints.{unkeptHint}
 use Rattle.theorems.specs.Lacks.{Confirms, Serves, NothingLacking}
 use Rattle.theorems.proofs.Jump.{place, last-grows, last-inside, last-same, plan-at}
 use Rattle.theorems.proofs.lacking.Planned.{plan-names}
@@ -101,10 +102,10 @@ module _ (own other : Index) (n : Nothing own other) where
       let s = samePart→ (own .scan .frames) (other .scan .frames) _ _ (f .holds) in
       record { place = f .place; inside = f .inside; checkpoint = s .0; content = s .1 }
 
-  each-hint : (h : Hint) → Among (other .hinting .hints) h → Among (own .hinting .hints) h
+  each-hint : (h : Hint) → Among (other .hinting .hints) h → Stands (own .hinting .hints) h
   each-hint h o =
       let f = covers→ noHint sameHint (own .hinting .hints) (other .hinting .hints) (n .hints) (o .place) (o .inside) in
-      record { place = f .place; inside = f .inside; holds = sameHint-eq _ _ (f .holds) ∙ o .holds }
+      record { place = f .place; inside = f .inside; holds = sameHint-eq _ _ (f .holds) ∙ ap unkeptHint (o .holds) }
 
   each-confirmed : (i : ℕ) → i < length (other .hinting .confirmed) → Confirms (own .hinting .confirmed) (getD (other .hinting .confirmed) i noConfirmation)
   each-confirmed i l =

@@ -2,15 +2,16 @@ use Prim.Native.Nat.{_≤_, _<_, _-_}
 use mathlib.Core.Path.{_≡_, _∙_, refl}
 use native.Mathlib.Omega.{arith}
 use lib.ListN.{length}
-use Rattle.tables.specs.Tables.{hintsIn}
-use Rattle.thin.proofs.Steps.{hint-layout, Pass, pass-start, pass-short, pass-within, pass-step, pass-end}
+use Rattle.tables.specs.Tables.{keptIn}
+use Rattle.tables.proofs.Kept.{kept-layout}
+use Rattle.thin.proofs.Steps.{Pass, pass-start, pass-short, pass-within, pass-step, pass-end}
 use Rattle.laws.proofs.hint_lists.Passes.{begins-at}
 use borrow.Author.Needs.{needs}
 use Rattle.thin.proofs.close_up.Statement.{statement}
 use Rattle.thin.proofs.close_up.Tie as tie
 
 abbrev Inv-loop : tie.InvT-loop
-Inv-loop t₀ n cut p₀ i₀ t p i = (i ≤ n) × (length t ≡ length t₀) × Pass (hintsIn n t₀) cut t₀ t p i
+Inv-loop t₀ n cut p₀ i₀ t p i = (i ≤ n) × (length t ≡ length t₀) × Pass (keptIn n t₀) cut t₀ t p i
 
 abbrev μ-loop : tie.MeasureT-loop
 μ-loop t₀ n cut p₀ i₀ t p i = n - i
@@ -22,7 +23,7 @@ turn-requires : tie.Need-turn-requires Inv-loop μ-loop
 turn-requires c κs = pass-within _ _ (c .before .before .before .before .loop .inv .2) (c .before .before .before .loop-test .taken) (omega arith)
 
 loop-again : tie.Need-loop-again Inv-loop μ-loop
-loop-again c = let u = c .before .before .before .before .before .before .before .loop .inv .2 in let l = c .before .before .before .before .before .before .loop-test .taken in let v = c .before .before .turn in let f : c .before .before .before .before .read-hint .result .number < 4294967296 = omega arith in let e = (c .before .before .before .before .read-hint .ensures) ∙ begins-at hint-layout (u .starts) _ (pass-short u) in (omega arith, omega (arith, (v .kept)), pass-step _ _ u l e f (pass-within _ _ u l (omega arith)) (v .ensures .0) (v .ensures .1))
+loop-again c = let u = c .before .before .before .before .before .before .before .loop .inv .2 in let l = c .before .before .before .before .before .before .loop-test .taken in let v = c .before .before .turn in let f : c .before .before .before .before .read-hint .result .number < 4294967296 = omega arith in let e = (c .before .before .before .before .read-hint .ensures) ∙ begins-at kept-layout (u .starts) _ (pass-short u) in (omega arith, omega (arith, (v .kept)), pass-step _ _ u l e f (pass-within _ _ u l (omega arith)) (v .ensures .0) (v .ensures .1))
 
 same-length : tie.Need-same-length Inv-loop μ-loop
 same-length c = (c .before .loop .inv .1)

@@ -1,41 +1,15 @@
-use Prim.Native.Nat.{_≤_, _<_, _-_}
+use Prim.Native.Nat.{_+_, _-_}
+use mathlib.Core.Path.{_≡_}
 use native.Mathlib.Omega.{arith}
-use Rattle.tables.specs.Tables.{hintsIn}
-use Rattle.thin.proofs.Steps.{hint-seen, Counted, count-start, count-step, count-short, count-end}
 use borrow.Author.Needs.{needs}
 use Rattle.thin.proofs.count_below.Statement.{statement}
 use Rattle.thin.proofs.count_below.Tie as tie
 
-abbrev Inv-loop : tie.InvT-loop
-Inv-loop t n g found₀ before₀ i₀ found before i = (i ≤ n) × Counted (hintsIn n t) g found before i
-
-abbrev μ-loop : tie.MeasureT-loop
-μ-loop t n g found₀ before₀ i₀ found before i = n - i
-
-loop-holds : tie.Need-loop-holds Inv-loop μ-loop
-loop-holds c = (omega arith, count-start _ _)
-
-add-found : tie.Need-add-found Inv-loop μ-loop
-add-found c = omega (arith, count-short (c .before .before .before .before .loop .inv .1), (c .one-of .ensures))
-
-loop-again : tie.Need-loop-again Inv-loop μ-loop
-loop-again c = let f : c .before .before .read-hint .result .number < 4294967296 = omega arith in (omega arith, count-step (c .before .before .before .before .loop .inv .1) (hint-seen _ _ _ (c .before .before .before .loop-test .taken) (c .before .before .read-hint .ensures)) f (c .before .rise-of .ensures) (c .one-of .ensures .0))
-
-returns : tie.Need-returns Inv-loop μ-loop
-returns c = count-end _ _ (c .before .loop .inv .1) (c .before .loop .inv .0) (c .loop-test .left)
+returns : tie.Need-returns
+returns c =
+    let start : tie.Start = search in
+    let z : start .args .g - 1 + 1 ≡ start .args .g = omega (arith, start .pre) in
+    rw z at (c .count-to .ensures)
 
 pub count-below-spec : {M : Type 1} → statement M
-count-below-spec =
-    tie.close
-    (tie.spec
-    Inv-loop
-    μ-loop
-    loop-holds
-    (λ c κs. search needs)
-    (λ c κs. search needs)
-    (λ c κs. search needs)
-    add-found
-    (λ c. search needs)
-    (λ c. search needs)
-    loop-again
-    returns)
+count-below-spec = tie.close (tie.spec (λ c. search needs) (λ c. search needs) (λ c κs. search needs) returns)

@@ -1,7 +1,7 @@
 use Prim.Native.Nat.{_≤_, _<_, _-_}
 use mathlib.Core.Path.{_≡_, sym}
 use native.Mathlib.Omega.{arith}
-use Rattle.tables.specs.Tables.{hintsIn}
+use Rattle.tables.specs.Tables.{keptIn}
 use Rattle.thin.specs.Thin.{lower}
 use Rattle.thin.proofs.Ranks.{below-zero}
 use Rattle.thin.proofs.Steps.{high-start, found-cut, last-cut}
@@ -10,7 +10,7 @@ use Rattle.thin.proofs.cutoff.Statement.{statement}
 use Rattle.thin.proofs.cutoff.Tie as tie
 
 abbrev Inv-loop : tie.InvT-loop
-Inv-loop t n excess low₀ high₀ less₀ low high less = (low < high) × (high ≤ 4294967296) × (less ≤ excess) × (less ≡ lower (hintsIn n t) low) × (excess ≤ lower (hintsIn n t) high)
+Inv-loop t n excess low₀ high₀ less₀ low high less = (low < high) × (high ≤ 4294967297) × (less ≤ excess) × (less ≡ lower (keptIn n t) low) × (excess ≤ lower (keptIn n t) high)
 
 abbrev μ-loop : tie.MeasureT-loop
 μ-loop t n excess low₀ high₀ less₀ low high less = high - low
@@ -33,7 +33,6 @@ cutoff-spec =
     loop-holds
     (λ c. search needs)
     (λ c κs. search needs)
-    (λ c. search needs)
     (λ c κs. search needs)
     returns
     (λ c. search needs)

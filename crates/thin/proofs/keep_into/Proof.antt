@@ -2,14 +2,14 @@ use Prim.Native.Nat.{_≤_, _<_, _-_}
 use mathlib.Core.Path.{_≡_, refl}
 use native.Mathlib.Omega.{arith}
 use lib.ListN.{length}
-use Rattle.tables.specs.Tables.{hintsIn}
+use Rattle.tables.specs.Tables.{keptIn}
 use Rattle.thin.proofs.Steps.{Pass, pass-start, pass-room, pass-step, pass-end}
 use borrow.Author.Needs.{needs}
 use Rattle.thin.proofs.keep_into.Statement.{statement}
 use Rattle.thin.proofs.keep_into.Tie as tie
 
 abbrev Inv-loop : tie.InvT-loop
-Inv-loop dst₀ src n cut p₀ i₀ dst p i = (i ≤ n) × (length dst ≡ length dst₀) × Pass (hintsIn n src) cut dst₀ dst p i
+Inv-loop dst₀ src n cut p₀ i₀ dst p i = (i ≤ n) × (length dst ≡ length dst₀) × Pass (keptIn n src) cut dst₀ dst p i
 
 abbrev μ-loop : tie.MeasureT-loop
 μ-loop dst₀ src n cut p₀ i₀ dst p i = n - i

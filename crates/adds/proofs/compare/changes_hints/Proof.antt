@@ -1,6 +1,7 @@
 use Rattle.adds.proofs.compare.Passing.{hints-none, hints-answered}
-use Rattle.rules.specs.File.{decodeHint}
 use Rattle.field.proofs.Records.{records-length}
+use Rattle.add_hints.proofs.Arriving.{unkept-in}
+use Rattle.tables.specs.Tables.{decodeKept}
 use borrow.Author.Needs.{needs}
 use Rattle.adds.proofs.compare.changes_hints.Statement.{statement}
 use Rattle.adds.proofs.compare.changes_hints.Tie as tie
@@ -13,7 +14,7 @@ returns-2 c =
     let after-weigh : tie.After-weigh = search in
     let else1 : tie.Else1 = search in
     let start : tie.Start = search in
-    hints-answered _ _ (records-length 8 decodeHint _ _) (start .pre .2) (else1 .if1 .left) (after-weigh .weigh .ensures) (c .changed-by .ensures)
+    hints-answered _ _ (records-length 8 decodeKept _ _) (start .pre .2) (else1 .if1 .left) (after-weigh .weigh .ensures) (unkept-in _ _) (c .changed-by .ensures)
 
 pub changes-hints-spec : {M : Type 1} → statement M
 changes-hints-spec = tie.close (tie.spec returns (λ c κs. search needs) (λ c κs. search needs) returns-2)

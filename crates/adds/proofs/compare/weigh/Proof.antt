@@ -1,6 +1,6 @@
 use Rattle.adds.proofs.compare.Passing.{Weighing, weigh-start, weigh-on, weigh-end}
-use Rattle.tables.specs.Tables.{hintsIn}
-use Rattle.rules.specs.File.{decodeHint}
+use Rattle.tables.specs.Tables.{decodeKept, keptIn}
+use Rattle.add_hints.specs.Merged.{decodeUnkept, unkeptIn}
 use Rattle.field.proofs.Records.{records-length}
 use native.Mathlib.Omega.{arith}
 use Prim.Native.Nat.{_+_, _-_}
@@ -9,7 +9,7 @@ use Rattle.adds.proofs.compare.weigh.Statement.{statement}
 use Rattle.adds.proofs.compare.weigh.Tie as tie
 
 abbrev Inv-loop : tie.InvT-loop
-Inv-loop own n other m s₀ i₀ j₀ s i j = Weighing (hintsIn n own) (hintsIn m other) n m s i j
+Inv-loop own n other m s₀ i₀ j₀ s i j = Weighing (keptIn n own) (unkeptIn m other) n m s i j
 
 abbrev μ-loop : tie.MeasureT-loop
 μ-loop own n other m s₀ i₀ j₀ s i j = n + m - (i + j)
@@ -21,7 +21,7 @@ loop-again : tie.Need-loop-again Inv-loop μ-loop
 loop-again c = weigh-on (c .before .before .before .loop .inv) (c .before .next-hint .ensures) (c .weigh-one .ensures)
 
 returns : tie.Need-returns Inv-loop μ-loop
-returns c = weigh-end (records-length 8 decodeHint _ _) (records-length 8 decodeHint _ _) (c .before .loop .inv) (c .loop-test .left)
+returns c = weigh-end (records-length 8 decodeKept _ _) (records-length 8 decodeUnkept _ _) (c .before .loop .inv) (c .loop-test .left)
 
 pub weigh-spec : {M : Type 1} → statement M
 weigh-spec =

@@ -12,7 +12,7 @@ use Rattle.confirmations.proofs.confirm.merge_down.Statement.{statement
 use Rattle.confirmations.proofs.confirm.merge_down.Tie as tie
 
 abbrev Inv-loop : tie.InvT-loop
-Inv-loop t₀ a e o b n p₀ q₀ k₀ t p q k = (length t ≡ length t₀) × Merging confirmedLsn heldConfirmation 16 decodeConfirmation encodeConfirmation t₀ o a e b n t p q k
+Inv-loop t₀ a e o b n p₀ q₀ k₀ t p q k = (length t ≡ length t₀) × Merging confirmedLsn heldConfirmation 16 decodeConfirmation decodeConfirmation encodeConfirmation t₀ o a e b n t p q k
 
 abbrev μ-loop : tie.MeasureT-loop
 μ-loop t₀ a e o b n p₀ q₀ k₀ t p q k = e + n - (p + q)

@@ -1,9 +1,8 @@
 use Prim.Native.Nat.{_-_}
 use lib.ListN.{drop}
 use mathlib.Core.Path.{_∙_}
-use Rattle.rules.specs.File.{decodeHint}
-use Rattle.tables.specs.Tables.{hintsIn}
-use Rattle.hint.proofs.nearest.Rest.{Rest, rest-start, rest-on, rest-stop, rest-end}
+use Rattle.tables.specs.Tables.{decodeKept, keptIn}
+use Rattle.tables.proofs.Rest.{Rest, rest-start, rest-on, rest-stop, rest-end}
 use Rattle.hint.proofs.density.Run.{runLast, last-is, run-stop, run-on, run-end}
 use borrow.Author.Needs.{needs}
 use Rattle.hint.proofs.density.run_last.Statement.{statement}
@@ -11,7 +10,7 @@ use Rattle.hint.proofs.density.run_last.Tie as tie
 
 abbrev Inv-loop : tie.InvT-loop
 Inv-loop hints n i h end last₀ j₀ last j =
-    Rest 8 decodeHint n hints (λ hs. runLast (h .number) end last hs) (runLast (h .number) end h (drop i (hintsIn n hints))) j
+    Rest 8 decodeKept n hints (λ hs. runLast (h .number) end last hs) (runLast (h .number) end h (drop i (keptIn n hints))) j
 
 abbrev μ-loop : tie.MeasureT-loop
 μ-loop hints n i h end last₀ j₀ last j = n - j

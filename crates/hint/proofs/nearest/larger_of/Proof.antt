@@ -1,5 +1,5 @@
 use Prim.Native.Nat.{_-_}
-use Rattle.tables.specs.Tables.{hintsIn}
+use Rattle.tables.specs.Tables.{keptIn}
 use native.Mathlib.Omega.{arith}
 use Rattle.hint.proofs.nearest.Place.{larger-out, larger-first, larger-new, larger-old, larger-is}
 use borrow.Author.Needs.{needs}
@@ -10,7 +10,7 @@ returns : tie.Need-returns
 returns c =
     let start : tie.Start = search in
     let a = start .args in
-    (larger-out (hintsIn (a .n) (a .hints .now)) (a .best) (a .i) (a .counts) (c .if1 .taken), omega arith)
+    (larger-out (keptIn (a .n) (a .hints .now)) (a .best) (a .i) (a .counts) (c .if1 .taken), omega arith)
 
 add-result : tie.Need-add-result
 add-result c = search needs
@@ -20,7 +20,7 @@ returns-2 c =
     let else1 : tie.Else1 = search in
     let start : tie.Start = search in
     let a = start .args in
-    (larger-first (hintsIn (a .n) (a .hints .now)) (a .best) (a .i) (a .counts) (else1 .if1 .left) (omega arith), omega arith)
+    (larger-first (keptIn (a .n) (a .hints .now)) (a .best) (a .i) (a .counts) (else1 .if1 .left) (omega arith), omega arith)
 
 sub-read-hint : tie.Need-sub-read-hint
 sub-read-hint c = search needs
@@ -52,7 +52,7 @@ returns-3 c =
     let a = start .args in
     let k = larger-is (a .n) (a .hints .now) (a .best - 1) (a .i) (omega arith) (omega arith) (first .read-hint .ensures) (second .read-hint2 .ensures) (after-and .and .ensures)
     (after-or .or .ensures) in
-    (larger-new (hintsIn (a .n) (a .hints .now)) (a .best) (a .i) (a .counts) (else1 .if1 .left) (else2 .if2 .left) k (c .if3 .taken), omega arith)
+    (larger-new (keptIn (a .n) (a .hints .now)) (a .best) (a .i) (a .counts) (else1 .if1 .left) (else2 .if2 .left) k (c .if3 .taken), omega arith)
 
 returns-4 : tie.Need-returns-4
 returns-4 c =
@@ -66,7 +66,7 @@ returns-4 c =
     let a = start .args in
     let k = larger-is (a .n) (a .hints .now) (a .best - 1) (a .i) (omega arith) (omega arith) (first .read-hint .ensures) (second .read-hint2 .ensures) (after-and .and .ensures)
     (after-or .or .ensures) in
-    (larger-old (hintsIn (a .n) (a .hints .now)) (a .best) (a .i) (a .counts) (else1 .if1 .left) (else2 .if2 .left) k (c .if3 .left), omega (arith, start .pre))
+    (larger-old (keptIn (a .n) (a .hints .now)) (a .best) (a .i) (a .counts) (else1 .if1 .left) (else2 .if2 .left) k (c .if3 .left), omega (arith, start .pre))
 
 pub larger-of-spec : {M : Type 1} → statement M
 larger-of-spec =

@@ -2,7 +2,7 @@ use Prim.Native.Nat.{_-_, _≤_}
 use mathlib.Core.Path.{_≡_, ap, _∙_}
 use native.Mathlib.Omega.{arith}
 use Rattle.plan.specs.Search.{lastIn}
-use Rattle.tables.specs.Tables.{hintsIn, confirmationsIn}
+use Rattle.tables.specs.Tables.{confirmationsIn, keptIn}
 use Rattle.hint.specs.Place.{largestIn}
 use Rattle.hint.proofs.nearest.Place.{largest-none, largest-next, largest-end}
 use borrow.Author.Needs.{needs}
@@ -10,7 +10,7 @@ use Rattle.hint.proofs.nearest.largest.Statement.{statement}
 use Rattle.hint.proofs.nearest.largest.Tie as tie
 
 abbrev Inv-loop : tie.InvT-loop
-Inv-loop hints n confirmed m checked any first best₀ j₀ best j = (j ≤ n) × (best ≤ j) × (lastIn best ≡ largestIn checked any (hintsIn n hints) (confirmationsIn m confirmed) first j)
+Inv-loop hints n confirmed m checked any first best₀ j₀ best j = (j ≤ n) × (best ≤ j) × (lastIn best ≡ largestIn checked any (keptIn n hints) (confirmationsIn m confirmed) first j)
 
 abbrev μ-loop : tie.MeasureT-loop
 μ-loop hints n confirmed m checked any first best₀ j₀ best j = n - j

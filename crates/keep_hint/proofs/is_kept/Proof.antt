@@ -1,0 +1,11 @@
+use Rattle.rules.specs.Sections.{isKept}
+use borrow.Author.Needs.{needs}
+use Rattle.keep_hint.proofs.is_kept.Statement.{statement}
+use Rattle.keep_hint.proofs.is_kept.Tie as tie
+
+returns : tie.Need-returns
+unfolding isKept
+returns c = search needs
+
+pub is-kept-spec : {M : Type 1} → statement M
+is-kept-spec = tie.close (tie.spec returns)
