@@ -1,5 +1,5 @@
-/* player A B FRAME OUT: a player's life. It opens two list files of one disc, merges the second into the first, plans a jump to a frame, reads the
- * bytes of the held part, and saves the merged list. */
+/* player A B FRAME OUT [LSN]: a player's life. It opens two list files of one disc, merges the second into the first, plans a jump to a frame, reads the
+ * bytes of the held part, and saves the merged list. With LSN there is a lesson before: in a list of few hints the hint of that sector is kept. */
 #include <stdio.h>
 #include <stdlib.h>
 
@@ -104,14 +104,58 @@ static int save(const seek_list *list, const char *name)
     return done;
 }
 
+/* ---- a lesson */
+enum { LESSON_READ = 50, LESSON_HINTS = 64 };
+
+/* The hints of a reading from one sector up to another: two frames start in each. */
+static uint32_t read_on(seek_list *list, uint64_t start, uint64_t from, uint64_t to)
+{
+    uint32_t no = 0;
+    for (; no == 0 && from < to; from++) {
+        uint64_t v = from | (from - start) * 2 % 1000000 << 32;
+        uint8_t hint[8];
+        unsigned k;
+        for (k = 0; k < 8; k++)
+            hint[k] = (uint8_t)(v >> 8 * k);
+        no = seek_add_hints(list, hint, sizeof hint);
+    }
+    return no;
+}
+
+/* Hints come in, the teacher marks that of a sector, and a long reading brings more hints than there is room for. */
+static int lesson(const seek_area *area, uint64_t lsn)
+{
+    seek_table_sizes sizes;
+    seek_list list;
+    uint64_t middle = area->end - area->start < LESSON_READ ? area->end : area->start + LESSON_READ, i;
+    uint32_t no = seek_sizes(area, 1024, 0, LESSON_HINTS, &sizes), at, number;
+    uint8_t *memory = no ? NULL : (uint8_t *)calloc(1, (size_t)seek_total(&sizes));
+    int kept = 0;
+    if (!memory)
+        return no ? refused("sizes", no) : 0;
+    seek_carve(&list, &sizes, memory, seek_total(&sizes));
+    if ((no = seek_new(&list, area, 1024, 0, 1, LESSON_HINTS)) == 0 && (no = read_on(&list, area->start, area->start, middle)) == 0
+        && (no = seek_keep_hint(&list, lsn)) == 0 && (no = read_on(&list, area->start, middle, area->end)) == 0)
+        for (i = 0; seek_hint_at(&list, i, &at, &number); i++)
+            kept |= at == lsn && seek_hint_kept_at(&list, i);
+    if (no)
+        refused("lesson", no);
+    else
+        printf("sector %llu: the hint is %s; %u hints, %u kept\n", (unsigned long long)lsn, kept ? "still there" : "gone", (unsigned)seek_hint_count(&list),
+               (unsigned)seek_kept_count(&list));
+    free(memory);
+    return no == 0;
+}
+
 int main(int argc, char **argv)
 {
     seek_list own, other;
+    seek_area area;
     uint8_t *first, *second = NULL;
     uint32_t no;
     int done = 0;
-    if (argc != 5) {
-        fprintf(stderr, "player A B FRAME OUT\n");
+    if (argc != 5 && argc != 6) {
+        fprintf(stderr, "player A B FRAME OUT [LSN]\n");
         return 2;
     }
     first = open_list(&own, argv[1]);
@@ -119,10 +163,11 @@ int main(int argc, char **argv)
         second = open_list(&other, argv[2]);
     if (first && second) {
         no = seek_merge(&own, &other);
+        seek_area_of(&own, &area);
         if (no)
             refused("merge", no);
         else
-            done = jump(&own, (uint32_t)strtoul(argv[3], NULL, 10)) && save(&own, argv[4]);
+            done = (argc < 6 || lesson(&area, strtoul(argv[5], NULL, 10))) && jump(&own, (uint32_t)strtoul(argv[3], NULL, 10)) && save(&own, argv[4]);
     }
     free(second);
     free(first);

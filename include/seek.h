@@ -37,6 +37,7 @@
  *   hint              a sector and the number of the first frame that starts in it, for jumps past the frontier
  *   spacing           the frames between two hints that are recorded. Usual: 8; 0 records none
  *   hint limit        the most hints, and confirmations, that a list keeps (M in docs/), at most 262,144. Usual: 2,048; 0 keeps none
+ *   kept hint         a hint that is marked, and so not dropped while the list is held; at most a quarter of the hint limit. Marks are not saved
  *   confirmation      a hint's sector that a player has checked: its threshold and digest
  *   fingerprint       64 bits by which a player tells discs apart, such as the sum of the disc's table of contents. Saved with the list
  *   image id          64 bits by which a player tells the images of this session apart, such as a counter. Not saved
@@ -136,6 +137,7 @@ enum {
     SEEK_NO_FOLD = 49,               /* the bits that a sum is folded to */
     SEEK_NO_SHELF_LIST = 50,         /* the new list alone exceeds the shelf's limit */
     SEEK_NO_SHELF_COUNT = 51,        /* the shelf's count is at its largest */
+    SEEK_NO_KEEP = 53,               /* no hint has this sector, or a quarter of the hint limit is kept already */
     SEEK_NO_DISC = 54
 };
 
@@ -232,6 +234,7 @@ static inline const char *seek_text(uint32_t number)
     case SEEK_NO_FOLD: return "k is not between half the width and the width less one";
     case SEEK_NO_SHELF_LIST: return "the new list alone exceeds the shelf's limit";
     case SEEK_NO_SHELF_COUNT: return "the shelf's count is at its largest";
+    case SEEK_NO_KEEP: return "no hint has this sector, or it is not kept and a quarter of the hint limit is kept already";
     case SEEK_NO_DISC: return "the disc file's contents table breaks its rules, or two lists share a slot, or one is too long";
     default: return "no such number";
     }
@@ -255,7 +258,7 @@ typedef struct {
 
 /* ---- tables
  * A list's checkpoints, frames, frame bytes, held parts, malformed sectors, hints and confirmations lie in seven tables, each in the file's own
- * record layout (docs/FILE.md). seek_sizes and seek_file_sizes tell how many bytes each needs; the table of hints has room for 262,144 above the hint
+ * record layout (docs/FILE.md), but that the last byte of a hint is its mark: 1 where it is kept, else 0. seek_sizes and seek_file_sizes tell how many bytes each needs; the table of hints has room for 262,144 above the hint
  * limit, in which hints are added and merged. A copy of a seek_list has a head of its own and shares the tables: after a call that writes one of the two,
  * the other is none.
  */
@@ -372,6 +375,8 @@ uint32_t seek_raw_fingerprint(SEEK_OUT(head), uint64_t value, SEEK_TABLES_IN);
 uint32_t seek_raw_merge(SEEK_OUT(head), SEEK_IN(other), SEEK_TABLES_OUT, SEEK_TABLES_IN2);
 uint32_t seek_raw_adds(SEEK_IN(head), SEEK_IN(other), SEEK_OUT(answer), SEEK_TABLES_IN, SEEK_TABLES_IN2);
 uint32_t seek_raw_add_hints(SEEK_OUT(head), SEEK_IN(list), SEEK_IN(checkpoints), SEEK_IN(frames), SEEK_IN(store), SEEK_IN(parts), SEEK_IN(malformed),
+                            SEEK_OUT(hints), SEEK_IN(confirmed));
+uint32_t seek_raw_keep_hint(SEEK_IN(head), uint64_t lsn, SEEK_IN(checkpoints), SEEK_IN(frames), SEEK_IN(store), SEEK_IN(parts), SEEK_IN(malformed),
                             SEEK_OUT(hints), SEEK_IN(confirmed));
 uint32_t seek_raw_recorder(SEEK_IN(head), uint64_t from, SEEK_OUT(block), SEEK_TABLES_IN);
 uint32_t seek_raw_record(SEEK_OUT(block), uint64_t lsn, uint32_t threshold, uint64_t malformed, uint8_t mark, uint64_t start, uint32_t number, uint8_t kind,
@@ -531,13 +536,29 @@ static inline int seek_held_at(const seek_list *l, uint64_t i, seek_held *h)
     return f != SEEK_NULL_;
 }
 
-/* Hint number i. 8 bytes: sector 4, frame number 4. */
+/* Hint number i. 8 bytes: sector 4, frame number 3, mark 1. */
 static inline int seek_hint_at(const seek_list *l, uint64_t i, uint32_t *lsn, uint32_t *number)
 {
     const uint8_t *b = seek_record_(&l->hints, seek_hint_count(l), i, 8);
     *lsn = b ? SEEK_CAST_(uint32_t, seek_bytes(b, 4)) : 0;
-    *number = b ? SEEK_CAST_(uint32_t, seek_bytes(b + 4, 4)) : 0;
+    *number = b ? SEEK_CAST_(uint32_t, seek_bytes(b + 4, 3)) : 0;
     return b != SEEK_NULL_;
+}
+
+/* Is hint number i kept? */
+static inline int seek_hint_kept_at(const seek_list *l, uint64_t i)
+{
+    const uint8_t *b = seek_record_(&l->hints, seek_hint_count(l), i, 8);
+    return b != SEEK_NULL_ && b[7] == 1;
+}
+
+/* How many hints are kept; it looks at each hint. */
+static inline uint64_t seek_kept_count(const seek_list *l)
+{
+    uint64_t i, n = seek_hint_count(l), kept = 0;
+    for (i = 0; i < n && i < l->hints.length / 8; i++)
+        kept += seek_hint_kept_at(l, i) ? 1 : 0;
+    return kept;
 }
 
 /* Confirmation number i. 16 bytes: sector 4, threshold 4, digest 8. */
@@ -697,7 +718,7 @@ static inline uint64_t seek_save(const seek_list *l, uint8_t *out, size_t length
 }
 
 /* Merges the other list, which is only read, into l. A sector of which both have a hint then has the other list's frame number: merge the newer list into the
- * older one. */
+ * older one. The own hints that are kept stay kept, and no other becomes so. */
 static inline uint32_t seek_merge(seek_list *l, const seek_list *other)
 {
     return seek_raw_merge(l->head, SEEK_BLOCK, other->head, SEEK_BLOCK, SEEK_LENT_SEVEN_(l), SEEK_LENT_SEVEN_(other));
@@ -927,11 +948,18 @@ static inline uint32_t seek_hint(const seek_list *l, uint32_t first, uint32_t en
     return n;
 }
 
-/* Adds hints, 8 bytes each: sector and frame number, lowest byte first. Of a sector that is held, or given more than once, the last number given stays. Sectors
- * that do not rise are sorted, with about 52,000 bytes of the stack. */
+/* Adds hints, 8 bytes each: sector 4 and frame number 4, lowest byte first. Of a sector that is held, or given more than once, the last number given stays, and
+ * a held sector stays kept. Sectors that do not rise are sorted, with about 52,000 bytes of the stack. */
 static inline uint32_t seek_add_hints(seek_list *l, const uint8_t *list, size_t length)
 {
     return seek_raw_add_hints(l->head, SEEK_BLOCK, list, length, SEEK_LENT_SEVEN_(l));
+}
+
+/* Marks the hint of a sector as kept: no call drops it while the list is held. seek_save does not write marks and seek_load gives none; seek_merge takes none
+ * of the other list; there is no call that takes a mark away. Answers 0, also for a hint that is kept already, or 1 to 4, or SEEK_NO_KEEP. */
+static inline uint32_t seek_keep_hint(seek_list *l, uint64_t lsn)
+{
+    return seek_raw_keep_hint(l->head, SEEK_BLOCK, lsn, SEEK_LENT_SEVEN_(l));
 }
 
 /* ---- disc files: one file for the lists of both areas of a disc, by slot

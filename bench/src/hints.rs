@@ -32,11 +32,11 @@ pub fn rows(r: &Report) {
 }
 
 /// A list of 7,400 checkpoints that holds every second hint up to 2n, at most M.
-fn holding(most: u32, n: u32) -> List {
+pub fn holding(most: u32, n: u32) -> List {
     List { most, hints: (0..n).map(|i| hint(2 * i)).collect(), ..list(7_400, 64) }
 }
 
-fn every(range: Range<u32>, step: usize) -> Vec<(u32, u32)> {
+pub fn every(range: Range<u32>, step: usize) -> Vec<(u32, u32)> {
     range.step_by(step).map(hint).collect()
 }
 
@@ -57,7 +57,7 @@ fn adding(r: &Report) {
 }
 
 /// Hints as the library takes them.
-fn bytes_of(hints: &[(u32, u32)]) -> Vec<u8> {
+pub fn bytes_of(hints: &[(u32, u32)]) -> Vec<u8> {
     hints.iter().flat_map(|&(lsn, n)| [lsn.to_le_bytes(), n.to_le_bytes()].concat()).collect()
 }
 

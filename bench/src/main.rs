@@ -6,6 +6,7 @@ mod discs;
 mod files;
 mod goals;
 mod hints;
+mod kept;
 mod limits;
 mod lists;
 mod merges;
@@ -62,6 +63,7 @@ fn main() {
     discs::rows(&report);
     merges::rows(&report);
     hints::rows(&report);
+    kept::rows(&report);
     records::rows(&report);
     report.tail();
 }

@@ -161,6 +161,10 @@ impl Tables {
         seven!(seek_raw_add_hints(self.head.as_mut_ptr(), BLOCK, list.as_ptr(), list.len()) self.tables, ())
     }
 
+    pub fn keep_hint(&mut self, lsn: u64) -> u32 {
+        seven!(seek_raw_keep_hint(self.head.as_ptr(), BLOCK, lsn) self.tables, ())
+    }
+
     pub fn keep_confirmation(&mut self, (lsn, threshold, digest): (u32, u32, u64), answer: &mut [u8; BLOCK]) -> u32 {
         seven!(seek_raw_keep_confirmation(self.head.as_mut_ptr(), BLOCK, u64::from(lsn), threshold, digest, answer.as_mut_ptr(), BLOCK) self.tables, ())
     }

@@ -42,6 +42,7 @@ static void do_lacks(void) { seek_lacking m; seek_lacks(&list, &copy, &m); }
 static void do_hint(void) { seek_hinted h; seek_hint(&list, 5000, 5075, 300000, &h); }
 static void do_few(void) { seek_add_hints(&copy, many, 800); }
 static void do_many(void) { seek_add_hints(&copy, many, sizeof many); }
+static void do_keep_hint(void) { seek_keep_hint(&list, 48271); }
 static void do_keep(void) { int k; seek_keep_confirmation(&list, 64, 3, 5, &k); }
 static void do_recorder(void) { seek_recorder_of(&list, 0, &kept); }
 static void do_record(void) { memcpy(kept.block, recorder.block, SEEK_BLOCK); seek_record(&kept, 0, 0, 0, NULL, sector, sizeof sector); }
@@ -83,6 +84,7 @@ static const struct {
     {"`seek_hint`", do_hint},
     {"`seek_add_hints`, 100 that rise", do_few},
     {"`seek_add_hints`, 65,536 in no order", do_many},
+    {"`seek_keep_hint`", do_keep_hint},
     {"`seek_keep_confirmation`", do_keep},
     {"`seek_recorder_of`", do_recorder},
     {"`seek_record`, the first", do_record},

@@ -1,5 +1,5 @@
 /* What seek.h tells of a list by number, and what it makes of lists that are absent, sizes of 0, areas of zeros, NULL with length 0, a recorder's block given as a
- * list's head, and a frame of no kind; where the time bytes of a sector lie. Answers status 1 at the first wrong answer. */
+ * list's head, and a frame of no kind; where the time bytes of a sector lie; hints that are kept. Answers status 1 at the first wrong answer. */
 #include <stdio.h>
 #include <stdlib.h>
 
@@ -155,6 +155,78 @@ static void first_records(void)
     seek_close(&l);
 }
 
+/* n hints from a sector and a frame number on, each ten sectors and one frame behind the one before. */
+static uint32_t add_run(seek_list *l, uint32_t lsn, uint32_t number, uint32_t n)
+{
+    uint8_t list[80];
+    uint32_t i;
+    for (i = 0; i < n; i++)
+        sample_put(sample_put(list + 8 * i, lsn + 10 * i, 4), number + i, 4);
+    return seek_add_hints(l, list, 8 * n);
+}
+
+/* How many hints can be kept under a limit of M, of ten. */
+static uint32_t most_kept(uint32_t most)
+{
+    const seek_area area = {0, 2, 1000, 1399, 1550, 1000, 1400};
+    seek_list l;
+    uint32_t i, n = 0, lsn, number;
+    HOLDS(seek_begin(&area, 50, 0, 8, most, &l) == 0 && add_run(&l, 1000, 100, 10) == 0);
+    for (i = 0; seek_hint_at(&l, i, &lsn, &number); i++)
+        n += seek_keep_hint(&l, lsn) == 0;
+    HOLDS(seek_kept_count(&l) == n);
+    seek_close(&l);
+    return n;
+}
+
+/* Marks by number, 53, a thinning that passes over them, what a merge and a file do with them. */
+static void kept(void)
+{
+    const seek_area area = {0, 2, 1000, 1399, 1550, 1000, 1400};
+    static const uint32_t left[] = {1000, 1010, 1020, 1060, 1070, 1080};
+    seek_list l, other;
+    seek_brings b;
+    uint8_t *bytes;
+    size_t length;
+    uint32_t i, lsn, number;
+    HOLDS(seek_begin(&area, 50, 0, 8, 8, &l) == 0 && seek_begin(&area, 50, 0, 8, 8, &other) == 0 && add_run(&l, 1000, 100, 8) == 0);
+    HOLDS(seek_kept_count(&l) == 0 && seek_keep_hint(&l, 1010) == 0 && seek_hint_kept_at(&l, 1) && !seek_hint_kept_at(&l, 0) && !seek_hint_kept_at(&l, 8));
+    HOLDS(l.hints.at[15] == 1 && seek_hint_at(&l, 1, &lsn, &number) && lsn == 1010 && number == 101 && seek_kept_count(&l) == 1);
+    HOLDS(seek_keep_hint(&l, 1011) == SEEK_NO_KEEP && seek_keep_hint(&l, 999) == SEEK_NO_KEEP && seek_keep_hint(&l, 1400) == SEEK_NO_KEEP);
+    HOLDS(seek_keep_hint(&l, UINT64_C(4294967296) + 1020) == SEEK_NO_KEEP && seek_keep_hint(&l, UINT64_MAX) == SEEK_NO_KEEP && seek_kept_count(&l) == 1);
+    HOLDS(seek_keep_hint(&l, 1020) == 0 && seek_keep_hint(&l, 1030) == SEEK_NO_KEEP && seek_keep_hint(&l, 1010) == 0 && seek_kept_count(&l) == 2);
+
+    /* nine hints are thinned to six: gaps of 1, and the first two of them are kept */
+    HOLDS(add_run(&l, 1080, 108, 1) == 0 && seek_hint_count(&l) == 6 && seek_kept_count(&l) == 2);
+    for (i = 0; i < 6; i++)
+        HOLDS(seek_hint_at(&l, i, &lsn, &number) && lsn == left[i] && seek_hint_kept_at(&l, i) == (lsn == 1010 || lsn == 1020));
+    HOLDS(add_run(&l, 1010, 1166880, 1) == 0 && seek_hint_at(&l, 1, &lsn, &number) && number == 1166880 && seek_hint_kept_at(&l, 1));
+
+    /* the other list's marks are not taken */
+    HOLDS(add_run(&other, 1000, 5, 2) == 0 && seek_keep_hint(&other, 1000) == 0 && seek_adds(&l, &other, &b) == 0 && b.hints && seek_merge(&l, &other) == 0);
+    HOLDS(seek_hint_at(&l, 0, &lsn, &number) && number == 5 && !seek_hint_kept_at(&l, 0) && seek_kept_count(&l) == 2);
+    HOLDS(seek_hint_at(&l, 1, &lsn, &number) && number == 6 && seek_hint_kept_at(&l, 1));
+    HOLDS(seek_adds(&l, &other, &b) == 0 && !b.hints);
+
+    /* a file holds no mark; a hint's last byte in a file is that of its number */
+    HOLDS(seek_saved(&l, &bytes, &length) == 0);
+    seek_close(&other);
+    HOLDS(seek_open_bytes(bytes, length, NULL, UINT64_MAX, &other) == 0 && seek_hint_count(&other) == 6 && seek_kept_count(&other) == 0);
+    free(bytes);
+
+    /* a mark of 2, three marks under a limit of 8, and a number of 1,166,881 with a mark are no list */
+    l.hints.at[7] = 2;
+    HOLDS(seek_keep_hint(&l, 1010) == SEEK_NO_CONTENT && seek_refused(seek_saved_length(&l)) && seek_merge(&other, &l) == SEEK_NO_CONTENT);
+    l.hints.at[7] = 1;
+    HOLDS(seek_kept_count(&l) == 3 && seek_keep_hint(&l, 1010) == SEEK_NO_CONTENT && seek_merge(&l, &other) == SEEK_NO_CONTENT);
+    l.hints.at[7] = 0;
+    sample_put(l.hints.at + 12, 1166881, 3);
+    HOLDS(seek_keep_hint(&l, 1010) == SEEK_NO_CONTENT && l.hints.length-- > 0 && seek_keep_hint(&l, 1) == SEEK_NO_ROOM);
+    seek_close(&other);
+    seek_close(&l);
+    HOLDS(most_kept(0) == 0 && most_kept(3) == 0 && most_kept(4) == 1 && most_kept(7) == 1 && most_kept(8) == 2 && most_kept(2048) == 10);
+}
+
 /* Lists without memory, sizes of 0, areas of zeros, NULL with length 0. */
 static void nothing(void)
 {
@@ -178,6 +250,7 @@ static void nothing(void)
     HOLDS(seek_plan(&none, 0, &j) == SEEK_NO_NUMBERS && j.where == SEEK_AT_START && seek_part(&none, &j) == NULL && seek_frontier(&none) == 0);
     HOLDS(seek_saved_length(&none) == SEEK_NO_NUMBERS && seek_refused(seek_save(&none, NULL, 0)) && seek_fingerprint(&none, 1) == SEEK_NO_NUMBERS);
     HOLDS(seek_merge(&none, &l) == SEEK_NO_NUMBERS && seek_adds(&none, &l, &b) == SEEK_NO_NUMBERS && seek_hint(&none, 0, 0, 0, &h) == SEEK_NO_NUMBERS);
+    HOLDS(seek_keep_hint(&none, 0) == SEEK_NO_NUMBERS && seek_kept_count(&none) == 0 && !seek_hint_kept_at(&none, 0));
     HOLDS(seek_add_hints(&none, NULL, 0) == SEEK_NO_NUMBERS && seek_recorder_of(&none, 0, &r) == SEEK_NO_NUMBERS);
     HOLDS(seek_hint_recorder_of(&none, &hr, &made) == SEEK_NO_NUMBERS && !made && seek_see(&hr, 0, NULL, 0, NULL) == SEEK_NO_ROOM);
     HOLDS(seek_flush(&hr) == SEEK_NO_ROOM && seek_take(&hr, &length) == SEEK_NO_ROOM && length == 0);
@@ -236,6 +309,7 @@ int main(void)
     records();
     reading();
     first_records();
+    kept();
     nothing();
     return 0;
 }

@@ -159,6 +159,7 @@ static uint64_t call_adds(void) { return seek_raw_adds(LENT(HEAD), LENT(OTHER), 
 static uint64_t call_lacks(void) { return seek_raw_lacks(LENT(HEAD), LENT(OTHER), LENT(ANSWER), TABLES, OTHERS); }
 static uint64_t call_coarse(void) { return seek_raw_coarse(LENT(HEAD), (uint32_t)v[0], LENT(OTHER), TABLES, OTHERS); }
 static uint64_t call_add_hints(void) { return seek_raw_add_hints(LENT(HEAD), LENT(LIST), TABLES); }
+static uint64_t call_keep_hint(void) { return seek_raw_keep_hint(LENT(HEAD), v[0], TABLES); }
 static uint64_t call_recorder(void) { return seek_raw_recorder(LENT(HEAD), v[0], LENT(RECORDER), TABLES); }
 static uint64_t call_record(void)
 {
@@ -233,6 +234,7 @@ static const struct {
     {"lacks", call_lacks, BIT(HEAD) | BIT(OTHER) | BIT(ANSWER) | SEVEN | SEVEN2, BIT(ANSWER), 0, {0}},
     {"coarse", call_coarse, BIT(HEAD) | BIT(OTHER) | SEVEN | SEVEN2, BIT(OTHER) | SEVEN2, 0, {100}},
     {"add_hints", call_add_hints, BIT(HEAD) | BIT(LIST) | SEVEN, BIT(HEAD) | BIT(HINTS), 0, {0}},
+    {"keep_hint", call_keep_hint, BIT(HEAD) | SEVEN, BIT(HINTS), 0, {1003}},
     {"recorder", call_recorder, BIT(HEAD) | BIT(RECORDER) | SEVEN, BIT(RECORDER), 0, {SAMPLE_START}},
     {"record", call_record, BIT(RECORDER) | BIT(BYTES) | BIT(SECTOR) | FOUR3, BIT(RECORDER) | FOUR3, 0, {1200, 300, 0, 1, 1150, 280, 1, 5}},
     {"finish", call_finish, BIT(FINISHING) | FOUR3, BIT(FINISHING), 0, {600, 0}},
@@ -325,7 +327,7 @@ static int check(unsigned c, uint64_t answer)
 {
     int refused = calls[c].lengths ? answer < 88 : answer != 0, k;
     if (refused && (answer == 0 || (answer > 43 && answer != SEEK_NO_COARSE_INTERVAL && answer != SEEK_NO_COARSE_CONTENT && answer != SEEK_NO_FOLD && answer != SEEK_NO_SHELF_LIST &&
-                                    answer != SEEK_NO_SHELF_COUNT && answer != SEEK_NO_DISC))) {
+                                    answer != SEEK_NO_SHELF_COUNT && answer != SEEK_NO_KEEP && answer != SEEK_NO_DISC))) {
         fprintf(stderr, "%s: %" PRIu64 " is no refusal number\n", calls[c].name, answer);
         return 0;
     }
@@ -468,9 +470,11 @@ static void begin_shelf(void)
 static void begin(void)
 {
     unsigned i;
-    seek_list own = begin_list(HEAD, CHECKPOINTS, 3, 20, 0, &area), second;
-    begin_list(OTHER, CHECKPOINTS2, 5, 40, 0, &area);
+    seek_list own = begin_list(HEAD, CHECKPOINTS, 3, 20, 0, &area), other, second;
+    other = begin_list(OTHER, CHECKPOINTS2, 5, 40, 0, &area);
     second = begin_list(HEAD4, CHECKPOINTS4, 4, 30, 1, &area1);
+    if (seek_keep_hint(&own, SAMPLE_START + 6) || seek_keep_hint(&other, SAMPLE_START + 9) || seek_keep_hint(&second, SAMPLE_START))
+        exit(2);
     begin_disc(&own, &second);
     begin_sector();
     begin_shelf();

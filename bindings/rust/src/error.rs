@@ -86,6 +86,7 @@ errors! {
     Fold = 49, "k is not between half the width and the width less one";
     ShelfList = 50, "the new list alone exceeds the shelf's limit";
     ShelfCount = 51, "the shelf's count is at its largest";
+    Keep = 53, "no hint has this sector, or it is not kept and a quarter of the hint limit is kept already";
     Disc = 54, "the disc file's contents table breaks its rules, or two lists share a slot, or one is too long";
     Memory = 200, "there is no memory for it";
 }

@@ -149,6 +149,35 @@ impl List {
         })
     }
 
+    /// Marks the hint of a sector as kept: no call drops it while the list is held. At most a quarter of the hint limit can be kept. Marks are not saved, so a
+    /// list that is loaded has none, and a merge takes none of the other list. [`Error::Keep`] where no hint has this sector, or the quarter is used up; marking
+    /// a kept hint again changes nothing.
+    ///
+    /// ```
+    /// use seek::{Area, Error, Hint, List};
+    ///
+    /// # fn main() -> Result<(), Error> {
+    /// let area = Area { slot: 0, channels: 2, key_start: 1000, key_end: 1399, sectors: 1550, start: 1000, end: 1400 };
+    /// let mut list = List::new(area, 64, 1 << 20, 8, 4)?;
+    /// list.add_hints(&[1000, 1010, 1020].map(|lsn| Hint { lsn, number: lsn - 1000 }))?;
+    /// list.keep_hint(1010)?;
+    /// assert_eq!(list.keep_hint(1020), Err(Error::Keep)); // a quarter of 4 is kept
+    /// list.add_hints(&[1030, 1040].map(|lsn| Hint { lsn, number: lsn - 1000 }))?; // thinned to 3
+    /// assert_eq!((list.hints(), list.kept_hints(), list.hint_at(1).unwrap().lsn), (3, 1, 1010));
+    /// # Ok(())
+    /// # }
+    /// ```
+    pub fn keep_hint(&mut self, lsn: u64) -> Result<(), Error> {
+        let (head, [t0, t1, t2, t3, t4, t5, t6]) = self.tables_mut();
+        // Safety: each pointer is that of a slice of the length behind it, and no two overlap.
+        answer(unsafe {
+            raw::seek_raw_keep_hint(
+                head.as_ptr(), BLOCK, lsn, t0.as_ptr(), t0.len(), t1.as_ptr(), t1.len(), t2.as_ptr(), t2.len(), t3.as_ptr(), t3.len(), t4.as_ptr(),
+                t4.len(), t5.as_mut_ptr(), t5.len(), t6.as_ptr(), t6.len(),
+            )
+        })
+    }
+
     /// Keeps a confirmation by its rule: a sector, its threshold and its digest. False where nothing is kept, since the fingerprint is unchecked or the hint
     /// limit 0.
     pub fn keep_confirmation(&mut self, lsn: u64, threshold: u32, digest: u64) -> Result<bool, Error> {

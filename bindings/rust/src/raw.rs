@@ -105,6 +105,10 @@ unsafe extern "C" {
         head: *mut u8, head_length: usize, list: *const u8, length: usize, t0: *const u8, l0: usize, t1: *const u8, l1: usize, t2: *const
         u8, l2: usize, t3: *const u8, l3: usize, t4: *const u8, l4: usize, t5: *mut u8, l5: usize, t6: *const u8, l6: usize,
     ) -> u32;
+    pub fn seek_raw_keep_hint(
+        head: *const u8, head_length: usize, lsn: u64, t0: *const u8, l0: usize, t1: *const u8, l1: usize, t2: *const u8, l2: usize, t3: *const u8,
+        l3: usize, t4: *const u8, l4: usize, t5: *mut u8, l5: usize, t6: *const u8, l6: usize,
+    ) -> u32;
     pub fn seek_raw_recorder(
         head: *const u8, head_length: usize, from: u64, block: *mut u8, block_length: usize, t0: *const u8, l0: usize, t1: *const u8, l1:
         usize, t2: *const u8, l2: usize, t3: *const u8, l3: usize, t4: *const u8, l4: usize, t5: *const u8, l5: usize, t6: *const u8, l6:

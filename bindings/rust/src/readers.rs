@@ -173,7 +173,17 @@ impl List {
     /// Hint number i.
     pub fn hint_at(&self, i: u64) -> Option<Hint> {
         let b = self.record(5, self.hints(), i, 8)?;
-        Some(Hint { lsn: four(b, 0), number: four(b, 4) })
+        Some(Hint { lsn: four(b, 0), number: four(b, 4) & 0xff_ffff })
+    }
+
+    /// Is hint number i kept? Its record's last byte says it.
+    pub fn is_hint_kept(&self, i: u64) -> bool {
+        self.record(5, self.hints(), i, 8).is_some_and(|b| b[7] == 1)
+    }
+
+    /// How many hints are kept. It looks at each hint.
+    pub fn kept_hints(&self) -> u64 {
+        (0..self.hints()).filter(|&i| self.is_hint_kept(i)).count() as u64
     }
 
     /// Confirmation number i.

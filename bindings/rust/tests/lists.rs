@@ -201,6 +201,28 @@ fn hints_and_confirmations() {
 }
 
 #[test]
+fn kept_hints_stay() {
+    let run = |lsns: &[u32]| lsns.iter().map(|&lsn| Hint { lsn, number: lsn / 10 }).collect::<Vec<_>>();
+    let mut list = List::new(area(), 50, 0, 8, 8).unwrap();
+    list.add_hints(&run(&[1000, 1010, 1020, 1030, 1040, 1050, 1060, 1070])).unwrap();
+    assert_eq!((list.keep_hint(1010), list.keep_hint(1020), list.keep_hint(1010)), (Ok(()), Ok(()), Ok(())));
+    assert_eq!((list.keep_hint(1030), list.keep_hint(1005), list.keep_hint((1 << 32) + 1030)), (Err(Error::Keep), Err(Error::Keep), Err(Error::Keep)));
+    let held = |list: &List| (0..list.hints()).map(|i| (list.hint_at(i).unwrap().lsn, list.is_hint_kept(i))).collect::<Vec<_>>();
+    list.add_hints(&run(&[1080])).unwrap();
+    assert_eq!(held(&list), [(1000, false), (1010, true), (1020, true), (1060, false), (1070, false), (1080, false)]);
+    list.add_hints(&[Hint { lsn: 1010, number: 1_166_880 }]).unwrap();
+    assert_eq!((list.hint_at(1), list.is_hint_kept(1), list.is_hint_kept(6)), (Some(Hint { lsn: 1010, number: 1_166_880 }), true, false));
+
+    let file = list.save().unwrap();
+    let mut loaded = List::load(area(), &file, u64::MAX).unwrap();
+    assert_eq!((loaded.hints(), loaded.kept_hints(), list.kept_hints()), (6, 0, 2));
+    loaded.keep_hint(1080).unwrap();
+    list.merge(&loaded).unwrap();
+    assert_eq!((list.kept_hints(), list.is_hint_kept(5)), (2, false));
+    assert_eq!(Error::Keep.number(), 53);
+}
+
+#[test]
 fn a_plan_names_its_rule() {
     let bytes = file(5);
     let list = List::load(area(), &bytes, u64::MAX).unwrap();

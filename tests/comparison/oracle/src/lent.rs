@@ -26,7 +26,8 @@ pub const NAMES: [&str; 12] = [
     "a recorder's parts",
     "a hint recorder's list",
 ];
-/// The first table of a recorder, of the hint recorder, and what `edit` numbers behind the tables: the three blocks.
+/// A list's hints, the first table of a recorder, of the hint recorder, and what `edit` numbers behind the tables: the three blocks.
+pub const HINTS: usize = 5;
 pub const RECORDS: usize = 7;
 pub const SEEN: usize = 11;
 pub const HEAD: usize = 12;
@@ -47,7 +48,7 @@ pub fn edited_name(t: usize, at: u64) -> String {
 const MALFORMED: u64 = 4096;
 /// What question 3 wants of hints above M, and the hints of a hint recorder's list.
 const ABOVE: u64 = 262_144;
-const HINTS: u64 = 65_536;
+const SEEN_HINTS: u64 = 65_536;
 
 /// The bytes of every table of a place.
 pub fn rooms(s: &Sizes) -> [usize; 12] {
@@ -56,7 +57,7 @@ pub fn rooms(s: &Sizes) -> [usize; 12] {
     out[4] = 4 * MALFORMED as usize;
     out[5] = 8 * (s.most + ABOVE as usize);
     out[6] = 16 * (s.most + 1);
-    out[SEEN] = 8 * HINTS as usize;
+    out[SEEN] = 8 * SEEN_HINTS as usize;
     out
 }
 

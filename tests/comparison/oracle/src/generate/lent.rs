@@ -2,7 +2,7 @@
 //! of which a byte or a number is edited.
 
 use super::*;
-use crate::lent::{BLOCK, HEAD, HINT_BLOCK, RECORDS, SEEN, WIDTHS, needs, rooms};
+use crate::lent::{BLOCK, HEAD, HINT_BLOCK, HINTS, RECORDS, SEEN, WIDTHS, needs, rooms};
 
 /// What a call asks 1 to 4 of: a list, a recorder, the hint recorder, or the tables of a list that is to be made.
 pub enum Asked<'a> {
@@ -58,6 +58,8 @@ fn edit_record(s: &mut Script<'_>, rng: &mut Rng, p: usize, t: usize, count: usi
     let (i, at) = (rng.below(count as u64), rng.below(fields));
     let at = if rng.chance(1, 2) { at | 3 } else { at };
     let v = if rng.chance(1, 2) { rng.below(256) } else { *rng.pick(&[0, 1, 2, 255]) };
+    // A hint's last byte in a list's table is its mark: with 1 the hint is kept, which the original does not know.
+    let v = if t == HINTS && at == 7 && v == 1 { 2 } else { v };
     edit(s, p, t, WIDTHS[t] as u64 * i + at.min(WIDTHS[t] as u64 - 1), v);
 }
 
