@@ -9,7 +9,7 @@ use Rattle.rules.specs.HintRecorderExamples.{tailNumbers, seenNumbers, t
 use Rattle.rules.specs.RecorderExamples.{modeNumbers, checkpointNumbers, recorderNumbers, recorders}
 use Rattle.rules.specs.AbsorbExamples.{absorbedNumbers, absorbs}
 use Rattle.rules.specs.HintExamples.{fingerprintNumbers, fingerprints, additions, confirmations, hints}
-use Rattle.rules.specs.MergeExamples.{placesOf, scanNumbers, restNumbers, merges, partRule, files}
+use Rattle.rules.specs.MergeExamples.{placesOf, scanNumbers, restNumbers, merges, orders, ordersShown, partRule, files}
 use Rattle.rules.specs.VersionExamples.{versions}
 use Rattle.rules.specs.MarkExamples.{markNumbers, maybeMarks, marks, markedThinning, markedFiles}
 use Rattle.rules.specs.Examples.{numbersOf, knownNumbers, firstNumbers, hintNumbers, confirmedNumbers, planNumbers, hintedNumbers, indexNumbers, partNumbers, keptNumbers, Hold, starred, traps}
@@ -22,6 +22,7 @@ use Rattle.rules.specs.PartRule.{opens, joins, growth, stores, addPart, 
 use Rattle.rules.specs.Plan.{lastNotAbove, assemblyOf, planFrom, planOr, planned, startOf, plan, bytesAt}
 use Rattle.rules.specs.Questions.{areaOk, numbersOk, scanRoom, hintingRoom, heldOk, scanOk, hintingOk, question1, question2, question3, question4, endOf, recorderQuestion1, recorderQuestion2, recorderQuestion3, recorderQuestion4}
 use Rattle.rules.specs.Record.{isRunning, question5, question6, question7, backOf, assembled, recordAt, finish, sameCounts, question8, question9, question10, question11, below, question12, drained, isStopped, absorb}
+use Rattle.rules.specs.Run.{answered, step, run}
 use Rattle.rules.specs.Sections.{countsOk, checkpointOk, checkpointsOk, frameOk, framesOk, follows, belongs, partOk, reached, partsOk, endOk, endingOk, risingOk, rising, malformedOk, hintsOk, isKept, keptCount, marksOk, confirmationsOk}
 use Rattle.rules.specs.Tests.{all, each, walk, lastOr, isSome, orElse, agree, agrees, firstNo, after, bind, numberOf}
 use Rattle.rules.specs.Values.{used, boundaries, frontierOf, counted, stated, isChecked, sameKind, sameKey, sameArea, sameCheckpoint, sameEnd}
@@ -85,6 +86,15 @@ hints-hold = refl
 pub merges-hold : Hold merges
 unfolding evaluated
 merges-hold = refl
+
+-- merges in every order and bracketing
+pub orders-hold : Hold orders
+unfolding evaluated orders answered step run
+orders-hold = refl
+
+pub orders-shown-hold : Hold ordersShown
+unfolding evaluated ordersShown
+orders-shown-hold = refl
 
 -- the part rule
 pub part-rule-hold : Hold partRule

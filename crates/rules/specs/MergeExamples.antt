@@ -3,6 +3,7 @@ use Prim.Native.Nat.{ℕ}
 use mathlib.Core.Bool.{cond}
 use mathlib.Core.List.{List, [], _∷_, _++_}
 use mathlib.Core.Option.{none, some}
+use lib.Dec.{eqb}
 use lib.IntN.{pos}
 use lib.ListN.{length, set, take}
 use Rattle.field.specs.Number.{encode}
@@ -17,9 +18,11 @@ use Rattle.rules.specs.declared.Held.{Held}
 use Rattle.rules.specs.Tests.{numberOf}
 use Rattle.rules.specs.Values.{Frame, Index, used, complete}
 use Rattle.rules.specs.PartRule.{Piece, addPart}
+use Rattle.rules.specs.Hints.{joinedHints}
 use Rattle.rules.specs.Merge.{merge}
 use Rattle.rules.specs.File.{saved, save}
 use Rattle.rules.specs.Load.{load}
+use Rattle.rules.specs.Run.{Place, Call, mergeCall, begin, run}
 use Rattle.rules.specs.Examples.{ample, short, area, hintAt, confirmedAt, checkpoint, indexOf, three, empty, first, version2, version3, closed, holding, storedIn, knownNumbers, hintNumbers, confirmedNumbers, numbersOf, Example, example}
 use Rattle.rules.specs.AbsorbExamples.{two, ofImage, malformed1}
 use Rattle.rules.specs.HintExamples.{hinting, fingerprintNumbers}
@@ -86,6 +89,23 @@ abbrev pub pieceOf : ℕ → ℕ → FrameKind → List ℕ → Piece
 pieceOf start number kind bytes =
     record { at = 2; start = start; bytes = bytes; number = number; kind = kind; remaining = pos 0 }
 
+-- three lists that agree, with four hints and four confirmed LSNs together under an M of 4: those of places 0, 1 and of every other
+abbrev pub agreeing : ℕ → Index
+agreeing i =
+    cond (eqb i 0) (hinting (Checked 9) 4 (hintAt 100 10 ∷ hintAt 200 25 ∷ []) (confirmedAt 100 5 1 ∷ confirmedAt 200 7 2 ∷ []))
+    (cond (eqb i 1) (hinting (Checked 9) 4 (hintAt 200 25 ∷ hintAt 300 20 ∷ []) (confirmedAt 100 4 1 ∷ confirmedAt 300 6 3 ∷ []))
+    (hinting (Checked 9) 4 (hintAt 300 20 ∷ hintAt 400 60 ∷ []) (confirmedAt 100 6 1 ∷ confirmedAt 400 2 4 ∷ [])))
+
+abbrev pub agreeingAt : ℕ → Place
+agreeingAt i = record { list = agreeing i; room = ample }
+
+-- (i j) k, and i (j k)
+abbrev pub leftFirst : ℕ → ℕ → ℕ → List Call
+leftFirst i j k = mergeCall i j ∷ mergeCall i k ∷ []
+
+abbrev pub rightFirst : ℕ → ℕ → ℕ → List Call
+rightFirst i j k = mergeCall j k ∷ mergeCall i j ∷ []
+
 -- bytes, and their sum
 abbrev pub summed : List ℕ → List ℕ
 summed b = b ++ encode 8 (fnv64 b)
@@ -107,6 +127,26 @@ restNumbers x =
 
 abbrev pub mergeNumbers : Index → Index → List ℕ
 mergeNumbers own other = numberOf (merge ample own ample other) ∷ []
+
+-- hints and confirmations
+abbrev pub hintingNumbers : Index → List ℕ
+hintingNumbers x = hintNumbers (x .hinting .hints) ++ confirmedNumbers (x .hinting .confirmed)
+
+-- those of the one merged into the other, and of the other merged into the one
+abbrev pub eitherWay : Index → Index → List ℕ
+eitherWay x y = numbersOf hintingNumbers (merge ample y ample x) ++ numbersOf hintingNumbers (merge ample x ample y)
+
+-- those that merges of the three leave in place i, bracketed in both ways
+abbrev pub gathered : List Call → ℕ → List ℕ
+gathered calls i = hintingNumbers (run (area 0 1000) calls (begin agreeingAt) .now i .list)
+
+abbrev pub bothWays : ℕ → ℕ → ℕ → List ℕ
+bothWays i j k = gathered (leftFirst i j k) i ++ gathered (rightFirst i j k) i
+
+-- all hints, and each confirmed LSN with its digest and lowest threshold
+abbrev pub gatheredAll : List ℕ
+gatheredAll =
+    100 ∷ 10 ∷ 200 ∷ 25 ∷ 300 ∷ 20 ∷ 400 ∷ 60 ∷ 100 ∷ 4 ∷ 1 ∷ 200 ∷ 7 ∷ 2 ∷ 300 ∷ 6 ∷ 3 ∷ 400 ∷ 2 ∷ 4 ∷ []
 
 -- the frames' bytes and the parts after a part is handed over, beside holding 33
 abbrev pub storing : ℕ → Piece → List ℕ
@@ -160,6 +200,43 @@ merges =
     (numbersOf restNumbers
     (merge ample (hinting (fingerprint.Held 9) 2048 [] []) ample (hinting (Checked 9) 2048 [] (confirmedAt 10 5 1 ∷ []))))
     (0 ∷ 1 ∷ 9 ∷ 0 ∷ []) ∷ []
+
+-- change request 13: "merging in every order and bracketing gives" the same, and loses none
+unfoldable pub orders : List Example
+orders =
+    example (bothWays 0 1 2) (gatheredAll ++ gatheredAll) ∷ example (bothWays 0 2 1) (gatheredAll ++ gatheredAll)
+    ∷ example (bothWays 1 0 2) (gatheredAll ++ gatheredAll) ∷ example (bothWays 1 2 0) (gatheredAll ++ gatheredAll)
+    ∷ example (bothWays 2 0 1) (gatheredAll ++ gatheredAll) ∷ example (bothWays 2 1 0) (gatheredAll ++ gatheredAll) ∷ []
+
+-- without one of its conditions the order shows
+unfoldable pub ordersShown : List Example
+ordersShown =
+    -- an LSN under two frame numbers, under two digests
+    example (eitherWay (hinting Unknown 4 (hintAt 100 10 ∷ []) []) (hinting Unknown 4 (hintAt 100 11 ∷ []) []))
+    (0 ∷ 100 ∷ 10 ∷ 0 ∷ 100 ∷ 11 ∷ [])
+    ∷ example
+    (eitherWay (hinting (Checked 9) 4 [] (confirmedAt 100 5 1 ∷ [])) (hinting (Checked 9) 4 [] (confirmedAt 100 5 2 ∷ [])))
+    (0 ∷ 100 ∷ 5 ∷ 1 ∷ 0 ∷ 100 ∷ 5 ∷ 2 ∷ [])
+    -- one list unchecked, one without a fingerprint
+    ∷ example
+    (eitherWay (hinting (Checked 9) 4 [] (confirmedAt 100 5 1 ∷ [])) (hinting (fingerprint.Held 9) 4 [] (confirmedAt 200 6 2 ∷ [])))
+    (0 ∷ 200 ∷ 6 ∷ 2 ∷ 0 ∷ 100 ∷ 5 ∷ 1 ∷ 200 ∷ 6 ∷ 2 ∷ [])
+    ∷ example (eitherWay (hinting (Checked 9) 4 [] (confirmedAt 100 5 1 ∷ [])) (hinting Unknown 4 [] [])) (0 ∷ 0 ∷ 100 ∷ 5 ∷ 1 ∷ [])
+    -- a limit of 0; limits that differ, and more hints than the smaller
+    ∷ example (eitherWay (hinting Unknown 0 [] []) (hinting Unknown 4 (hintAt 100 10 ∷ []) [])) (0 ∷ 100 ∷ 10 ∷ 0 ∷ [])
+    ∷ example (eitherWay (hinting Unknown 1 (hintAt 100 10 ∷ []) []) (hinting Unknown 2 (hintAt 100 10 ∷ hintAt 200 20 ∷ []) []))
+    (0 ∷ 100 ∷ 10 ∷ 200 ∷ 20 ∷ 0 ∷ 100 ∷ 10 ∷ [])
+    -- more hints than the limit, in three lists: (0 1) 2 and (0 2) 1
+    ∷ example
+    (hintNumbers (joinedHints (area 0 1000) 2 (hintAt 100 10 ∷ hintAt 200 10 ∷ []) (hintAt 300 20 ∷ hintAt 400 20 ∷ []))
+    ++ hintNumbers
+    (joinedHints (area 0 1000) 2 (joinedHints (area 0 1000) 2 (hintAt 100 10 ∷ []) (hintAt 300 20 ∷ hintAt 400 20 ∷ [])) (hintAt 200 10 ∷ [])))
+    (200 ∷ 10 ∷ 400 ∷ 20 ∷ 100 ∷ 10 ∷ 200 ∷ 10 ∷ [])
+    -- more confirmed LSNs than the limit: every order keeps the same ones, but not all; limits that differ, with all hints within the smaller: all of them
+    ∷ example (eitherWay (hinting (Checked 9) 1 [] (confirmedAt 100 5 1 ∷ [])) (hinting (Checked 9) 1 [] (confirmedAt 200 6 2 ∷ [])))
+    (0 ∷ 200 ∷ 6 ∷ 2 ∷ 0 ∷ 200 ∷ 6 ∷ 2 ∷ [])
+    ∷ example (eitherWay (hinting Unknown 2 (hintAt 100 10 ∷ []) []) (hinting Unknown 3 (hintAt 200 20 ∷ []) []))
+    (0 ∷ 100 ∷ 10 ∷ 200 ∷ 20 ∷ 0 ∷ 100 ∷ 10 ∷ 200 ∷ 20 ∷ []) ∷ []
 
 unfoldable pub partRule : List Example
 partRule =

@@ -40,7 +40,7 @@ use Rattle.theorems.proofs.Accepts.{refuses-nothing}
 use Rattle.theorems.proofs.Demand3.{Good, run-good, start-good, parts-left, outcomes, none-refused}
 use Rattle.theorems.proofs.Jump.{jump-not-back}
 use Rattle.theorems.proofs.MergeInTables.{kinded→, merge-left}
-use Rattle.theorems.proofs.TableRun.{cut-list, left, step-same, merged-place, kinds-pass}
+use Rattle.theorems.proofs.TableRun.{cut-savable, cut-list, left, step-same, merged-place, kinds-pass}
 
 -- ---- what a run leaves
 pub outcomes-in-tables : OutcomesInTables
@@ -62,7 +62,7 @@ module _ (R : Reading) (p : ℕ → TablePlace) (c : AllCutIn R p) (cs : List Ta
   accepts : mergeRefusal (placeIn (place i)) (placeIn (place j)) ≡ 0 → isAccepted (merging (place i) (place j) .answer) ≡ true
   accepts n =
       let k = left R p c cs .kinds in
-      merged-place (place i) (place j) (outcomes-in-tables R p c cs i .cut) (outcomes-in-tables R p c cs j .cut) (k i) (k j) .2 ∙ eq-eqb _ 0 n
+      merged-place (place i) (place j) (cut-savable _ (outcomes-in-tables R p c cs i .cut)) (cut-savable _ (outcomes-in-tables R p c cs j .cut)) (k i) (k j) .2 ∙ eq-eqb _ 0 n
 
 pub merge-accepted-in-tables : MergeAcceptedInTables
 merge-accepted-in-tables R p c cs i j q r n = accepts R p c cs i j (outcomes-in-tables R p c cs i .joins j q r n)

@@ -23,6 +23,8 @@ pub mod Jump
 pub mod Lacks
 pub mod LacksInTables
 pub mod LacksPlayer
+pub mod Order
+pub mod OrderInTables
 pub mod PartRule
 pub mod Player
 pub mod Questions

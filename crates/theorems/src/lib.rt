@@ -2,4 +2,5 @@
 pub mod coarse;
 pub mod disc;
 pub mod lacking;
+pub mod order;
 pub mod shelves;

@@ -81,16 +81,16 @@ module _ {A : Type 0} (key : A → ℕ) (P : A → Type 0) (k n : ℕ) (keyed : 
       (λ l. last-all (x ∷ xs) (omega arith) h) (λ e. last-all (x ∷ xs) (omega arith) h)
 
 -- ---- confirmations
-abbrev Better : Confirmation → Confirmation → Type 0
+abbrev pub Better : Confirmation → Confirmation → Type 0
 Better c x = ConfirmsAlso x c
 
 abbrev Another : Confirmation → Confirmation → Type 0
 Another c x = (x .lsn ≡ c .lsn) × (x .digest ≡ c .digest → ⊥)
 
-better-self : (c : Confirmation) → Better c c
+pub better-self : (c : Confirmation) → Better c c
 better-self c = record { lsn = refl; digest = refl; threshold = omega arith }
 
-abbrev inserted : Confirmation → List Confirmation → List Confirmation
+abbrev pub inserted : Confirmation → List Confirmation → List Confirmation
 inserted d cs = insert confirmedLsn heldConfirmation d cs
 
 -- the held y and the new d of one LSN
@@ -101,7 +101,7 @@ met c y d e h =
     test (eqb (y .digest) (d .digest)) (λ w. inl (rw w (record { lsn = h .lsn; digest = h .digest; threshold = omega arith })))
     (λ w. inr (sym e ∙ h .lsn, λ q. eqb-false (y .digest) (d .digest) w (h .digest ∙ sym q)))
 
-met-new : (y d : Confirmation) → y .lsn ≡ d .lsn → Better d (heldConfirmation y d)
+pub met-new : (y d : Confirmation) → y .lsn ≡ d .lsn → Better d (heldConfirmation y d)
 unfolding heldConfirmation
 met-new y d e =
     test (eqb (y .digest) (d .digest)) (λ w. rw w (record { lsn = e; digest = eqb-true (y .digest) (d .digest) w; threshold = omega arith })) (λ w. rw w (better-self d))
@@ -118,7 +118,7 @@ new-there d [] = rw (insert-none confirmedLsn heldConfirmation d) (inl (better-s
 new-there d (y ∷ ys) =
     insert-cases confirmedLsn heldConfirmation d y ys (Any (Better d)) (λ e. inl (better-self d)) (λ e. inr (new-there d ys)) (λ e. inl (met-new y d e))
 
-abbrev all-inserted : List Confirmation → List Confirmation → List Confirmation
+abbrev pub all-inserted : List Confirmation → List Confirmation → List Confirmation
 all-inserted cs ds = insertedWith confirmedLsn heldConfirmation cs ds
 
 held-all : (c : Confirmation) (cs ds : List Confirmation) → Any (Better c) cs → Any (Better c) (all-inserted cs ds) ⊎ Any (Another c) ds
@@ -138,7 +138,7 @@ new-all cs (d ∷ ds) b zero r l =
     ⊎-elim (λ p. p) (λ o. absurd (none-other d ds (rises-all confirmedLsn (suc (d .lsn)) ds (r .1)) o)) (held-all d (inserted d cs) ds (new-there d cs))
 new-all cs (d ∷ ds) b (suc i) r l = new-all (inserted d cs) ds (suc (d .lsn)) i (r .1) (omega arith)
 
-rises-all-inserted : (cs ds : List Confirmation) → Rises confirmedLsn 0 cs → Rises confirmedLsn 0 (all-inserted cs ds)
+pub rises-all-inserted : (cs ds : List Confirmation) → Rises confirmedLsn 0 cs → Rises confirmedLsn 0 (all-inserted cs ds)
 unfolding insertedWith
 rises-all-inserted cs [] r = r
 rises-all-inserted cs (d ∷ ds) r = rises-all-inserted (inserted d cs) ds (rises-insert confirmedLsn heldConfirmation d (λ y q. met-lsn y d q) 0 cs (omega arith) r)

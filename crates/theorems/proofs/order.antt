@@ -1,0 +1,4 @@
+pub mod Gather
+pub mod Union
+pub mod Order
+pub mod OrderInTables
