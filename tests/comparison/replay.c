@@ -547,6 +547,37 @@ static void do_merge(void)
     show_list(p), show_list(q);
 }
 
+/* Is the next number another one? */
+static unsigned other(uint64_t v) { return v != number(); }
+
+/* Whether a list has exactly these hints and confirmations: 0, or 1 where it has others. */
+static void do_union(void)
+{
+    int p = at_place();
+    const seek_list *l = &places[p].list;
+    uint64_t n = number(), i;
+    uint32_t lsn, frame;
+    seek_confirmation c;
+    unsigned off;
+    if (!list_there(p))
+        return;
+    off = n != seek_hint_count(l);
+    for (i = 0; i < n; i++) {
+        off |= !seek_hint_at(l, i, &lsn, &frame);
+        off |= other(lsn);
+        off |= other(frame);
+    }
+    n = number();
+    off |= n != seek_confirmation_count(l);
+    for (i = 0; i < n; i++) {
+        off |= !seek_confirmation_at(l, i, &c);
+        off |= other(c.lsn);
+        off |= other(c.threshold);
+        off |= other(c.digest);
+    }
+    printf("union %u\n", off);
+}
+
 static void do_fingerprint(void)
 {
     int p = at_place();
@@ -845,7 +876,7 @@ static const struct {
     const char *name;
     void (*run)(void);
 } lines[] = {{"script", do_script}, {"area", do_area}, {"lend", do_lend}, {"edit", do_edit}, {"new", do_new}, {"load", do_load}, {"save", do_save},
-             {"reload", do_reload}, {"plan", do_plan}, {"merge", do_merge}, {"fingerprint", do_fingerprint}, {"add_hints", do_add_hints},
+             {"reload", do_reload}, {"plan", do_plan}, {"merge", do_merge}, {"union", do_union}, {"fingerprint", do_fingerprint}, {"add_hints", do_add_hints},
              {"confirm", do_confirm}, {"hint", do_hint}, {"recorder", do_recorder}, {"record", do_record}, {"finish", do_finish},
              {"absorb", do_absorb}, {"first_record", do_first_record}, {"hint_recorder", do_hint_recorder}, {"see", do_see},
              {"see_bytes", do_see_bytes}, {"see_many", do_see_many}, {"flush", do_flush}, {"take", do_take},

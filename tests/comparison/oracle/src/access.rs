@@ -292,6 +292,11 @@ pub fn samples(ix: &AreaIndex) -> &[(u32, u32)] {
 }
 
 /// Question 13.
+/// Are these its hints and its confirmations?
+pub fn holds(ix: &AreaIndex, hints: &[(u32, u32)], confirmed: &[(u32, u32, u64)]) -> bool {
+    ix.samples == hints && ix.confirmed == confirmed
+}
+
 pub fn refuses_hints(list: &[(u32, u32)]) -> bool {
     list.len() > 65_536 || list.iter().any(|s| s.1 >= LIM)
 }

@@ -584,6 +584,15 @@ fn missing_names(stats: &Stats, a: &Arguments) -> Vec<String> {
     out
 }
 
+/// What a run of merges of four lists was to be outside of, and never was.
+fn missing_orders(stats: &Stats, a: &Arguments) -> Vec<String> {
+    if !a.kinds.contains(&generate::Kind::Hints) {
+        return Vec::new();
+    }
+    let runs = ["inside"].into_iter().chain(generate::order::OUTSIDE).map(|what| format!("order: {what}"));
+    runs.filter(|note| !stats.notes.contains_key(&(note.clone(), 0))).collect()
+}
+
 /// What never occurred of what the kinds asked for have.
 fn missing(stats: &Stats, a: &Arguments) -> Vec<String> {
     let mut missing = Vec::new();
@@ -621,6 +630,9 @@ fn missing(stats: &Stats, a: &Arguments) -> Vec<String> {
             }
         }
     }
+    if a.kinds.contains(&generate::Kind::Hints) {
+        need("union", 0);
+    }
     if a.kinds.contains(&generate::Kind::Names) {
         need("plan_rule", 0);
         need("hint_rule", 0);
@@ -646,6 +658,7 @@ fn missing(stats: &Stats, a: &Arguments) -> Vec<String> {
     }
     if a.only.is_empty() {
         missing.extend(missing_names(stats, a));
+        missing.extend(missing_orders(stats, a));
     }
     if a.kinds.contains(&generate::Kind::Load) {
         for name in [
@@ -735,6 +748,15 @@ fn tables(stats: &Stats) -> String {
         for ((note, n), count) in stats.notes.iter().filter(|n| n.0.0.starts_with("b") && n.0.0.contains(": ")) {
             out += &format!("| {note} | {n} | {count} |\n");
         }
+    }
+    let orders: Vec<_> = stats.notes.iter().filter(|n| n.0.0.starts_with("order: ")).collect();
+    if !orders.is_empty() {
+        out += "\n| merges of four lists | runs |\n|---|---:|\n";
+        for ((note, _), count) in orders {
+            out += &format!("| {} | {count} |\n", &note[7..]);
+        }
+        let unions = stats.answers.get(&("union".to_string(), 0)).copied().unwrap_or(0);
+        out += &format!("| unions compared | {unions} |\n");
     }
     if !stats.lent.is_empty() {
         out += "\n| lent or edited | times |\n|---|---:|\n";

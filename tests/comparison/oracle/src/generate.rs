@@ -21,7 +21,7 @@ pub enum Kind {
     Seams,
     /// Two readings of one area that have nothing in common: `merge`, `absorb`, `save`, `reload`.
     Unrelated,
-    /// Hints and confirmations at the bounds: M, ties, falling numbers, reach, merges of two lists.
+    /// Hints and confirmations at the bounds: M, ties, falling numbers, reach, merges of two lists; runs of merges of four.
     Hints,
     /// Lists that need larger tables: 65,536 hints and confirmations, up to 65,536 boundaries, budgets up to 1,048,576.
     Large,
@@ -103,6 +103,7 @@ macro_rules! say {
 mod lent;
 mod long;
 mod names;
+pub mod order;
 pub mod sectors;
 mod version4;
 
@@ -119,6 +120,7 @@ pub fn script(kind: Kind, number: u32, seed: u64, small: bool, out: &mut Vec<u8>
         Kind::Merge => merges(&mut s, &mut rng, small),
         Kind::Calls => calls(&mut s, &mut rng, small),
         Kind::Seams => seams(&mut s, &mut rng),
+        Kind::Hints if rng.chance(1, 3) => order::order(&mut s, &mut rng),
         Kind::Hints => hints(&mut s, &mut rng, small),
         Kind::Unrelated => unrelated(&mut s, &mut rng),
         Kind::Large => large(&mut s, &mut rng),

@@ -153,7 +153,7 @@ struct Pending {
 }
 
 /// Lines that are answered and are no calls.
-pub const NO_CALLS: [&str; 4] = ["script", "area", "lend", "edit"];
+pub const NO_CALLS: [&str; 5] = ["script", "area", "lend", "edit", "union"];
 
 /// How often each answer occurred.
 #[derive(Default)]
@@ -803,6 +803,17 @@ impl Oracle {
                 }
                 lists.extend([p, q]);
                 Some(self.merge(p, q))
+            }
+            b"union" => {
+                let p = w.place()?;
+                let n = w.u32().filter(|&n| n <= sizes().given_hints)?;
+                let hints = (0..n).map(|_| Some((w.u32()?, w.u32()?))).collect::<Option<Vec<_>>>()?;
+                let n = w.u32().filter(|&n| n <= sizes().given_hints)?;
+                let confirmed = (0..n).map(|_| Some((w.u32()?, w.u32()?, w.u64()?))).collect::<Option<Vec<_>>>()?;
+                let Some(ix) = &self.places[p].list else { return Some(Nothing) };
+                let same = access::holds(ix, &hints, &confirmed);
+                assert!(same || self.wrong != 0, "the original's hints or confirmations are not the union");
+                Some(Number(u32::from(!same), Vec::new()))
             }
             b"fingerprint" => {
                 let (p, v) = (w.place()?, w.u64()?);
