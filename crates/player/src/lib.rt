@@ -1,6 +1,7 @@
 // What the player's C program calls for lists: each call over blocks and lent tables, answered by a number.
 pub mod block;
 mod coarse_calls;
+mod drawer_calls;
 mod lacks_calls;
 pub mod sums;
 

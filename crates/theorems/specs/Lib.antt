@@ -18,6 +18,8 @@ pub mod DiscInTables
 pub mod DiscPlayer
 pub mod DiscRefusals
 pub mod DiscRoundTripInC
+pub mod Drawer
+pub mod DrawerInTables
 pub mod Hints
 pub mod Jump
 pub mod Lacks

@@ -1,0 +1,3 @@
+pub mod Drawer
+pub mod Ask
+pub mod Turns

@@ -1,0 +1,71 @@
+use mathlib.Core.Path.{refl}
+use Rattle.index.specs.Index.{Tables, tables}
+use Rattle.player.specs.DrawerCalls.{mergeAllCall}
+use Rattle.player.proofs.block.Blocks.{no-head, known, known-long}
+use Rattle.player.proofs.drawer_calls.Answers.{merge-all-done}
+use borrow.Author.Needs.{needs}
+use Rattle.player.proofs.drawer_calls.seek_raw_merge_all.Statement.{statement}
+use Rattle.player.proofs.drawer_calls.seek_raw_merge_all.Tie as tie
+
+-- the tables as they are lent
+abbrev lent : tie.Start → Tables
+lent s =
+    let a = s .args in
+    tables (a .checkpoints .now) (a .frames .now) (a .store .now) (a .parts .now) (a .malformed .now) (a .hints .now) (a .confirmed .now)
+
+abbrev work : tie.Start → Tables
+work s =
+    let a = s .args in
+    tables (a .work-checkpoints .now) (a .work-frames .now) (a .work-store .now) (a .work-parts .now) (a .work-malformed .now) (a .work-hints .now) (a .work-confirmed .now)
+
+-- where the head was read, and where the call was made
+abbrev begin : tie.Else1 → tie.Start
+begin p = search
+
+abbrev tested : tie.After-index-in → tie.Else1
+tested p = search
+
+abbrev own : tie.After-merge-all → tie.After-index-in
+own p = search
+
+returns : tie.Need-returns
+unfolding mergeAllCall
+returns c = no-head _ _ _ (c .before .is-index .ensures) (c .if1 .taken)
+
+returns-2 : tie.Need-returns-2
+returns-2 c =
+    let put : tie.After-put-made = c .before .before in
+    let call : tie.After-merge-all = c .before .before .before .before .before .before .before .before .before .before .before .before .before .before .before .before .before .before .before .before .before .before .before .before .before .before .before .before .before .before .before .before in
+    let head = own call in
+    let test = tested head in
+    let start = begin test in
+    merge-all-done (start .args .head .now) _ _ (known (test .before .is-index .ensures) (test .if1 .left)) (head .index-in .result)
+    (start .args .lengths .now) (start .args .files .now) (start .args .limit) (lent start) (work start) _ (call .merge-all .result) (put .put-made .ensures)
+    (call .merge-all .ensures) (head .index-in .ensures)
+
+pub seek-raw-merge-all-spec : {M : Type 1} → statement M
+seek-raw-merge-all-spec =
+    tie.close
+    (tie.spec
+    (λ c κs. search needs)
+    (λ c. refl)
+    returns
+    (λ c κs. let test : tie.Else1 = search in known-long _ _ (test .before .is-index .ensures) (test .if1 .left))
+    (λ c κs. tt)
+    (λ c κs. let call : tie.After-merge-all = c .before .before .before .before .before .before .before .before .before .before .before .before .before .before .before .before .before .before .before .before .before .before .before .before .before .before .before .before .before in let test = tested (own call) in known-long _ _ (test .before .is-index .ensures) (test .if1 .left))
+    (λ c. c .before .head .given)
+    (λ c. c .before .before .before .before .before .before .before .before .before .before .before .before .before .before .before .before .before .before .before .before .before .before .before .before .before .before .before .before .before .before .before .checkpoints .given)
+    (λ c. c .before .before .before .before .before .before .before .before .before .before .before .before .before .before .before .before .before .before .before .before .before .before .before .before .before .before .before .before .before .frames .given)
+    (λ c. c .before .before .before .before .before .before .before .before .before .before .before .before .before .before .before .before .before .before .before .before .before .before .before .before .before .before .before .store .given)
+    (λ c. c .before .before .before .before .before .before .before .before .before .before .before .before .before .before .before .before .before .before .before .before .before .before .before .before .before .parts .given)
+    (λ c. c .before .before .before .before .before .before .before .before .before .before .before .before .before .before .before .before .before .before .before .before .before .before .before .malformed .given)
+    (λ c. c .before .before .before .before .before .before .before .before .before .before .before .before .before .before .before .before .before .before .before .before .before .hints .given)
+    (λ c. c .before .before .before .before .before .before .before .before .before .before .before .before .before .before .before .before .before .before .before .confirmed .given)
+    (λ c. c .before .before .before .before .before .before .before .before .before .before .before .before .before .before .before .before .before .work-checkpoints .given)
+    (λ c. c .before .before .before .before .before .before .before .before .before .before .before .before .before .before .before .work-frames .given)
+    (λ c. c .before .before .before .before .before .before .before .before .before .before .before .before .before .work-store .given)
+    (λ c. c .before .before .before .before .before .before .before .before .before .before .before .work-parts .given)
+    (λ c. c .before .before .before .before .before .before .before .before .before .work-malformed .given)
+    (λ c. c .before .before .before .before .before .before .before .work-hints .given)
+    (λ c. c .before .before .before .before .before .work-confirmed .given)
+    returns-2)

@@ -1,0 +1,13 @@
+-- What the call of a set of files answers, its block and its tables afterwards.
+use Prim.Native.Nat.{ℕ}
+use mathlib.Core.List.{List}
+use Rattle.blocks.specs.IsHead.{isIndex}
+use Rattle.index.specs.Index.{Tables}
+use Rattle.drawer.specs.Drawer.{mergeAllIn}
+use Rattle.player.specs.Block.{inHead, headIndex}
+use Rattle.player.specs.Calls.{CalledOver, calledOver, outInto}
+
+-- the block and the tables t are the own list's; u are the working tables
+unfoldable pub mergeAllCall : List ℕ → List ℕ → List ℕ → ℕ → Tables → Tables → CalledOver
+mergeAllCall head ls b limit t u =
+    inHead (isIndex head) (calledOver 3 head t) (outInto head (mergeAllIn (headIndex head) t ls b limit u))
