@@ -132,6 +132,7 @@ enum {
     SEEK_NO_MERGE_AREA = 41,
     SEEK_NO_MERGE_IDS = 42,
     SEEK_NO_MERGE_CHECKPOINTS = 43,
+    SEEK_NO_SET = 44,                /* a set of files that is empty or has more than 16 */
     SEEK_NO_COARSE_INTERVAL = 47,    /* the wider interval of a coarser list */
     SEEK_NO_COARSE_CONTENT = 48,     /* the coarser list would not be a list */
     SEEK_NO_FOLD = 49,               /* the bits that a sum is folded to */
@@ -229,6 +230,7 @@ static inline const char *seek_text(uint32_t number)
     case SEEK_NO_MERGE_AREA: return "the lists are of different areas or intervals";
     case SEEK_NO_MERGE_IDS: return "the lists have different image ids or fingerprints";
     case SEEK_NO_MERGE_CHECKPOINTS: return "the lists disagree about a checkpoint or the end state";
+    case SEEK_NO_SET: return "the set has no file, or more than 16";
     case SEEK_NO_COARSE_INTERVAL: return "the wider interval is not 1 to 65,536, or no multiple of the list's own";
     case SEEK_NO_COARSE_CONTENT: return "a malformed sector that is counted lies at or past the frontier that the coarser list would have";
     case SEEK_NO_FOLD: return "k is not between half the width and the width less one";
@@ -1124,6 +1126,59 @@ uint32_t seek_raw_coarse(SEEK_IN(head), uint32_t interval, SEEK_OUT(coarse), SEE
 static inline uint32_t seek_coarse(const seek_list *fine, uint32_t interval, seek_list *coarse)
 {
     return seek_raw_coarse(fine->head, SEEK_BLOCK, interval, coarse->head, SEEK_BLOCK, SEEK_LENT_SEVEN_(fine), SEEK_LENT_SEVEN_(coarse));
+}
+
+/* ---- all lists of a drawer together */
+uint32_t seek_raw_merge_all(SEEK_OUT(head), SEEK_IN(lengths), SEEK_IN(files), uint64_t limit, SEEK_TABLES_OUT, SEEK_TABLES_OUT2);
+
+/* The most files of a set. */
+#define SEEK_MOST_FILES 16
+
+static inline uint64_t seek_larger_(uint64_t a, uint64_t b) { return a < b ? b : a; }
+
+/* Files lie end to end in a buffer of files_length bytes, and lengths has one number for each; what lies behind the last one is not looked at. The bytes of
+ * each table of a working list for seek_merge_all of these files under this area and limit: the largest that seek_file_sizes tells for one of them. Answers
+ * 0, or the number of the first file that is refused: 20 where it runs past the buffer, else that of seek_file_sizes; the sizes are then those for the files
+ * before it. */
+static inline uint32_t seek_set_sizes(const seek_area *a, const uint8_t *files, size_t files_length, const uint64_t *lengths, size_t count, uint64_t limit,
+                                      seek_table_sizes *s)
+{
+    static const seek_table_sizes none = {0, 0, 0, 0, 0, 0, 0};
+    size_t i, at = 0;
+    *s = none;
+    for (i = 0; i < count; i++) {
+        seek_table_sizes t;
+        uint32_t n = SEEK_NO_FILE_SHORT;
+        if (lengths[i] <= files_length - at)
+            n = seek_file_sizes(a, at == 0 ? files : files + at, SEEK_CAST_(size_t, lengths[i]), limit, &t);
+        if (n != 0)
+            return n;
+        s->checkpoints = seek_larger_(s->checkpoints, t.checkpoints);
+        s->frames = seek_larger_(s->frames, t.frames);
+        s->store = seek_larger_(s->store, t.store);
+        s->parts = seek_larger_(s->parts, t.parts);
+        s->malformed = seek_larger_(s->malformed, t.malformed);
+        s->hints = seek_larger_(s->hints, t.hints);
+        s->confirmed = seek_larger_(s->confirmed, t.confirmed);
+        at += SEEK_CAST_(size_t, lengths[i]);
+    }
+    return 0;
+}
+
+/* Merges 1 to 16 list files of l's area into l, all of them or none: each is loaded under l's area with the limit, as seek_load would, and they are merged in
+ * their order, as seek_merge would. work has tables of its own, which seek_carve of seek_set_sizes makes; what they hold afterwards is left open, after a
+ * refusal too, and work is no list. Answers 0; 1 to 4 of l; SEEK_NO_SET; then for the first file that is refused 20 where it runs past the buffer, else 20 to
+ * 38, or 3 where work has no room for it; then 41 to 43 for the first two lists that cannot be merged, by the earlier, then the later one, where l comes
+ * before all files. Which file it was seek_file_sizes of each tells, and which two lists seek_lacks of each pair. A refusal changes nothing of l. */
+static inline uint32_t seek_merge_all(seek_list *l, const uint8_t *files, size_t files_length, const uint64_t *lengths, size_t count, uint64_t limit,
+                                      seek_list *work)
+{
+    uint8_t numbers[8 * (SEEK_MOST_FILES + 1)] = {0};
+    size_t n = count <= SEEK_MOST_FILES ? count : SEEK_MOST_FILES + 1, i;
+    for (i = 0; i < 8 * n; i++)
+        numbers[i] = SEEK_CAST_(uint8_t, lengths[i / 8] >> 8 * (i % 8) & 255);
+    seek_clear_(work->head);
+    return seek_raw_merge_all(l->head, SEEK_BLOCK, numbers, 8 * n, files, files_length, limit, SEEK_LENT_SEVEN_(l), SEEK_LENT_SEVEN_(work));
 }
 
 /* ---- one shelf for many discs

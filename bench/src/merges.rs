@@ -1,4 +1,4 @@
-//! merge, adds, lacks and coarse.
+//! merge, merge_all, adds, lacks and coarse.
 
 use crate::limits::Work;
 use crate::lists::{List, confirmation, hint, list, longest};
@@ -16,6 +16,9 @@ pub fn rows(r: &Report) {
         both(r, "262,144 hints and 262,144, thinned from 524,288 to 196,608", &longest(0, false), &longest(1, false));
         full(r);
     }
+    if r.wants("merge_all") {
+        merge_all(r, 16);
+    }
     if r.wants("coarse") {
         coarse(r, "7,400 checkpoints, 2,048 hints, to every fourth", &List { hints: hints(0, 2_048), ..list(7_400, 64) }, 4);
         let frames = List { held: (1..=16).map(|i| 20 * i).collect(), budget: 1 << 20, ..list(1_000, 64) };
@@ -24,6 +27,29 @@ pub fn rows(r: &Report) {
 }
 
 /// A list at `ratio` times its interval. What is copied: every `ratio`-th checkpoint, all parts, hints and confirmations.
+/// A drawer of lists that go further and further, into the shortest.
+fn merge_all(r: &Report, n: u32) {
+    let case = format!("{n} files of up to 7,400 checkpoints");
+    if !r.has(&case) {
+        return;
+    }
+    let lists: Vec<List> = (1..=n).map(|i| List { checkpoints: 7_400 * i / n, ..list(7_400, 64) }).collect();
+    let files: Vec<Vec<u8>> = lists.iter().map(|l| Tables::loaded(l).file()).collect();
+    let lengths: Vec<u8> = files.iter().flat_map(|f| (f.len() as u64).to_le_bytes()).collect();
+    let (start, longest) = (Tables::loaded(&lists[0]), lists.last().expect("a list"));
+    let (buffer, mut work, mut asked, ours) = (files.concat(), Tables::loaded(longest), start.copy(), start.copy());
+    let least = Work { sum: buffer.len(), read: buffer.len(), ..Work::default() };
+    r.row(Row {
+        call: "merge_all",
+        case,
+        ours: restored(ours, |t| t.restore(&start), |t| assert_eq!(t.merge_all(&lengths, &buffer, &mut work), 0, "a set is refused")),
+        theirs: None,
+        four: Some(repeat(move || asked.four())),
+        least,
+        goal: None,
+    });
+}
+
 fn coarse(r: &Report, case: &str, fine: &List, ratio: u32) {
     let (ours, interval) = (Tables::loaded(fine), fine.interval * ratio);
     let mut to = Tables::new(&List { boundaries: fine.boundaries.div_ceil(ratio), interval, ..fine.clone() });

@@ -156,6 +156,12 @@ impl Tables {
         fourteen!(seek_raw_coarse(self.head.as_ptr(), BLOCK, interval, other.head.as_mut_ptr(), BLOCK) self.tables, &mut other.tables, as_mut_ptr, ())
     }
 
+    /// The files, end to end in one buffer, through the working tables.
+    pub fn merge_all(&mut self, lengths: &[u8], files: &[u8], work: &mut Tables) -> u32 {
+        fourteen!(seek_raw_merge_all(self.head.as_mut_ptr(), BLOCK, lengths.as_ptr(), lengths.len(), files.as_ptr(), files.len(), u64::MAX) self.tables,
+            &mut work.tables, as_mut_ptr, ())
+    }
+
     /// Hints of 8 bytes each.
     pub fn add_hints(&mut self, list: &[u8]) -> u32 {
         seven!(seek_raw_add_hints(self.head.as_mut_ptr(), BLOCK, list.as_ptr(), list.len()) self.tables, ())

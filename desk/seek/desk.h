@@ -109,6 +109,7 @@ void close_files(File *f, int n);
 int load_list(List *l);
 int copy_list(List *to, const List *from);
 int coarse_list(List *to, const List *from, uint32_t interval);
+int merge_set(List *own, List *const *lists, int n, uint32_t *number);
 List *only_list(File *f);
 int any_disc(const File *f, int n);
 int same_file(const struct stat *a, const struct stat *b);
@@ -125,6 +126,7 @@ uint64_t threshold_at(const List *l, uint64_t j);
 /* ---- refusals */
 const char *advice(uint32_t number);
 int refused(const char *name, uint32_t number);
+void refused_json(const char *file, int slot, const char *beside, uint32_t number);
 int refused_list(const List *l);
 int refused_file(const File *f);
 void right_lists(const File *f);

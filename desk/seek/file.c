@@ -94,6 +94,36 @@ int coarse_list(List *to, const List *from, uint32_t interval)
     return DONE;
 }
 
+/* At most 16 list files merged into a list, all of them or none; number is the refusal. */
+int merge_set(List *own, List *const *lists, int n, uint32_t *number)
+{
+    uint64_t lengths[SEEK_MOST_FILES];
+    size_t total = 0;
+    seek_table_sizes sizes;
+    List work = {0};
+    uint8_t *files;
+    int i, status;
+    for (i = 0; i < n; i++)
+        total += lists[i]->length;
+    files = malloc(total);
+    if (!files)
+        return complain("not enough memory, the files have %s bytes", grouped(total));
+    for (i = 0, total = 0; i < n; i++) {
+        memcpy(files + total, lists[i]->bytes, lists[i]->length);
+        lengths[i] = lists[i]->length;
+        total += lists[i]->length;
+    }
+    /* a file that has no sizes is refused by the call */
+    (void)seek_set_sizes(&own->area, files, total, lengths, (size_t)n, UINT64_MAX, &sizes);
+    work.name = own->name;
+    status = make_tables(&work, &sizes);
+    if (status == DONE)
+        *number = seek_merge_all(&own->list, files, total, lengths, (size_t)n, UINT64_MAX, &work.list);
+    free(work.memory);
+    free(files);
+    return status;
+}
+
 /* The list's name as it is printed. */
 static void name_list(File *f, int s, int in_disc)
 {

@@ -1,5 +1,5 @@
-/* merge: list files into a list file; where a disc file is among them, slot by slot into a disc file. Afterwards each input is asked what the merged list
- * lacks of it. */
+/* merge: list files into a list file; where a disc file is among them, slot by slot into a disc file: all of them or none. Afterwards each input is asked what
+ * the merged list lacks of it. */
 #include "desk.h"
 
 #include <stdlib.h>
@@ -36,73 +36,34 @@ static List *to_begin_with(File *f, int n, int slot)
     return begin;
 }
 
+/* The list to begin with, then those to take in, in the order given: where it is not the first, it is taken in again at its place, so that of two frame numbers
+ * of a sector that of the list given later stays. */
+static List **lists_to_merge(File *f, int n, int slot, int *count)
+{
+    List **all = calloc((size_t)n + 1, sizeof *all), *first = NULL;
+    int i;
+    *count = 0;
+    if (!all)
+        return NULL;
+    all[0] = to_begin_with(f, n, slot);
+    for (i = 0; i < n; i++) {
+        List *l = list_of(&f[i], slot);
+        first = first ? first : l;
+        if (l && (l != first || l != all[0]))
+            all[++*count] = l;
+    }
+    return all;
+}
+
 /* Confirmations are merged only where the disc's fingerprint was stated, and no file keeps that mark: the fingerprint that the lists hold is stated, as by a
  * player with the disc. */
-static uint32_t state_fingerprint(List *own, File *f, int n, int slot)
+static uint32_t state_fingerprint(List *own, List *const *all, int n)
 {
-    const seek_list *from = seek_has_fingerprint(&own->list) ? &own->list : NULL;
     int i;
-    for (i = 0; i < n && !from; i++)
-        if (list_of(&f[i], slot) && seek_has_fingerprint(&list_of(&f[i], slot)->list))
-            from = &list_of(&f[i], slot)->list;
-    return from ? seek_fingerprint(&own->list, seek_fingerprint_value(from)) : 0;
-}
-
-/* ---- one list after the other */
-static int cannot(const List *own, const List *other, uint32_t number)
-{
-    Text t = {0}, u = {0};
-    if (opt.json) {
-        List l = *other;
-        l.number = number;
-        return refused_list(&l);
-    }
-    add(&t, "%s and the lists before it ", other->name);
-    apart(&t, own, other, number);
-    add(&t, ". %s", advice(number));
-    if (number == SEEK_NO_MERGE_AREA && made_alike(&u, own, other))
-        add(&t, " Or merge them at the wider interval: %s.", text_of(&u));
-    say(0, 2, "%s", text_of(&t));
-    free_text(&t);
-    free_text(&u);
-    return REFUSED;
-}
-
-/* What of a list was lacking before and is not afterwards. */
-static seek_lacking taken(const seek_lacking *before, const seek_lacking *after)
-{
-    seek_lacking l = {0};
-    l.checkpoints = before->checkpoints - after->checkpoints;
-    l.end_state = before->end_state - after->end_state;
-    l.parts = before->parts - after->parts;
-    l.malformed = before->malformed > after->malformed ? before->malformed - after->malformed : 0;
-    l.hints = before->hints > after->hints ? before->hints - after->hints : 0;
-    l.confirmations = before->confirmations > after->confirmations ? before->confirmations - after->confirmations : 0;
-    l.fingerprint = before->fingerprint - after->fingerprint;
-    return l;
-}
-
-/* again: the list that the merge began with. */
-static int merge_one(List *own, const List *other, int again)
-{
-    Beside before = ask_beside(own, other), after;
-    uint32_t number = before.number ? before.number : seek_merge(&own->list, &other->list);
-    seek_lacking l;
-    Text t = {0};
-    if (number)
-        return cannot(own, other, number);
-    after = ask_beside(own, other);
-    l = taken(&before.more, &after.more);
-    if (!opt.json && (!again || all_of(&l))) {
-        add(&t, again ? "%s, taken in again at its place, brought " : "%s brought ", other->name);
-        if (all_of(&l))
-            holds(&t, other, &l, 0);
-        else
-            add(&t, "nothing new");
-        say(0, 2, "%s.", text_of(&t));
-    }
-    free_text(&t);
-    return DONE;
+    for (i = 0; i <= n; i++)
+        if (seek_has_fingerprint(&all[i]->list))
+            return seek_fingerprint(&own->list, seek_fingerprint_value(&all[i]->list));
+    return 0;
 }
 
 static void begun_with(const List *begin, const List *first)
@@ -119,28 +80,139 @@ static void begun_with(const List *begin, const List *first)
     free_text(&t);
 }
 
-/* Merges the files' lists of a slot, with slot -1 the lists of list files. Where two lists have another frame number for one sector, that of the list given
- * later stays: the list that the merge began with is taken in again behind those given before it. */
-static int merge_lists(File *f, int n, int slot, Merged *m)
+/* A list that is merged, in memory of its own: at first the one to begin with. */
+static int begin(List *own, List *const *all, int n)
 {
-    List *begin = to_begin_with(f, n, slot), *first;
-    int i, status;
-    if (!begin)
-        return DONE;
-    m->there = 1;
-    status = copy_list(&m->own, begin);
+    int status = copy_list(own, all[0]);
     if (status != DONE)
         return status;
-    for (i = 0; !list_of(&f[i], slot);)
+    own->number = state_fingerprint(own, all, n);
+    return own->number ? refused_list(own) : DONE;
+}
+
+/* ---- all of them, or none */
+static int told_beside(const List *l, const List *beside, uint32_t number)
+{
+    refused_json(l->file, l->in_disc ? l->area.slot : -1, beside->file, number);
+    return REFUSED;
+}
+
+/* A file of the set is refused under the area of the list that the merge began with: each is asked again. */
+static int cannot_load(List *const *all, int n, uint32_t number)
+{
+    seek_table_sizes sizes;
+    int i = 1;
+    while (i < n && seek_file_sizes(&all[0]->area, all[i]->bytes, all[i]->length, UINT64_MAX, &sizes) != number)
         i++;
-    first = list_of(&f[i], slot);
-    begun_with(begin, first);
-    m->own.number = state_fingerprint(&m->own, f, n, slot);
-    if (m->own.number)
-        return refused_list(&m->own);
-    for (i = 0; i < n && status == DONE; i++)
-        if (list_of(&f[i], slot) && (list_of(&f[i], slot) != begin || begin != first))
-            status = merge_one(&m->own, list_of(&f[i], slot), list_of(&f[i], slot) == begin);
+    if (opt.json)
+        return told_beside(all[i], all[0], number);
+    say(0, 2, "%s is refused beside %s (%u): %s. %s", all[i]->name, all[0]->name, number, seek_text(number), advice(number));
+    return REFUSED;
+}
+
+/* Two lists cannot be merged: each pair is asked again, by the earlier list, then by the later. */
+static int cannot_join(List *const *all, int n, uint32_t number)
+{
+    Text t = {0}, u = {0};
+    int i = 0, j = 1;
+    while (i < n && ask_beside(all[i], all[j]).number != number) {
+        if (++j > n)
+            j = ++i + 1;
+    }
+    if (j > n)
+        i = 0, j = 1;
+    if (opt.json)
+        return told_beside(all[j], all[i], number);
+    add(&t, "%s and %s ", all[i]->name, all[j]->name);
+    apart(&t, all[i], all[j], number);
+    add(&t, ". %s", advice(number));
+    if (number == SEEK_NO_MERGE_AREA && made_alike(&u, all[i], all[j]))
+        add(&t, " Or merge them at the wider interval: %s.", text_of(&u));
+    say(0, 2, "%s", text_of(&t));
+    free_text(&t);
+    free_text(&u);
+    return REFUSED;
+}
+
+/* Takes in the lists behind the first, in sets of 16. */
+static int take_in(List *own, List *const *all, int n)
+{
+    int i, status = DONE;
+    for (i = 0; i < n && status == DONE; i += SEEK_MOST_FILES) {
+        uint32_t number = 0;
+        status = merge_set(own, all + 1 + i, n - i < SEEK_MOST_FILES ? n - i : SEEK_MOST_FILES, &number);
+        if (number)
+            status = number < SEEK_NO_MERGE_AREA ? cannot_load(all, n, number) : cannot_join(all, n, number);
+    }
+    return status;
+}
+
+/* ---- what each brought */
+/* What of a list was lacking before and is not afterwards. */
+static seek_lacking taken(const seek_lacking *before, const seek_lacking *after)
+{
+    seek_lacking l = {0};
+    l.checkpoints = before->checkpoints - after->checkpoints;
+    l.end_state = before->end_state - after->end_state;
+    l.parts = before->parts - after->parts;
+    l.malformed = before->malformed > after->malformed ? before->malformed - after->malformed : 0;
+    l.hints = before->hints > after->hints ? before->hints - after->hints : 0;
+    l.confirmations = before->confirmations > after->confirmations ? before->confirmations - after->confirmations : 0;
+    l.fingerprint = before->fingerprint - after->fingerprint;
+    return l;
+}
+
+/* again: the list that the merge began with. */
+static void tell_one(List *own, const List *other, int again)
+{
+    Beside before = ask_beside(own, other), after;
+    seek_lacking l;
+    Text t = {0};
+    if (before.number || seek_merge(&own->list, &other->list))
+        return;
+    after = ask_beside(own, other);
+    l = taken(&before.more, &after.more);
+    if (!again || all_of(&l)) {
+        add(&t, again ? "%s, taken in again at its place, brought " : "%s brought ", other->name);
+        if (all_of(&l))
+            holds(&t, other, &l, 0);
+        else
+            add(&t, "nothing new");
+        say(0, 2, "%s.", text_of(&t));
+    }
+    free_text(&t);
+}
+
+/* What each list of an accepted set brings to those before it, told by a second list that takes in one after the other. */
+static int tell_brought(List *const *all, int n)
+{
+    List own = {0};
+    int i, status = begin(&own, all, n);
+    for (i = 1; i <= n && status == DONE; i++)
+        tell_one(&own, all[i], all[i] == all[0]);
+    free(own.memory);
+    return status;
+}
+
+/* Merges the files' lists of a slot, with slot -1 the lists of list files. */
+static int merge_lists(File *f, int n, int slot, Merged *m)
+{
+    int count, i = 0, status = DONE;
+    List **all = lists_to_merge(f, n, slot, &count);
+    if (!all)
+        return complain("not enough memory");
+    m->there = all[0] != NULL;
+    if (m->there) {
+        while (!list_of(&f[i], slot))
+            i++;
+        begun_with(all[0], list_of(&f[i], slot));
+        status = begin(&m->own, all, count);
+        if (status == DONE)
+            status = take_in(&m->own, all, count);
+        if (status == DONE && !opt.json)
+            status = tell_brought(all, count);
+    }
+    free(all);
     return status;
 }
 

@@ -23,12 +23,17 @@ const char *advice(uint32_t number)
     }
 }
 
-static void refused_json(const char *file, int slot, uint32_t number)
+/* slot: -1 where the list is no disc file's; beside: the file that it cannot be merged with, NULL for none. */
+void refused_json(const char *file, int slot, const char *beside, uint32_t number)
 {
     fputc('{', opt.told);
     json_name("file", file);
     if (slot >= 0)
         json_number("slot", (uint64_t)slot);
+    if (beside) {
+        fputc(',', opt.told);
+        json_name("beside", beside);
+    }
     json_number("refused", number);
     fputs(",\"verdict\":\"refused\",", opt.told);
     json_name("meaning", seek_text(number));
@@ -46,7 +51,7 @@ static void refused_text(const char *name, uint32_t number, const char *what_to_
 int refused(const char *name, uint32_t number)
 {
     if (opt.json)
-        refused_json(name, -1, number);
+        refused_json(name, -1, NULL, number);
     else
         refused_text(shown(name), number, advice(number));
     return REFUSED;
@@ -55,7 +60,7 @@ int refused(const char *name, uint32_t number)
 int refused_list(const List *l)
 {
     if (opt.json)
-        refused_json(l->file, l->in_disc ? l->area.slot : -1, l->number);
+        refused_json(l->file, l->in_disc ? l->area.slot : -1, NULL, l->number);
     else if (l->in_disc && l->number == SEEK_NO_FILE_AREA && !opt.area)
         refused_text(l->name, l->number, "The contents table names it under the wrong area. Ask the school for the list file itself, or have the disc read again.");
     else

@@ -1,5 +1,6 @@
 /* What seek.h tells of a list by number, and what it makes of lists that are absent, sizes of 0, areas of zeros, NULL with length 0, a recorder's block given as a
- * list's head, and a frame of no kind; where the time bytes of a sector lie; hints that are kept. Answers status 1 at the first wrong answer. */
+ * list's head, a frame of no kind, and sets of files that do not fit; where the time bytes of a sector lie; hints that are kept. Answers status 1 at the first wrong
+ * answer. */
 #include <stdio.h>
 #include <stdlib.h>
 
@@ -303,6 +304,50 @@ static void nothing(void)
     seek_close(&l);
 }
 
+/* Sets of files: counts, lengths that do not fit, a working list without room, and what is left of the own list where a set is refused. */
+static void sets(void)
+{
+    static uint8_t files[16 * SAMPLE_LONGEST];
+    static const unsigned counts[3] = {2, SAMPLE_BOUNDARIES, 5};
+    uint64_t lengths[40] = {0}, right[3], saved;
+    seek_list own, before, work = SEEK_ABSENT;
+    seek_table_sizes s, t;
+    seek_area area;
+    uint8_t *memory;
+    size_t n = sample_file(file, 1, 0, 0), total = 0, i;
+    HOLDS(seek_open_bytes(file, n, NULL, UINT64_MAX, &own) == 0);
+    before = own;
+    seek_area_of(&own, &area);
+    for (i = 0; i < 3; i++)
+        total += (size_t)(right[i] = lengths[i] = sample_file(files + total, counts[i], i == 1, 3));
+    HOLDS(seek_set_sizes(&area, files, total, lengths, 3, UINT64_MAX, &s) == 0 && seek_file_sizes(&area, files, (size_t)right[0], UINT64_MAX, &t) == 0);
+    HOLDS(memcmp(&s, &t, sizeof s) == 0 && (memory = (uint8_t *)calloc(1, (size_t)seek_total(&s))) != NULL);
+    HOLDS(seek_merge_all(&own, files, total, lengths, 3, UINT64_MAX, &work) == SEEK_NO_ROOM && seek_carve(&work, &s, memory, seek_total(&s)));
+    HOLDS(seek_merge_all(&own, NULL, 0, NULL, 0, 0, &work) == SEEK_NO_SET && seek_merge_all(&own, files, total, lengths, 17, 0, &work) == SEEK_NO_SET);
+    HOLDS(seek_merge_all(&own, files, total, lengths, 40, 0, &work) == SEEK_NO_SET && seek_merge_all(&work, files, total, lengths, 0, 0, &own) == SEEK_NO_NUMBERS);
+    own = before; /* lent as a working list it was none afterwards */
+    HOLDS(seek_set_sizes(&area, NULL, 0, NULL, 0, 0, &t) == 0 && seek_total(&t) == 0);
+    {
+        /* a byte past the buffer, no bytes, all that there are, and such that the sum of all wraps to 88 */
+        const uint64_t wrong[] = {right[2] + 1, 0, UINT64_MAX, UINT64_MAX - right[0] - right[1] + 1 + 88};
+        for (i = 0; i < 4; i++) {
+            lengths[2] = wrong[i];
+            HOLDS(seek_merge_all(&own, files, total, lengths, 3, UINT64_MAX, &work) == SEEK_NO_FILE_SHORT);
+            HOLDS(seek_set_sizes(&area, files, total, lengths, 3, UINT64_MAX, &t) == SEEK_NO_FILE_SHORT && seek_total(&t) == seek_total(&s));
+        }
+    }
+    HOLDS(seek_raw_merge_all(own.head, SEEK_BLOCK, files, 8, files, total, 0, NULL, 0, NULL, 0, NULL, 0, NULL, 0, NULL, 0, NULL, 0, NULL, 0, NULL, 0, NULL, 0, NULL, 0,
+                             NULL, 0, NULL, 0, NULL, 0, NULL, 0) == SEEK_NO_ROOM);
+    HOLDS(memcmp(&before, &own, sizeof own) == 0 && seek_save(&own, sector, sizeof sector) == n && memcmp(sector, file, n) == 0);
+    HOLDS(seek_merge_all(&own, files, total, right, 3, UINT64_MAX, &work) == 0 && seek_is_complete(&own) && seek_hint_count(&own) == 3);
+    for (i = 0, total = 0; i < 16; i++)
+        total += (size_t)(lengths[i] = sample_file(files + total, 0, 0, 0));
+    saved = seek_saved_length(&own);
+    HOLDS(total == 16 * 88 && seek_merge_all(&own, files, total, lengths, 16, 0, &work) == 0 && seek_saved_length(&own) == saved && seek_word(work.head, 7) == 0);
+    free(memory);
+    seek_close(&own);
+}
+
 int main(void)
 {
     HOLDS(seek_version() == SEEK_VERSION && !seek_refused(88) && seek_refused(87) && SEEK_DST == 0 && SEEK_DSD == 1);
@@ -311,5 +356,6 @@ int main(void)
     first_records();
     kept();
     nothing();
+    sets();
     return 0;
 }

@@ -281,7 +281,6 @@ static void of_hinting(const File *f)
 /* Right files that cannot be merged with the right one. */
 static void of_merge(const File *f, const File *whole)
 {
-    changed("41-channels", *f, 13, 6, 1);
     write_file("41-interval", make(5, 25));
     changed("42-fingerprint", *f, f->hinting, 1, 8);
     changed("43-digest", *f, 80 + 24 + 16, 1, 8);

@@ -60,6 +60,7 @@ static const Spec specs[] = {
     {.name = "false-3-half", .other_sector = 3, .checkpoints = 5},
     {.name = "false-6", .other_sector = 6},
     {.name = "short", .checkpoints = 2, .hints = -1, .confirmations = -1},
+    {.name = "short-more-room", .checkpoints = 2, .hints = -1, .confirmations = -1, .most = 4096},
     {.name = "false-end", .other_end = 1},
     {.name = "pressing", .fingerprint = 77},
     {.name = "multichannel", .area = 1},

@@ -81,6 +81,7 @@ errors! {
     MergeArea = 41, "the lists are of different areas or intervals";
     MergeIds = 42, "the lists have different image ids or fingerprints";
     MergeCheckpoints = 43, "the lists disagree about a checkpoint or the end state";
+    Set = 44, "the set has no file, or more than 16";
     CoarseInterval = 47, "the wider interval is not 1 to 65,536, or no multiple of the list's own";
     CoarseContent = 48, "a malformed sector that is counted lies at or past the frontier that the coarser list would have";
     Fold = 49, "k is not between half the width and the width less one";

@@ -229,6 +229,18 @@ fn sizes_in(block: &[u8; BLOCK], from: usize) -> Result<[usize; 7], Error> {
     Ok(sizes)
 }
 
+/// The sizes of the tables for a file, under an area and a limit.
+fn file_sizes(a: Area, file: &[u8], limit: u64) -> Result<[usize; 7], Error> {
+    let mut b = [0; BLOCK];
+    // Safety: pointers and lengths are those of two slices, and the block overlaps nothing.
+    answer(unsafe {
+        raw::seek_raw_file_sizes(
+            a.slot, a.channels, a.key_start, a.key_end, a.sectors, a.start, a.end, file.as_ptr(), file.len(), limit, b.as_mut_ptr(), BLOCK,
+        )
+    })?;
+    sizes_in(&b, 0)
+}
+
 /// 64-bit FNV-1a.
 pub fn sum(bytes: &[u8]) -> u64 {
     // Safety: pointer and length are those of one slice.
@@ -371,14 +383,7 @@ impl List {
     /// # }
     /// ```
     pub fn load(a: Area, file: &[u8], limit: u64) -> Result<List, Error> {
-        let mut b = [0; BLOCK];
-        // Safety: pointers and lengths are those of two slices, and the block overlaps nothing.
-        answer(unsafe {
-            raw::seek_raw_file_sizes(
-                a.slot, a.channels, a.key_start, a.key_end, a.sectors, a.start, a.end, file.as_ptr(), file.len(), limit, b.as_mut_ptr(), BLOCK,
-            )
-        })?;
-        let mut list = List::zeroed(sizes_in(&b, 0)?)?;
+        let mut list = List::zeroed(file_sizes(a, file, limit)?)?;
         let (head, [t0, t1, t2, t3, t4, t5, t6]) = list.tables_mut();
         // Safety: each pointer is that of a slice of the length behind it, and no two overlap.
         answer(unsafe {
@@ -467,6 +472,51 @@ impl List {
                 head.as_mut_ptr(), BLOCK, other.head.as_ptr(), BLOCK, t0.as_mut_ptr(), t0.len(), t1.as_mut_ptr(), t1.len(), t2.as_mut_ptr(), t2.len(),
                 t3.as_mut_ptr(), t3.len(), t4.as_mut_ptr(), t4.len(), t5.as_mut_ptr(), t5.len(), t6.as_mut_ptr(), t6.len(), u0.as_ptr(), u0.len(),
                 u1.as_ptr(), u1.len(), u2.as_ptr(), u2.len(), u3.as_ptr(), u3.len(), u4.as_ptr(), u4.len(), u5.as_ptr(), u5.len(), u6.as_ptr(), u6.len(),
+            )
+        })
+    }
+
+    /// Merges 1 to 16 list files of this list's area into it, each loaded with the limit as by [`List::load`], in their order: all of them or none. The first
+    /// file that is refused gives the error, else the first two lists that cannot be merged, this list before all files.
+    ///
+    /// ```
+    /// # use seek::{Area, Error, List};
+    /// # fn main() -> Result<(), Error> {
+    /// # let area = Area { slot: 0, channels: 2, key_start: 1000, key_end: 1399, sectors: 1550, start: 1000, end: 1400 };
+    /// let mut own = List::new(area, 64, 1 << 20, 8, 2048)?;
+    /// let file = List::new(area, 64, 1 << 20, 8, 2048)?.save()?;
+    /// let wider = List::new(area, 128, 1 << 20, 8, 2048)?.save()?;
+    /// own.merge_all(&[&file, &file], u64::MAX)?;
+    /// assert_eq!(own.merge_all(&[&file, &wider], u64::MAX), Err(Error::MergeArea));
+    /// assert_eq!(own.merge_all(&[], u64::MAX), Err(Error::Set));
+    /// # Ok(())
+    /// # }
+    /// ```
+    pub fn merge_all(&mut self, files: &[&[u8]], limit: u64) -> Result<(), Error> {
+        // 17 files are refused as more are
+        let files = &files[..files.len().min(17)];
+        let (mut lengths, mut buffer, mut sizes) = (Vec::new(), Vec::new(), [0; 7]);
+        let total = files.iter().try_fold(0usize, |n, f| n.checked_add(f.len())).ok_or(Error::Memory)?;
+        buffer.try_reserve_exact(total).map_err(|_| Error::Memory)?;
+        for f in files {
+            lengths.extend_from_slice(&(f.len() as u64).to_le_bytes());
+            buffer.extend_from_slice(f);
+        }
+        for f in files {
+            // behind a file that the call refuses no tables are needed
+            let Ok(s) = file_sizes(self.area(), f, limit) else { break };
+            sizes = std::array::from_fn(|i| s[i].max(sizes[i]));
+        }
+        let mut work = List::zeroed(sizes)?;
+        let (_, [u0, u1, u2, u3, u4, u5, u6]) = work.tables_mut();
+        let (head, [t0, t1, t2, t3, t4, t5, t6]) = self.tables_mut();
+        // Safety: each pointer is that of a slice of the length behind it, and no two overlap.
+        answer(unsafe {
+            raw::seek_raw_merge_all(
+                head.as_mut_ptr(), BLOCK, lengths.as_ptr(), lengths.len(), buffer.as_ptr(), buffer.len(), limit, t0.as_mut_ptr(), t0.len(),
+                t1.as_mut_ptr(), t1.len(), t2.as_mut_ptr(), t2.len(), t3.as_mut_ptr(), t3.len(), t4.as_mut_ptr(), t4.len(), t5.as_mut_ptr(), t5.len(),
+                t6.as_mut_ptr(), t6.len(), u0.as_mut_ptr(), u0.len(), u1.as_mut_ptr(), u1.len(), u2.as_mut_ptr(), u2.len(), u3.as_mut_ptr(), u3.len(),
+                u4.as_mut_ptr(), u4.len(), u5.as_mut_ptr(), u5.len(), u6.as_mut_ptr(), u6.len(),
             )
         })
     }

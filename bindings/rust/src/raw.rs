@@ -101,6 +101,12 @@ unsafe extern "C" {
         l6: usize, u0: *mut u8, m0: usize, u1: *mut u8, m1: usize, u2: *mut u8, m2: usize, u3: *mut u8, m3: usize, u4: *mut u8, m4: usize,
         u5: *mut u8, m5: usize, u6: *mut u8, m6: usize,
     ) -> u32;
+    pub fn seek_raw_merge_all(
+        head: *mut u8, head_length: usize, lengths: *const u8, lengths_length: usize, files: *const u8, files_length: usize, limit: u64, t0: *mut
+        u8, l0: usize, t1: *mut u8, l1: usize, t2: *mut u8, l2: usize, t3: *mut u8, l3: usize, t4: *mut u8, l4: usize, t5: *mut u8, l5: usize,
+        t6: *mut u8, l6: usize, u0: *mut u8, m0: usize, u1: *mut u8, m1: usize, u2: *mut u8, m2: usize, u3: *mut u8, m3: usize, u4: *mut u8,
+        m4: usize, u5: *mut u8, m5: usize, u6: *mut u8, m6: usize,
+    ) -> u32;
     pub fn seek_raw_add_hints(
         head: *mut u8, head_length: usize, list: *const u8, length: usize, t0: *const u8, l0: usize, t1: *const u8, l1: usize, t2: *const
         u8, l2: usize, t3: *const u8, l3: usize, t4: *const u8, l4: usize, t5: *mut u8, l5: usize, t6: *const u8, l6: usize,

@@ -110,6 +110,25 @@ fn the_longer_list_is_merged() {
 }
 
 #[test]
+fn a_drawer_is_merged_whole_or_not() {
+    let mut own = List::load(area(), &file(1), u64::MAX).unwrap();
+    let (short, long) = (file(2), file(5));
+    own.merge_all(&[&short, &long, &short], u64::MAX).unwrap();
+    assert_eq!(own.save().unwrap(), long);
+    own.merge_all(&vec![&short[..]; 16], 0).unwrap();
+    assert_eq!(own.merge_all(&vec![&short[..]; 17], 0), Err(Error::Set));
+    assert_eq!(own.merge_all(&[], 0), Err(Error::Set));
+    let mut other = file(8);
+    let at = other.len() - 8;
+    other[80 + 24 * 4 + 16] ^= 1;
+    let s = sum(&other[..at]);
+    other[at..].copy_from_slice(&s.to_le_bytes());
+    assert_eq!(own.merge_all(&[&file(6), &other], u64::MAX), Err(Error::MergeCheckpoints));
+    assert_eq!(own.merge_all(&[&other, &long[1..]], u64::MAX), Err(Error::FileMagic));
+    assert_eq!(own.save().unwrap(), long);
+}
+
+#[test]
 fn a_limited_copy_lacks_what_no_merge_would_bring() {
     let whole = List::load(area(), &file(5), u64::MAX).unwrap();
     let copy = List::load(area(), &file(5), 0).unwrap();

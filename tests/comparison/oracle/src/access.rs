@@ -121,6 +121,11 @@ pub fn checkpoints(ix: &AreaIndex) -> usize {
     ix.checkpoints.len()
 }
 
+/// Whether a list is complete.
+pub fn complete(ix: &AreaIndex) -> bool {
+    ix.end_state.is_some()
+}
+
 /// How many frame bytes a list holds.
 pub fn used(ix: &AreaIndex) -> usize {
     ix.stored.used
@@ -265,6 +270,28 @@ pub fn merged(own: &AreaIndex, other: &AreaIndex) -> Result<AreaIndex, Error> {
     assert!(many || new.confirmed == confirmed, "the model's merged confirmations and the original's differ");
     new.confirmed = confirmed;
     Ok(new)
+}
+
+/// `merge` as `merged`; where an LSN comes under two numbers, which the original leaves open, the arriving one stays (change request 5).
+pub fn merged_newer(own: &AreaIndex, other: &AreaIndex) -> Result<AreaIndex, Error> {
+    if !hints_clash(own, &other.samples) {
+        return merged(own, other);
+    }
+    let mut new = merged(own, &AreaIndex { samples: Vec::new(), ..other.clone() })?;
+    let mut held = own.samples.clone();
+    held.retain(|h| other.samples.iter().all(|s| s.0 != h.0));
+    new.samples = version4::added(&held, &other.samples, (own.start, own.end), own.max_hints);
+    Ok(new)
+}
+
+/// Whether the original merges one list into the other: 0, or the number that it refuses with.
+pub fn join_number(own: &AreaIndex, other: &AreaIndex) -> u32 {
+    let bare = |ix: &AreaIndex| AreaIndex { samples: Vec::new(), confirmed: Vec::new(), ..ix.clone() };
+    bare(own).merge(&bare(other)).map_or_else(|e| number(&e), |()| 0)
+}
+
+pub fn set_image(ix: &mut AreaIndex, image: Option<u64>) {
+    ix.image_id = image;
 }
 
 /// `add_hints` by the original, and by the words beside it.

@@ -4,6 +4,7 @@
 pub mod calls;
 mod damage;
 mod disc;
+mod drawer;
 mod driver;
 mod file;
 mod generate;
@@ -37,6 +38,7 @@ oracle sources                           which texts of the original were built:
 oracle differences PAPER SCRIPT          runs the rows of docs/DIFFERENCES.md; PAPER is that text, SCRIPT names each row too
 oracle diff COUNT|SECONDSs REPLAY [options]  runs fresh scripts through both, until the first difference
 oracle disc COUNT|SECONDSs PROGRAM [options] runs fresh disc files through the model and PROGRAM (tests/models/disc), until the first difference
+oracle drawer COUNT PROGRAM [options]        runs fresh sets of files through the model and PROGRAM (tests/models/drawer), until the first difference
 oracle sheet COUNT PROGRAM [options]         runs fresh coverage sheets through the model and PROGRAM (tests/models/sheet), until the first difference
 options: --seed N  --kinds load,merge,calls,seams,hints,unrelated,large,lent,names,sectors,version4,long|all  --scripts N  --files N  --small  --only CALL,CALL,..
          --notes (counts by kind of damage)  --counts FILE (diff: tables of the counts)  --unchecked (no answer need occur)
@@ -149,6 +151,7 @@ pub fn command() -> ExitCode {
         ("fixed", 2) => driver::fixed(&a),
         ("diff", 2) => driver::differences(&a),
         ("disc", 2) => disc::compare(&a),
+        ("drawer", 2) => drawer::compare(&a),
         ("sheet", 2) => sheet::compare(&a),
         _ => {
             eprint!("{USAGE}");

@@ -235,7 +235,7 @@ pub fn pair_case(rng: &mut Rng, src: &Source, counts: &mut Counts) -> Option<Cas
 }
 
 /// A change of a list that 1, 2, 3 or 4 finds, or that is not saved.
-fn edit(rng: &mut Rng, area: &AreaNumbers, ix: &AreaIndex) -> Edit {
+pub fn edit(rng: &mut Rng, area: &AreaNumbers, ix: &AreaIndex) -> Edit {
     let (boundaries, _, _) = access::sizes(ix);
     let need = needs(ix);
     let word = |number, at, value| Edit { number, what: 7, at, value };

@@ -1,9 +1,9 @@
 //! Disc files, change request 14: cases, whole and broken, go through the model and through a program over the library (tests/models/disc).
 
 mod broken;
-mod cases;
+pub mod cases;
 mod counts;
-mod model;
+pub mod model;
 
 use std::time::{Duration, Instant};
 
@@ -29,7 +29,7 @@ fn said(program: &str, cases: &[Case]) -> Result<(Vec<String>, Option<String>), 
 }
 
 /// The cases on which the program answers otherwise, with its answer. Where it stops at a case it is run again for those behind it, a few times.
-fn differing(program: &str, cases: &[Case]) -> Result<Vec<(usize, String)>, String> {
+pub fn differing(program: &str, cases: &[Case]) -> Result<Vec<(usize, String)>, String> {
     let (mut out, mut from, mut runs) = (Vec::new(), 0, 0);
     while from < cases.len() && runs < 20 {
         let (lines, end) = said(program, &cases[from..])?;
@@ -125,7 +125,7 @@ pub fn compare(a: &Arguments) -> Result<(), String> {
 }
 
 /// Says the shortest of the cases that differ; answers what is wrong.
-fn difference(a: &Arguments, done: u64, cases: &[Case], found: &[(usize, String)]) -> Result<String, String> {
+pub fn difference(a: &Arguments, done: u64, cases: &[Case], found: &[(usize, String)]) -> Result<String, String> {
     let (i, said) = shortest(&a.rest[1], cases, found)?;
     let first = done + found[0].0 as u64;
     println!("case {first} (seed {}), {} of its batch of {} differ", a.seed, found.len(), cases.len());
