@@ -2,6 +2,7 @@
 use Prim.Native.Nat.{ℕ}
 use mathlib.Core.Bool.{Bool, cond}
 use mathlib.Core.List.{List, [], _∷_}
+use lib.Dec.{eqb}
 use Rattle.rules.specs.declared.Area.{Area}
 use Rattle.rules.specs.declared.AreaIndex.{AreaIndex}
 use Rattle.rules.specs.declared.Assembly.{Assembly}
@@ -14,6 +15,7 @@ use Rattle.rules.specs.declared.Recorder.{Recorder}
 use Rattle.rules.specs.File.{unsigned32, kindNumber, bit, over}
 use Rattle.rules.specs.Tests.{Answer, Refused, Accepted}
 use Rattle.rules_jump.specs.Names.{planRule, planRuleNumber}
+use Rattle.rules_view.specs.View.{workshop}
 use Rattle.adds.specs.declared.Brings.{Brings}
 use Rattle.blocks.specs.From.{indexFrom, recorderFrom, hintRecorderFrom}
 use Rattle.blocks.specs.declared.Told.{Told}
@@ -45,6 +47,10 @@ inHead ok none r = cond ok r none
 -- where a block that is only written is too short
 unfoldable pub inBlock : {A : Type 0} → List ℕ → A → A → A
 inBlock b short r = inHead (isBlock b) short r
+
+-- 52 where the role is not the workshop's (change request 10), asked before all else
+unfoldable pub asWorkshop : {A : Type 0} → ℕ → A → A → A
+asWorkshop role refused r = inHead (eqb role workshop) refused r
 
 -- ---- from blocks
 unfoldable pub headIndex : List ℕ → AreaIndex

@@ -15,7 +15,7 @@ use Rattle.adds.specs.Brings.{addsIn}
 use Rattle.add_hints.specs.Added.{addHintsIn}
 use Rattle.save.specs.Save.{saveIn}
 use Rattle.sizes.specs.Sizes.{newSizes, fileSizes, fileArea, fileLength}
-use Rattle.player.specs.Block.{Called, called, into, inBlock, inHead, headIndex, planWords, firstWords, sizeWords, areaWords, bringsWords, savedInto}
+use Rattle.player.specs.Block.{Called, called, into, inBlock, inHead, asWorkshop, headIndex, planWords, firstWords, sizeWords, areaWords, bringsWords, savedInto}
 
 -- ---- sectors and sizes; the block is the answer's
 unfoldable pub firstCall : List ℕ → List ℕ → Called
@@ -81,3 +81,13 @@ addsCall head other answer t u =
 -- ---- hints
 unfoldable pub addHintsCall : List ℕ → List ℕ → Tables → CalledOver
 addHintsCall head list t = inHead (isIndex head) (calledOver 3 head t) (outInto head (addHintsIn (headIndex head) t list))
+
+-- ---- what the workshop alone may call (change request 10)
+unfoldable pub loadCallAs : ℕ → List ℕ → Area → List ℕ → ℕ → Tables → CalledOver
+loadCallAs role head a file limit t = asWorkshop role (calledOver 52 head t) (loadCall head a file limit t)
+
+unfoldable pub saveCallAs : ℕ → List ℕ → Tables → List ℕ → Called
+saveCallAs role head t out = asWorkshop role (called 52 out) (saveCall head t out)
+
+unfoldable pub mergeCallAs : ℕ → List ℕ → List ℕ → Tables → Tables → CalledOver
+mergeCallAs role head other t u = asWorkshop role (calledOver 52 head t) (mergeCall head other t u)

@@ -6,11 +6,12 @@ use drawer::merge_all;
 ghost use mathlib.Core.Path.{_≡_};
 ghost use Rattle.index.specs.Index.{tables};
 ghost use Rattle.player.specs.Calls.{calledOver};
-ghost use Rattle.player.specs.DrawerCalls.{mergeAllCall};
+ghost use Rattle.player.specs.DrawerCalls.{mergeAllCallAs};
 
 // The files, end to end in one buffer, merged into the list of a head, all of them or none.
 #[no_mangle]
 pub extern "C" fn seek_raw_merge_all(
+    role: u32,
     head: &mut [u8],
     lengths: &[u8],
     files: &[u8],
@@ -30,8 +31,11 @@ pub extern "C" fn seek_raw_merge_all(
     work_hints: &mut [u8],
     work_confirmed: &mut [u8],
 ) -> u32
-    ensures { λ r. ⌜ calledOver r (now (head .exit)) (tables (now (checkpoints .exit)) (now (frames .exit)) (now (store .exit)) (now (parts .exit)) (now (malformed .exit)) (now (hints .exit)) (now (confirmed .exit))) ≡ mergeAllCall (now (head .entry)) (now (lengths .entry)) (now (files .entry)) limit (tables (now (checkpoints .entry)) (now (frames .entry)) (now (store .entry)) (now (parts .entry)) (now (malformed .entry)) (now (hints .entry)) (now (confirmed .entry))) (tables (now («work_checkpoints» .entry)) (now («work_frames» .entry)) (now («work_store» .entry)) (now («work_parts» .entry)) (now («work_malformed» .entry)) (now («work_hints» .entry)) (now («work_confirmed» .entry))) ⌝ }
+    ensures { λ r. ⌜ calledOver r (now (head .exit)) (tables (now (checkpoints .exit)) (now (frames .exit)) (now (store .exit)) (now (parts .exit)) (now (malformed .exit)) (now (hints .exit)) (now (confirmed .exit))) ≡ mergeAllCallAs role (now (head .entry)) (now (lengths .entry)) (now (files .entry)) limit (tables (now (checkpoints .entry)) (now (frames .entry)) (now (store .entry)) (now (parts .entry)) (now (malformed .entry)) (now (hints .entry)) (now (confirmed .entry))) (tables (now («work_checkpoints» .entry)) (now («work_frames» .entry)) (now («work_store» .entry)) (now («work_parts» .entry)) (now («work_malformed» .entry)) (now («work_hints» .entry)) (now («work_confirmed» .entry))) ⌝ }
 {
+    if role != 2 {
+        return 52;
+    }
     if !is_index(head) {
         return 3;
     }

@@ -4,6 +4,7 @@ mod coarse_calls;
 mod drawer_calls;
 mod lacks_calls;
 pub mod sums;
+mod view_calls;
 
 use crate::block::area_from;
 use crate::block::index_in;
@@ -20,7 +21,7 @@ ghost use mathlib.Core.Path.{_≡_};
 ghost use Rattle.fnv.specs.Fnv.{fnv64};
 ghost use Rattle.index.specs.Index.{tables};
 ghost use Rattle.player.specs.Block.{called, areaFrom};
-ghost use Rattle.player.specs.Calls.{calledOver, mergeCall, addsCall, addHintsCall, newCall, loadCall, fingerprintCall, planCall, saveCall, lengthCall, sizesCall, fileSizesCall, fileAreaCall, firstCall};
+ghost use Rattle.player.specs.Calls.{calledOver, mergeCallAs, addsCall, addHintsCall, newCall, loadCallAs, fingerprintCall, planCall, saveCallAs, lengthCall, sizesCall, fileSizesCall, fileAreaCall, firstCall};
 
 // ---- sums, sectors and sizes
 // The sum of bytes.
@@ -153,6 +154,7 @@ pub extern "C" fn seek_raw_new(
 // The list of a file, limited, into the tables.
 #[no_mangle]
 pub extern "C" fn seek_raw_load(
+    role: u32,
     head: &mut [u8],
     slot: u8,
     channels: u8,
@@ -171,8 +173,11 @@ pub extern "C" fn seek_raw_load(
     hints: &mut [u8],
     confirmed: &mut [u8],
 ) -> u32
-    ensures { λ r. ⌜ calledOver r (now (head .exit)) (tables (now (checkpoints .exit)) (now (frames .exit)) (now (store .exit)) (now (parts .exit)) (now (malformed .exit)) (now (hints .exit)) (now (confirmed .exit))) ≡ loadCall (now (head .entry)) (areaFrom slot channels «key_start» «key_end» sectors start end) (now (file .entry)) limit (tables (now (checkpoints .entry)) (now (frames .entry)) (now (store .entry)) (now (parts .entry)) (now (malformed .entry)) (now (hints .entry)) (now (confirmed .entry))) ⌝ }
+    ensures { λ r. ⌜ calledOver r (now (head .exit)) (tables (now (checkpoints .exit)) (now (frames .exit)) (now (store .exit)) (now (parts .exit)) (now (malformed .exit)) (now (hints .exit)) (now (confirmed .exit))) ≡ loadCallAs role (now (head .entry)) (areaFrom slot channels «key_start» «key_end» sectors start end) (now (file .entry)) limit (tables (now (checkpoints .entry)) (now (frames .entry)) (now (store .entry)) (now (parts .entry)) (now (malformed .entry)) (now (hints .entry)) (now (confirmed .entry))) ⌝ }
 {
+    if role != 2 {
+        return 52;
+    }
     if head.len() < HEAD_BYTES {
         return 3;
     }
@@ -295,6 +300,7 @@ pub extern "C" fn seek_raw_saved_length(
 // Writes the list file. The length, or the refusal number.
 #[no_mangle]
 pub extern "C" fn seek_raw_save(
+    role: u32,
     head: &[u8],
     checkpoints: &[u8],
     frames: &[u8],
@@ -305,8 +311,11 @@ pub extern "C" fn seek_raw_save(
     confirmed: &[u8],
     out: &mut [u8],
 ) -> u64
-    ensures { λ r. ⌜ called r (now (out .exit)) ≡ saveCall (now (head .entry)) (tables (now (checkpoints .entry)) (now (frames .entry)) (now (store .entry)) (now (parts .entry)) (now (malformed .entry)) (now (hints .entry)) (now (confirmed .entry))) (now (out .entry)) ⌝ }
+    ensures { λ r. ⌜ called r (now (out .exit)) ≡ saveCallAs role (now (head .entry)) (tables (now (checkpoints .entry)) (now (frames .entry)) (now (store .entry)) (now (parts .entry)) (now (malformed .entry)) (now (hints .entry)) (now (confirmed .entry))) (now (out .entry)) ⌝ }
 {
+    if role != 2 {
+        return 52;
+    }
     if !is_index(head) {
         return 3;
     }
@@ -328,6 +337,7 @@ pub extern "C" fn seek_raw_save(
 // Merges the other list, which is only read, into the own one.
 #[no_mangle]
 pub extern "C" fn seek_raw_merge(
+    role: u32,
     head: &mut [u8],
     other: &[u8],
     checkpoints: &mut [u8],
@@ -345,8 +355,11 @@ pub extern "C" fn seek_raw_merge(
     other_hints: &[u8],
     other_confirmed: &[u8],
 ) -> u32
-    ensures { λ r. ⌜ calledOver r (now (head .exit)) (tables (now (checkpoints .exit)) (now (frames .exit)) (now (store .exit)) (now (parts .exit)) (now (malformed .exit)) (now (hints .exit)) (now (confirmed .exit))) ≡ mergeCall (now (head .entry)) (now (other .entry)) (tables (now (checkpoints .entry)) (now (frames .entry)) (now (store .entry)) (now (parts .entry)) (now (malformed .entry)) (now (hints .entry)) (now (confirmed .entry))) (tables (now («other_checkpoints» .entry)) (now («other_frames» .entry)) (now («other_store» .entry)) (now («other_parts» .entry)) (now («other_malformed» .entry)) (now («other_hints» .entry)) (now («other_confirmed» .entry))) ⌝ }
+    ensures { λ r. ⌜ calledOver r (now (head .exit)) (tables (now (checkpoints .exit)) (now (frames .exit)) (now (store .exit)) (now (parts .exit)) (now (malformed .exit)) (now (hints .exit)) (now (confirmed .exit))) ≡ mergeCallAs role (now (head .entry)) (now (other .entry)) (tables (now (checkpoints .entry)) (now (frames .entry)) (now (store .entry)) (now (parts .entry)) (now (malformed .entry)) (now (hints .entry)) (now (confirmed .entry))) (tables (now («other_checkpoints» .entry)) (now («other_frames» .entry)) (now («other_store» .entry)) (now («other_parts» .entry)) (now («other_malformed» .entry)) (now («other_hints» .entry)) (now («other_confirmed» .entry))) ⌝ }
 {
+    if role != 2 {
+        return 52;
+    }
     if !is_index(head) {
         return 3;
     }

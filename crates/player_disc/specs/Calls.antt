@@ -4,7 +4,7 @@ use mathlib.Core.List.{List}
 use Rattle.rules.specs.declared.Area.{Area}
 use Rattle.blocks.specs.IsHead.{isIndex}
 use Rattle.index.specs.Index.{Tables}
-use Rattle.player.specs.Block.{Called, called, into, inBlock, inHead, headIndex, savedInto}
+use Rattle.player.specs.Block.{Called, called, into, inBlock, inHead, asWorkshop, headIndex, savedInto}
 use Rattle.disc_load.specs.Contents.{contentsIn}
 use Rattle.disc_load.specs.Calls.{DiscOut, loadDiscIn}
 use Rattle.disc_save.specs.Calls.{saveOneIn, saveBothIn}
@@ -50,3 +50,14 @@ unfoldable pub discLoadCall : List ℕ → List ℕ → Area → Area → List �
 discLoadCall head other a0 a1 file limit answer t u =
     let short = calledDisc (calledLists 3 head other answer) t u in
     inBlock head short (inBlock other short (inBlock answer short (discInto head other answer (loadDiscIn a0 a1 file limit t u))))
+
+-- ---- what the workshop alone may call (change request 10)
+unfoldable pub discSaveCallAs : ℕ → List ℕ → Tables → List ℕ → Called
+discSaveCallAs role head t out = asWorkshop role (called 52 out) (discSaveCall head t out)
+
+unfoldable pub discSaveBothCallAs : ℕ → List ℕ → List ℕ → Tables → Tables → List ℕ → Called
+discSaveBothCallAs role head other t u out = asWorkshop role (called 52 out) (discSaveBothCall head other t u out)
+
+unfoldable pub discLoadCallAs : ℕ → List ℕ → List ℕ → Area → Area → List ℕ → ℕ → List ℕ → Tables → Tables → CalledDisc
+discLoadCallAs role head other a0 a1 file limit answer t u =
+    asWorkshop role (calledDisc (calledLists 52 head other answer) t u) (discLoadCall head other a0 a1 file limit answer t u)

@@ -13,7 +13,7 @@ ghost use mathlib.Core.Path.{_≡_};
 ghost use Rattle.index.specs.Index.{tables};
 ghost use Rattle.player.specs.Block.{called, areaFrom};
 ghost use Rattle.player_disc.specs.Block.{calledLists};
-ghost use Rattle.player_disc.specs.Calls.{discContentsCall, discSizesCall, discLengthCall, discLengthBothCall, discSaveCall, discSaveBothCall, calledDisc, discLoadCall};
+ghost use Rattle.player_disc.specs.Calls.{discContentsCall, discSizesCall, discLengthCall, discLengthBothCall, discSaveCallAs, discSaveBothCallAs, calledDisc, discLoadCallAs};
 
 // ---- what a disc file holds
 // Whether there is a list of each slot, and where its file lies.
@@ -79,6 +79,7 @@ pub extern "C" fn seek_raw_disc_sizes(
 // The lists of a disc file, limited, each into the tables of its slot. The answer says which are there.
 #[no_mangle]
 pub extern "C" fn seek_raw_disc_load(
+    role: u32,
     head: &mut [u8],
     other: &mut [u8],
     slot0: u8,
@@ -113,8 +114,11 @@ pub extern "C" fn seek_raw_disc_load(
     other_hints: &mut [u8],
     other_confirmed: &mut [u8],
 ) -> u32
-    ensures { λ r. ⌜ calledDisc (calledLists r (now (head .exit)) (now (other .exit)) (now (answer .exit))) (tables (now (checkpoints .exit)) (now (frames .exit)) (now (store .exit)) (now (parts .exit)) (now (malformed .exit)) (now (hints .exit)) (now (confirmed .exit))) (tables (now («other_checkpoints» .exit)) (now («other_frames» .exit)) (now («other_store» .exit)) (now («other_parts» .exit)) (now («other_malformed» .exit)) (now («other_hints» .exit)) (now («other_confirmed» .exit))) ≡ discLoadCall (now (head .entry)) (now (other .entry)) (areaFrom slot0 channels0 «key_start0» «key_end0» sectors0 start0 end0) (areaFrom slot1 channels1 «key_start1» «key_end1» sectors1 start1 end1) (now (file .entry)) limit (now (answer .entry)) (tables (now (checkpoints .entry)) (now (frames .entry)) (now (store .entry)) (now (parts .entry)) (now (malformed .entry)) (now (hints .entry)) (now (confirmed .entry))) (tables (now («other_checkpoints» .entry)) (now («other_frames» .entry)) (now («other_store» .entry)) (now («other_parts» .entry)) (now («other_malformed» .entry)) (now («other_hints» .entry)) (now («other_confirmed» .entry))) ⌝ }
+    ensures { λ r. ⌜ calledDisc (calledLists r (now (head .exit)) (now (other .exit)) (now (answer .exit))) (tables (now (checkpoints .exit)) (now (frames .exit)) (now (store .exit)) (now (parts .exit)) (now (malformed .exit)) (now (hints .exit)) (now (confirmed .exit))) (tables (now («other_checkpoints» .exit)) (now («other_frames» .exit)) (now («other_store» .exit)) (now («other_parts» .exit)) (now («other_malformed» .exit)) (now («other_hints» .exit)) (now («other_confirmed» .exit))) ≡ discLoadCallAs role (now (head .entry)) (now (other .entry)) (areaFrom slot0 channels0 «key_start0» «key_end0» sectors0 start0 end0) (areaFrom slot1 channels1 «key_start1» «key_end1» sectors1 start1 end1) (now (file .entry)) limit (now (answer .entry)) (tables (now (checkpoints .entry)) (now (frames .entry)) (now (store .entry)) (now (parts .entry)) (now (malformed .entry)) (now (hints .entry)) (now (confirmed .entry))) (tables (now («other_checkpoints» .entry)) (now («other_frames» .entry)) (now («other_store» .entry)) (now («other_parts» .entry)) (now («other_malformed» .entry)) (now («other_hints» .entry)) (now («other_confirmed» .entry))) ⌝ }
 {
+    if role != 2 {
+        return 52;
+    }
     if head.len() < HEAD_BYTES {
         return 3;
     }
@@ -249,6 +253,7 @@ pub extern "C" fn seek_raw_disc_saved_length_both(
 // Writes the disc file of one list. The length, or the refusal number.
 #[no_mangle]
 pub extern "C" fn seek_raw_disc_save(
+    role: u32,
     head: &[u8],
     checkpoints: &[u8],
     frames: &[u8],
@@ -259,8 +264,11 @@ pub extern "C" fn seek_raw_disc_save(
     confirmed: &[u8],
     out: &mut [u8],
 ) -> u64
-    ensures { λ r. ⌜ called r (now (out .exit)) ≡ discSaveCall (now (head .entry)) (tables (now (checkpoints .entry)) (now (frames .entry)) (now (store .entry)) (now (parts .entry)) (now (malformed .entry)) (now (hints .entry)) (now (confirmed .entry))) (now (out .entry)) ⌝ }
+    ensures { λ r. ⌜ called r (now (out .exit)) ≡ discSaveCallAs role (now (head .entry)) (tables (now (checkpoints .entry)) (now (frames .entry)) (now (store .entry)) (now (parts .entry)) (now (malformed .entry)) (now (hints .entry)) (now (confirmed .entry))) (now (out .entry)) ⌝ }
 {
+    if role != 2 {
+        return 52;
+    }
     if !is_index(head) {
         return 3;
     }
@@ -282,6 +290,7 @@ pub extern "C" fn seek_raw_disc_save(
 // Writes the disc file of two lists, whichever is given first. The length, or the refusal number.
 #[no_mangle]
 pub extern "C" fn seek_raw_disc_save_both(
+    role: u32,
     head: &[u8],
     other: &[u8],
     checkpoints: &[u8],
@@ -300,8 +309,11 @@ pub extern "C" fn seek_raw_disc_save_both(
     other_confirmed: &[u8],
     out: &mut [u8],
 ) -> u64
-    ensures { λ r. ⌜ called r (now (out .exit)) ≡ discSaveBothCall (now (head .entry)) (now (other .entry)) (tables (now (checkpoints .entry)) (now (frames .entry)) (now (store .entry)) (now (parts .entry)) (now (malformed .entry)) (now (hints .entry)) (now (confirmed .entry))) (tables (now («other_checkpoints» .entry)) (now («other_frames» .entry)) (now («other_store» .entry)) (now («other_parts» .entry)) (now («other_malformed» .entry)) (now («other_hints» .entry)) (now («other_confirmed» .entry))) (now (out .entry)) ⌝ }
+    ensures { λ r. ⌜ called r (now (out .exit)) ≡ discSaveBothCallAs role (now (head .entry)) (now (other .entry)) (tables (now (checkpoints .entry)) (now (frames .entry)) (now (store .entry)) (now (parts .entry)) (now (malformed .entry)) (now (hints .entry)) (now (confirmed .entry))) (tables (now («other_checkpoints» .entry)) (now («other_frames» .entry)) (now («other_store» .entry)) (now («other_parts» .entry)) (now («other_malformed» .entry)) (now («other_hints» .entry)) (now («other_confirmed» .entry))) (now (out .entry)) ⌝ }
 {
+    if role != 2 {
+        return 52;
+    }
     if !is_index(head) {
         return 3;
     }

@@ -160,9 +160,9 @@ pub extern "C" fn seek_raw_boundary(head: &[u8], number: u32, answer: &mut [u8])
 // The version of the library, as SEEK_VERSION in include/seek.h.
 #[no_mangle]
 pub extern "C" fn seek_raw_version() -> u32
-    ensures { λ r. ⌜ r ≡ 10100 ⌝ }
+    ensures { λ r. ⌜ r ≡ 20000 ⌝ }
 {
-    10100
+    20000
 }
 
 // Absorbs a recorder's stretch; mark and image are the image id of the reading, given its malformed LSNs, 4 bytes each. 8 stops the recorder.

@@ -39,3 +39,4 @@ pub mod TableRun
 pub mod Terms
 pub mod Useful
 pub mod UsefulInTables
+pub mod View

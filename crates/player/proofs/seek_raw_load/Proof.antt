@@ -1,27 +1,40 @@
-use Rattle.player.specs.Calls.{loadCall}
-use Rattle.player.proofs.block.Blocks.{too-short}
+use Rattle.player.specs.Calls.{loadCall, loadCallAs}
+use Rattle.player.proofs.block.Blocks.{no-workshop, is-workshop, too-short}
 use Rattle.player.proofs.Answers.{load-done}
 use borrow.Author.Needs.{needs}
 use Rattle.player.proofs.seek_raw_load.Statement.{statement}
 use Rattle.player.proofs.seek_raw_load.Tie as tie
 
 returns : tie.Need-returns
-unfolding loadCall
-returns c = too-short _ _ _ (c .if1 .taken)
+unfolding loadCallAs
+returns c = no-workshop _ _ _ (c .if1 .taken)
 
 returns-2 : tie.Need-returns-2
+unfolding loadCall loadCallAs
 returns-2 c =
+    let role : tie.Else1 = search in
+    is-workshop _ _ _ (role .if1 .left) (too-short _ _ _ (c .if2 .taken))
+
+-- the role's test before the block's
+abbrev role-before : tie.Else2 → tie.Else1
+role-before test = search
+
+returns-3 : tie.Need-returns-3
+unfolding loadCallAs
+returns-3 c =
     let put : tie.After-put-made = search in
     let call : tie.After-from-bytes = c .before .before .before .before .before .before .before .before .before .before .before .before .before .before .before .before .before .before in
     let area : tie.After-area-from = search in
-    let test : tie.Else1 = search in
-    load-done _ _ _ (test .if1 .left) _ _ _ _ _ _ _ (put .put-made .ensures) (call .from-bytes .ensures) (area .area-from .ensures)
+    let test : tie.Else2 = search in
+    is-workshop _ _ _ (role-before test .if1 .left)
+    (load-done _ _ _ (test .if2 .left) _ _ _ _ _ _ _ (put .put-made .ensures) (call .from-bytes .ensures) (area .area-from .ensures))
 
 pub seek-raw-load-spec : {M : Type 1} → statement M
 seek-raw-load-spec =
     tie.close
     (tie.spec
     returns
+    returns-2
     (λ c κs. search needs)
     (λ c κs. search needs)
     (λ c κs. search needs)
@@ -33,4 +46,4 @@ seek-raw-load-spec =
     (λ c. let lent : tie.After-malformed = search in lent .malformed .given)
     (λ c. let lent : tie.After-hints = search in lent .hints .given)
     (λ c. let lent : tie.After-confirmed = search in lent .confirmed .given)
-    returns-2)
+    returns-3)

@@ -1,7 +1,7 @@
 use mathlib.Core.Path.{refl}
 use Rattle.index.specs.Index.{Tables, tables}
-use Rattle.player.specs.Calls.{mergeCall}
-use Rattle.player.proofs.block.Blocks.{no-head, is-head, known, known-long}
+use Rattle.player.specs.Calls.{mergeCall, mergeCallAs}
+use Rattle.player.proofs.block.Blocks.{no-workshop, is-workshop, no-head, is-head, known, known-long}
 use Rattle.player.proofs.Answers.{merge-done}
 use borrow.Author.Needs.{needs}
 use Rattle.player.proofs.seek_raw_merge.Statement.{statement}
@@ -19,43 +19,61 @@ others s =
     tables (a .other-checkpoints .now) (a .other-frames .now) (a .other-store .now) (a .other-parts .now) (a .other-malformed .now)
     (a .other-hints .now) (a .other-confirmed .now)
 
+-- the role's test before the blocks'
+abbrev role-before : tie.Else2 → tie.Else1
+role-before test = search
+
+abbrev begin : tie.Else1 → tie.Start
+begin role = search
+
 returns : tie.Need-returns
-unfolding mergeCall
-returns c = no-head _ _ _ (c .before .is-index .ensures) (c .if1 .taken)
+unfolding mergeCallAs
+returns c = no-workshop _ _ _ (c .if1 .taken)
 
 returns-2 : tie.Need-returns-2
-unfolding mergeCall
+unfolding mergeCall mergeCallAs
 returns-2 c =
-    let test : tie.Else1 = search in
-    is-head _ _ _ (known (test .before .is-index .ensures) (test .if1 .left)) (no-head _ _ _ (c .before .is-index2 .ensures) (c .if2 .taken))
+    let role : tie.Else1 = search in
+    is-workshop _ _ _ (role .if1 .left) (no-head _ _ _ (c .before .is-index .ensures) (c .if2 .taken))
 
 returns-3 : tie.Need-returns-3
+unfolding mergeCall mergeCallAs
 returns-3 c =
+    let test : tie.Else2 = search in
+    is-workshop _ _ _ (role-before test .if1 .left)
+    (is-head _ _ _ (known (test .before .is-index .ensures) (test .if2 .left)) (no-head _ _ _ (c .before .is-index2 .ensures) (c .if3 .taken)))
+
+returns-4 : tie.Need-returns-4
+unfolding mergeCallAs
+returns-4 c =
     let put : tie.After-put-made = search in
     let call : tie.After-merge = c .before .before .before .before .before .before .before .before .before .before .before .before .before .before .before .before .before .before in
     let other : tie.After-index-in2 = search in
     let own : tie.After-index-in = search in
-    let test2 : tie.Else2 = search in
-    let test : tie.Else1 = search in
-    let start : tie.Start = test .before .before .before .before .before .before .before .before .before .before .before .before .before .before .before .before .before .before .before in
-    merge-done (start .args .head .now) _ _ (known (test .before .is-index .ensures) (test .if1 .left)) (start .args .other .now) (known (test2 .before .is-index2 .ensures) (test2 .if2 .left)) (own .index-in .result)
+    let test2 : tie.Else3 = search in
+    let test : tie.Else2 = search in
+    let role = role-before test in
+    let start = begin role in
+    is-workshop _ _ _ (role .if1 .left)
+    (merge-done (start .args .head .now) _ _ (known (test .before .is-index .ensures) (test .if2 .left)) (start .args .other .now) (known (test2 .before .is-index2 .ensures) (test2 .if3 .left)) (own .index-in .result)
     (other .index-in2 .result) (other .index-in2 .ensures) (lent start) (others start) _ (call .merge .result) (put .put-made .ensures)
-    (call .merge .ensures) (own .index-in .ensures)
+    (call .merge .ensures) (own .index-in .ensures))
 
 pub seek-raw-merge-spec : {M : Type 1} → statement M
 seek-raw-merge-spec =
     tie.close
     (tie.spec
-    (λ c κs. search needs)
-    (λ c. refl)
     returns
     (λ c κs. search needs)
     (λ c. refl)
     returns-2
-    (λ c κs. let test : tie.Else1 = search in known-long _ _ (test .before .is-index .ensures) (test .if1 .left))
-    (λ c κs. let test : tie.Else2 = search in known-long _ _ (test .before .is-index2 .ensures) (test .if2 .left))
     (λ c κs. search needs)
-    (λ c κs. let test : tie.Else1 = search in search (needs, known-long _ _ (test .before .is-index .ensures) (test .if1 .left)))
+    (λ c. refl)
+    returns-3
+    (λ c κs. let test : tie.Else2 = search in known-long _ _ (test .before .is-index .ensures) (test .if2 .left))
+    (λ c κs. let test : tie.Else3 = search in known-long _ _ (test .before .is-index2 .ensures) (test .if3 .left))
+    (λ c κs. search needs)
+    (λ c κs. let test : tie.Else2 = search in search (needs, known-long _ _ (test .before .is-index .ensures) (test .if2 .left)))
     (λ c. let lent : tie.After-head = search in lent .head .given)
     (λ c. let lent : tie.After-checkpoints = search in lent .checkpoints .given)
     (λ c. let lent : tie.After-frames = search in lent .frames .given)
@@ -64,4 +82,4 @@ seek-raw-merge-spec =
     (λ c. let lent : tie.After-malformed = search in lent .malformed .given)
     (λ c. let lent : tie.After-hints = search in lent .hints .given)
     (λ c. let lent : tie.After-confirmed = search in lent .confirmed .given)
-    returns-3)
+    returns-4)

@@ -1,8 +1,8 @@
 use Rattle.rules.specs.declared.Area.{Area}
 use Rattle.index.specs.Index.{Tables, tables}
 use Rattle.player.specs.Block.{areaFrom}
-use Rattle.player_disc.specs.Calls.{discLoadCall}
-use Rattle.player.proofs.block.Blocks.{too-short, long-enough}
+use Rattle.player_disc.specs.Calls.{discLoadCall, discLoadCallAs}
+use Rattle.player.proofs.block.Blocks.{no-workshop, is-workshop, too-short, long-enough}
 use Rattle.player_disc.proofs.Answers.{load-done}
 use borrow.Author.Needs.{needs}
 use Rattle.player_disc.proofs.seek_raw_disc_load.Statement.{statement}
@@ -36,34 +36,44 @@ area1-before call = search
 abbrev area0-before : tie.After-area-from2 → tie.After-area-from
 area0-before area1 = search
 
-abbrev test3-before : tie.After-area-from → tie.Else3
+abbrev test3-before : tie.After-area-from → tie.Else4
 test3-before area0 = search
 
-abbrev test2-before : tie.Else3 → tie.Else2
+abbrev test2-before : tie.Else4 → tie.Else3
 test2-before test3 = search
 
-abbrev test-before : tie.Else2 → tie.Else1
+abbrev test-before : tie.Else3 → tie.Else2
 test-before test2 = search
 
+abbrev role-before : tie.Else2 → tie.Else1
+role-before test = search
+
 abbrev begin : tie.Else1 → tie.Start
-begin test = search
+begin role = search
 
 returns : tie.Need-returns
-unfolding discLoadCall
-returns c = too-short _ _ _ (c .if1 .taken)
+unfolding discLoadCallAs
+returns c = no-workshop _ _ _ (c .if1 .taken)
 
 returns-2 : tie.Need-returns-2
-unfolding discLoadCall
+unfolding discLoadCall discLoadCallAs
 returns-2 c =
-    let test : tie.Else1 = search in
-    long-enough _ _ _ (test .if1 .left) (too-short _ _ _ (c .if2 .taken))
+    let role : tie.Else1 = search in
+    is-workshop _ _ _ (role .if1 .left) (too-short _ _ _ (c .if2 .taken))
 
 returns-3 : tie.Need-returns-3
-unfolding discLoadCall
+unfolding discLoadCall discLoadCallAs
 returns-3 c =
-    let test2 : tie.Else2 = search in
+    let test : tie.Else2 = search in
+    is-workshop _ _ _ (role-before test .if1 .left) (long-enough _ _ _ (test .if2 .left) (too-short _ _ _ (c .if3 .taken)))
+
+returns-4 : tie.Need-returns-4
+unfolding discLoadCall discLoadCallAs
+returns-4 c =
+    let test2 : tie.Else3 = search in
     let test = test-before test2 in
-    long-enough _ _ _ (test .if1 .left) (long-enough _ _ _ (test2 .if2 .left) (too-short _ _ _ (c .if3 .taken)))
+    is-workshop _ _ _ (role-before test .if1 .left)
+    (long-enough _ _ _ (test .if2 .left) (long-enough _ _ _ (test2 .if3 .left) (too-short _ _ _ (c .if4 .taken))))
 
 put-loaded-requires : tie.Need-put-loaded-requires
 put-loaded-requires c κs =
@@ -71,10 +81,11 @@ put-loaded-requires c κs =
     let test3 = test3-before (area0-before (area1-before call)) in
     let test2 = test2-before test3 in
     let test = test-before test2 in
-    search (needs, test .if1 .left, test2 .if2 .left, test3 .if3 .left)
+    search (needs, test .if2 .left, test2 .if3 .left, test3 .if4 .left)
 
-returns-4 : tie.Need-returns-4
-returns-4 c =
+returns-5 : tie.Need-returns-5
+unfolding discLoadCallAs
+returns-5 c =
     let put : tie.After-put-loaded = search in
     let call = call-before put in
     let area1 = area1-before call in
@@ -82,11 +93,13 @@ returns-4 c =
     let test3 = test3-before area0 in
     let test2 = test2-before test3 in
     let test = test-before test2 in
-    let start = begin test in
-    load-done (start .args .head .now) (start .args .other .now) (start .args .answer .now) _ _ _ _ (test .if1 .left) (test2 .if2 .left) (test3 .if3 .left)
+    let role = role-before test in
+    let start = begin role in
+    is-workshop _ _ _ (role .if1 .left)
+    (load-done (start .args .head .now) (start .args .other .now) (start .args .answer .now) _ _ _ _ (test .if2 .left) (test2 .if3 .left) (test3 .if4 .left)
     (area-0 start) (area-1 start) (area0 .area-from .result) (area1 .area-from2 .result) (start .args .file .now) (start .args .limit) (lent start)
     (others start) _ _ (call .from-disc .result) (put .put-loaded .ensures) (call .from-disc .ensures) (area0 .area-from .ensures)
-    (area1 .area-from2 .ensures)
+    (area1 .area-from2 .ensures))
 
 pub seek-raw-disc-load-spec : {M : Type 1} → statement M
 seek-raw-disc-load-spec =
@@ -95,6 +108,7 @@ seek-raw-disc-load-spec =
     returns
     returns-2
     returns-3
+    returns-4
     (λ c κs. search needs)
     (λ c κs. search needs)
     (λ c κs. search needs)
@@ -116,4 +130,4 @@ seek-raw-disc-load-spec =
     (λ c. let lent : tie.After-other-malformed = search in lent .other-malformed .given)
     (λ c. let lent : tie.After-other-hints = search in lent .other-hints .given)
     (λ c. let lent : tie.After-other-confirmed = search in lent .other-confirmed .given)
-    returns-4)
+    returns-5)

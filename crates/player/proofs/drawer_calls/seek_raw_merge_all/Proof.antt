@@ -1,7 +1,7 @@
 use mathlib.Core.Path.{refl}
 use Rattle.index.specs.Index.{Tables, tables}
-use Rattle.player.specs.DrawerCalls.{mergeAllCall}
-use Rattle.player.proofs.block.Blocks.{no-head, known, known-long}
+use Rattle.player.specs.DrawerCalls.{mergeAllCall, mergeAllCallAs}
+use Rattle.player.proofs.block.Blocks.{no-workshop, is-workshop, no-head, known, known-long}
 use Rattle.player.proofs.drawer_calls.Answers.{merge-all-done}
 use borrow.Author.Needs.{needs}
 use Rattle.player.proofs.drawer_calls.seek_raw_merge_all.Statement.{statement}
@@ -22,37 +22,50 @@ work s =
 abbrev begin : tie.Else1 → tie.Start
 begin p = search
 
-abbrev tested : tie.After-index-in → tie.Else1
+abbrev role-before : tie.Else2 → tie.Else1
+role-before p = search
+
+abbrev tested : tie.After-index-in → tie.Else2
 tested p = search
 
 abbrev own : tie.After-merge-all → tie.After-index-in
 own p = search
 
 returns : tie.Need-returns
-unfolding mergeAllCall
-returns c = no-head _ _ _ (c .before .is-index .ensures) (c .if1 .taken)
+unfolding mergeAllCallAs
+returns c = no-workshop _ _ _ (c .if1 .taken)
 
 returns-2 : tie.Need-returns-2
+unfolding mergeAllCall mergeAllCallAs
 returns-2 c =
+    let role : tie.Else1 = search in
+    is-workshop _ _ _ (role .if1 .left) (no-head _ _ _ (c .before .is-index .ensures) (c .if2 .taken))
+
+returns-3 : tie.Need-returns-3
+unfolding mergeAllCallAs
+returns-3 c =
     let put : tie.After-put-made = c .before .before in
     let call : tie.After-merge-all = c .before .before .before .before .before .before .before .before .before .before .before .before .before .before .before .before .before .before .before .before .before .before .before .before .before .before .before .before .before .before .before .before in
     let head = own call in
     let test = tested head in
-    let start = begin test in
-    merge-all-done (start .args .head .now) _ _ (known (test .before .is-index .ensures) (test .if1 .left)) (head .index-in .result)
+    let role = role-before test in
+    let start = begin role in
+    is-workshop _ _ _ (role .if1 .left)
+    (merge-all-done (start .args .head .now) _ _ (known (test .before .is-index .ensures) (test .if2 .left)) (head .index-in .result)
     (start .args .lengths .now) (start .args .files .now) (start .args .limit) (lent start) (work start) _ (call .merge-all .result) (put .put-made .ensures)
-    (call .merge-all .ensures) (head .index-in .ensures)
+    (call .merge-all .ensures) (head .index-in .ensures))
 
 pub seek-raw-merge-all-spec : {M : Type 1} → statement M
 seek-raw-merge-all-spec =
     tie.close
     (tie.spec
+    returns
     (λ c κs. search needs)
     (λ c. refl)
-    returns
-    (λ c κs. let test : tie.Else1 = search in known-long _ _ (test .before .is-index .ensures) (test .if1 .left))
+    returns-2
+    (λ c κs. let test : tie.Else2 = search in known-long _ _ (test .before .is-index .ensures) (test .if2 .left))
     (λ c κs. tt)
-    (λ c κs. let call : tie.After-merge-all = c .before .before .before .before .before .before .before .before .before .before .before .before .before .before .before .before .before .before .before .before .before .before .before .before .before .before .before .before .before in let test = tested (own call) in known-long _ _ (test .before .is-index .ensures) (test .if1 .left))
+    (λ c κs. let call : tie.After-merge-all = c .before .before .before .before .before .before .before .before .before .before .before .before .before .before .before .before .before .before .before .before .before .before .before .before .before .before .before .before .before in let test = tested (own call) in known-long _ _ (test .before .is-index .ensures) (test .if2 .left))
     (λ c. c .before .head .given)
     (λ c. c .before .before .before .before .before .before .before .before .before .before .before .before .before .before .before .before .before .before .before .before .before .before .before .before .before .before .before .before .before .before .before .checkpoints .given)
     (λ c. c .before .before .before .before .before .before .before .before .before .before .before .before .before .before .before .before .before .before .before .before .before .before .before .before .before .before .before .before .before .frames .given)
@@ -68,4 +81,4 @@ seek-raw-merge-all-spec =
     (λ c. c .before .before .before .before .before .before .before .before .before .work-malformed .given)
     (λ c. c .before .before .before .before .before .before .before .work-hints .given)
     (λ c. c .before .before .before .before .before .work-confirmed .given)
-    returns-2)
+    returns-3)
