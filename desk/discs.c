@@ -40,7 +40,7 @@ static seek_list load(const char *name)
     if (!memory)
         stop(name, "not enough memory");
     seek_carve(&l, &sizes, memory, seek_total(&sizes));
-    if ((no = seek_load(&l, &area, f.bytes, f.length, UINT64_MAX)) != 0)
+    if ((no = seek_load(SEEK_WORKSHOP, &l, &area, f.bytes, f.length, UINT64_MAX)) != 0)
         stop(name, seek_text(no));
     return l;
 }
@@ -49,7 +49,7 @@ static File save(const seek_list *l, const seek_list *other)
 {
     File f;
     memset(&f, 0, sizeof f);
-    f.length = (size_t)seek_disc_save(l, other, f.bytes, LONGEST);
+    f.length = (size_t)seek_disc_save(SEEK_WORKSHOP, l, other, f.bytes, LONGEST);
     if (f.length < 88)
         stop("a disc file", seek_text((uint32_t)f.length));
     return f;

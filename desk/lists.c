@@ -118,7 +118,7 @@ static void write_list(const seek_list *l, const char *name)
     uint64_t length = seek_saved_length(l);
     uint8_t *bytes = (uint8_t *)calloc(1, (size_t)length);
     FILE *out = fopen(name, "wb");
-    if (!bytes || length < 88 || seek_save(l, bytes, (size_t)length) != length)
+    if (!bytes || length < 88 || seek_save(SEEK_WORKSHOP, l, bytes, (size_t)length) != length)
         stop(name, "cannot be saved");
     if (!out || fwrite(bytes, 1, (size_t)length, out) != length || fclose(out))
         stop(name, "cannot be written");

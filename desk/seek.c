@@ -34,6 +34,9 @@ static const char help[] =
     "                            where a read of the frames FIRST up to END begins and\n"
     "                            ends by the list's hints, in an area of PLAYTIME\n"
     "                            frames; and why there\n"
+    "  seek view --role listener|workshop FILE\n"
+    "                            what the role sees of a list; -o OUT writes the view's\n"
+    "                            bytes, --html -o PAGE the page that a screen shows\n"
     "\n"
     "A file is a list file, or a disc file with the lists of one or both areas of a\n"
     "disc; the name - is standard input. Disc files are compared and merged slot by\n"
@@ -48,6 +51,8 @@ static const char help[] =
     "                      another area is refused (26)\n"
     "  --json              one JSON object a line, for machines (docs/DESK.md)\n"
     "  --interval N        for coarse: the sectors from one checkpoint to the next\n"
+    "  --role ROLE         for view: listener or workshop\n"
+    "  --html              for view: a page instead of the view's bytes\n"
     "  -o OUT              the file that merge, coarse and pack write, - for standard\n"
     "                      output; for unpack what its files' names begin with\n"
     "  --partial           merge writes a file also where not all was taken\n"
@@ -82,6 +87,7 @@ static const struct {
     {"unpack", unpack, 1, 1, 1, "one disc file"},
     {"plan", plan, 2, INT_MAX, 0, "a file and a frame"},
     {"hint", hint, 4, 4, 0, "a file, the first frame, the end and the playtime"},
+    {"view", view, 1, 1, 1, "--role listener or --role workshop, and one file"},
 };
 
 static int range_option(const char *start, const char *end)
@@ -106,6 +112,12 @@ static int interval_option(const char *n)
         return complain("--interval needs a number of sectors");
     opt.widened = 1;
     return DONE;
+}
+
+static int role_option(const char *role)
+{
+    opt.role = !strcmp(role, "listener") ? SEEK_LISTENER : !strcmp(role, "workshop") ? SEEK_WORKSHOP : 0;
+    return opt.role ? DONE : complain("--role needs listener or workshop");
 }
 
 /* The word of an option: behind it (-oOUT, --slot=0), else the next one. */
@@ -137,12 +149,16 @@ static int option(int argc, char **argv, int *i)
         opt.partial = 1;
     else if (!strcmp(w, "--checked"))
         opt.checked = 1;
+    else if (!strcmp(w, "--html"))
+        opt.html = 1;
     else if (is(w, "-o"))
         opt.out = v = value(argc, argv, i, "-o");
     else if (is(w, "--area"))
         opt.area = v = value(argc, argv, i, "--area");
     else if (is(w, "--slot") && (v = value(argc, argv, i, "--slot")) != NULL)
         return slot_option(v);
+    else if (is(w, "--role") && (v = value(argc, argv, i, "--role")) != NULL)
+        return role_option(v);
     else if (is(w, "--interval") && (v = value(argc, argv, i, "--interval")) != NULL)
         return interval_option(v);
     else if (!strcmp(w, "--range") && argc - 1 - *i > 1) {
@@ -192,7 +208,10 @@ static int command(char **words, int n)
         return complain("--interval is for coarse");
     if (commands[c].run != hint && opt.checked)
         return complain("--checked is for hint");
-    if (n - 1 < commands[c].least || n - 1 > commands[c].most || (commands[c].writes == 2 && !opt.out) || (commands[c].run == coarse && !opt.widened))
+    if (commands[c].run != view && (opt.role || opt.html))
+        return complain("--role and --html are for view");
+    if (n - 1 < commands[c].least || n - 1 > commands[c].most || (commands[c].writes == 2 && !opt.out) || (commands[c].run == coarse && !opt.widened) ||
+        (commands[c].run == view && !opt.role))
         return complain("%s needs %s; seek --help tells more", words[0], commands[c].needs);
     status = opt.area ? want_area() : DONE;
     return status == DONE ? commands[c].run(words + 1, n - 1) : status;

@@ -16,7 +16,7 @@ int main(int argc, char **argv)
     if (no == 0)
         no = seek_file_sizes(&area, file, n, UINT64_MAX, &sizes);                            /* how much memory its list takes */
     if (no == 0)
-        no = seek_carve(&list, &sizes, memory, sizeof memory) ? seek_load(&list, &area, file, n, UINT64_MAX) : (uint32_t)SEEK_NO_ROOM;
+        no = seek_carve(&list, &sizes, memory, sizeof memory) ? seek_load(SEEK_WORKSHOP, &list, &area, file, n, UINT64_MAX) : (uint32_t)SEEK_NO_ROOM;
     if (no == 0)
         printf("%llu checkpoints\n", (unsigned long long)seek_checkpoint_count(&list));
     else

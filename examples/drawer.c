@@ -52,7 +52,7 @@ static int merge_files(seek_list *own, const Files *f)
     if (!memory)
         return refused("the working list", SEEK_NO_MEMORY);
     seek_carve(&work, &sizes, memory, seek_total(&sizes));
-    no = seek_merge_all(own, f->bytes, f->length, f->lengths, f->count, UINT64_MAX, &work);
+    no = seek_merge_all(SEEK_WORKSHOP, own, f->bytes, f->length, f->lengths, f->count, UINT64_MAX, &work);
     free(memory);
     return no ? refused("the files", no) : 1;
 }
@@ -67,14 +67,14 @@ int main(int argc, char **argv)
         fprintf(stderr, "drawer OUT OWN FILE..\n");
         return 2;
     }
-    if ((no = seek_open(argv[2], NULL, UINT64_MAX, &own)) != 0)
+    if ((no = seek_open(SEEK_WORKSHOP, argv[2], NULL, UINT64_MAX, &own)) != 0)
         done = refused(argv[2], no);
     /* one above 16, and the call refuses the set */
     for (i = 3; i < argc && i < 3 + SEEK_MOST_FILES + 1 && done; i++)
         done = add_file(&files, argv[i]);
     if (done)
         done = merge_files(&own, &files);
-    if (done && (no = seek_save_file(&own, argv[1])) != 0)
+    if (done && (no = seek_save_file(SEEK_WORKSHOP, &own, argv[1])) != 0)
         done = refused(argv[1], no);
     if (done)
         printf("%llu checkpoints%s\n", (unsigned long long)seek_checkpoint_count(&own), seek_is_complete(&own) ? ", to the end of the area" : "");

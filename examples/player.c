@@ -60,7 +60,7 @@ static uint8_t *open_list(seek_list *list, const char *name)
         fprintf(stderr, "%s: no memory\n", name);
     } else {
         seek_carve(list, &sizes, memory, seek_total(&sizes));
-        if ((no = seek_load(list, &area, file, length, UINT64_MAX)) != 0) {
+        if ((no = seek_load(SEEK_WORKSHOP, list, &area, file, length, UINT64_MAX)) != 0) {
             refused(name, no);
             free(memory);
             memory = NULL;
@@ -98,7 +98,7 @@ static int save(const seek_list *list, const char *name)
     out = (uint8_t *)calloc(1, (size_t)length);
     if (!out)
         return 0;
-    length = seek_save(list, out, (size_t)length);
+    length = seek_save(SEEK_WORKSHOP, list, out, (size_t)length);
     done = length < 88 ? refused("save", length) : write_file(name, out, (size_t)length);
     free(out);
     return done;
@@ -162,7 +162,7 @@ int main(int argc, char **argv)
     if (first)
         second = open_list(&other, argv[2]);
     if (first && second) {
-        no = seek_merge(&own, &other);
+        no = seek_merge(SEEK_WORKSHOP, &own, &other);
         seek_area_of(&own, &area);
         if (no)
             refused("merge", no);

@@ -63,7 +63,7 @@ static int save(const seek_list *l, const char *name)
     uint64_t length = seek_saved_length(l);
     uint8_t *out = length < 88 ? NULL : (uint8_t *)calloc(1, (size_t)length);
     FILE *file = out ? fopen(name, "wb") : NULL;
-    int done = file && seek_save(l, out, (size_t)length) == length && fwrite(out, 1, (size_t)length, file) == length;
+    int done = file && seek_save(SEEK_WORKSHOP, l, out, (size_t)length) == length && fwrite(out, 1, (size_t)length, file) == length;
     if (file && fclose(file) != 0)
         done = 0;
     free(out);

@@ -66,8 +66,8 @@ extern "C" {
 /* ---- version
  * 10,000 times the first number of the header's version, plus 100 times the second, plus the third. seek_version tells the library's own.
  */
-#define SEEK_VERSION 10100
-#define SEEK_VERSION_TEXT "1.1.0"
+#define SEEK_VERSION 20000
+#define SEEK_VERSION_TEXT "2.0.0"
 
 /* ---- blocks
  * The numbers of a list, a recorder or a hint recorder, and the answers of some calls, lie in blocks of 192 bytes: 24 words of eight bytes,
@@ -89,7 +89,7 @@ static inline uint64_t seek_word(const uint8_t *block, unsigned i) { return seek
 
 /* ---- refusal numbers
  * They are called SEEK_NO_.., for SEEK_SET, SEEK_CUR, SEEK_END and the like belong to <stdio.h>. The names without NO_ of version 1.0 are there where
- * SEEK_OLD_NAMES is defined; version 1.2 drops them.
+ * SEEK_OLD_NAMES is defined; version 2.1 drops them.
  */
 enum {
     SEEK_OK = 0,
@@ -138,6 +138,7 @@ enum {
     SEEK_NO_FOLD = 49,               /* the bits that a sum is folded to */
     SEEK_NO_SHELF_LIST = 50,         /* the new list alone exceeds the shelf's limit */
     SEEK_NO_SHELF_COUNT = 51,        /* the shelf's count is at its largest */
+    SEEK_NO_ROLE = 52,               /* the role is neither of the two, or a listener's at a workshop operation */
     SEEK_NO_KEEP = 53,               /* no hint has this sector, or a quarter of the hint limit is kept already */
     SEEK_NO_DISC = 54
 };
@@ -236,6 +237,7 @@ static inline const char *seek_text(uint32_t number)
     case SEEK_NO_FOLD: return "k is not between half the width and the width less one";
     case SEEK_NO_SHELF_LIST: return "the new list alone exceeds the shelf's limit";
     case SEEK_NO_SHELF_COUNT: return "the shelf's count is at its largest";
+    case SEEK_NO_ROLE: return "the role is neither listener nor workshop, or a listener asks for what is the workshop's";
     case SEEK_NO_KEEP: return "no hint has this sector, or it is not kept and a quarter of the hint limit is kept already";
     case SEEK_NO_DISC: return "the disc file's contents table breaks its rules, or two lists share a slot, or one is too long";
     default: return "no such number";
@@ -246,6 +248,12 @@ static inline const char *seek_text(uint32_t number)
  * file, and refusal numbers are below. */
 #define SEEK_SHORTEST 88
 static inline int seek_refused(uint64_t answer) { return answer < SEEK_SHORTEST; }
+
+/* ---- roles
+ * Saving, loading and merging are the workshop's: they take a role, and refuse a listener's with SEEK_NO_ROLE before they ask anything else. Nothing else takes
+ * one but the views.
+ */
+enum { SEEK_LISTENER = 1, SEEK_WORKSHOP = 2 };
 
 /* ---- areas */
 typedef struct {
@@ -369,12 +377,12 @@ uint32_t seek_raw_sizes(SEEK_AREA_NUMBERS, uint32_t interval, uint64_t budget, u
 uint32_t seek_raw_file_area(SEEK_IN(file), SEEK_OUT(answer));
 uint32_t seek_raw_file_sizes(SEEK_AREA_NUMBERS, SEEK_IN(file), uint64_t limit, SEEK_OUT(answer));
 uint32_t seek_raw_new(SEEK_OUT(head), SEEK_AREA_NUMBERS, uint32_t interval, uint64_t budget, uint32_t spacing, uint32_t hint_limit, SEEK_TABLES_IN);
-uint32_t seek_raw_load(SEEK_OUT(head), SEEK_AREA_NUMBERS, SEEK_IN(file), uint64_t limit, SEEK_TABLES_OUT);
+uint32_t seek_raw_load(uint32_t role, SEEK_OUT(head), SEEK_AREA_NUMBERS, SEEK_IN(file), uint64_t limit, SEEK_TABLES_OUT);
 uint64_t seek_raw_saved_length(SEEK_IN(head), SEEK_TABLES_IN);
-uint64_t seek_raw_save(SEEK_IN(head), SEEK_TABLES_IN, SEEK_OUT(out));
+uint64_t seek_raw_save(uint32_t role, SEEK_IN(head), SEEK_TABLES_IN, SEEK_OUT(out));
 uint32_t seek_raw_plan(SEEK_IN(head), uint32_t frame, SEEK_OUT(answer), SEEK_TABLES_IN);
 uint32_t seek_raw_fingerprint(SEEK_OUT(head), uint64_t value, SEEK_TABLES_IN);
-uint32_t seek_raw_merge(SEEK_OUT(head), SEEK_IN(other), SEEK_TABLES_OUT, SEEK_TABLES_IN2);
+uint32_t seek_raw_merge(uint32_t role, SEEK_OUT(head), SEEK_IN(other), SEEK_TABLES_OUT, SEEK_TABLES_IN2);
 uint32_t seek_raw_adds(SEEK_IN(head), SEEK_IN(other), SEEK_OUT(answer), SEEK_TABLES_IN, SEEK_TABLES_IN2);
 uint32_t seek_raw_add_hints(SEEK_OUT(head), SEEK_IN(list), SEEK_IN(checkpoints), SEEK_IN(frames), SEEK_IN(store), SEEK_IN(parts), SEEK_IN(malformed),
                             SEEK_OUT(hints), SEEK_IN(confirmed));
@@ -396,12 +404,12 @@ uint32_t seek_raw_keep_confirmation(SEEK_OUT(head), uint64_t lsn, uint32_t thres
 uint32_t seek_raw_hint(SEEK_IN(head), uint32_t first, uint32_t end, uint32_t playtime, SEEK_OUT(answer), SEEK_TABLES_IN);
 uint32_t seek_raw_disc_contents(SEEK_IN(file), SEEK_OUT(answer));
 uint32_t seek_raw_disc_sizes(SEEK_AREA_NUMBERS, SEEK_AREA_NUMBERS2, SEEK_IN(file), uint64_t limit, SEEK_OUT(answer));
-uint32_t seek_raw_disc_load(SEEK_OUT(head), SEEK_OUT(other), SEEK_AREA_NUMBERS, SEEK_AREA_NUMBERS2, SEEK_IN(file), uint64_t limit, SEEK_OUT(answer),
+uint32_t seek_raw_disc_load(uint32_t role, SEEK_OUT(head), SEEK_OUT(other), SEEK_AREA_NUMBERS, SEEK_AREA_NUMBERS2, SEEK_IN(file), uint64_t limit, SEEK_OUT(answer),
                             SEEK_TABLES_OUT, SEEK_TABLES_OUT2);
 uint64_t seek_raw_disc_saved_length(SEEK_IN(head), SEEK_TABLES_IN);
 uint64_t seek_raw_disc_saved_length_both(SEEK_IN(head), SEEK_IN(other), SEEK_TABLES_IN, SEEK_TABLES_IN2);
-uint64_t seek_raw_disc_save(SEEK_IN(head), SEEK_TABLES_IN, SEEK_OUT(out));
-uint64_t seek_raw_disc_save_both(SEEK_IN(head), SEEK_IN(other), SEEK_TABLES_IN, SEEK_TABLES_IN2, SEEK_OUT(out));
+uint64_t seek_raw_disc_save(uint32_t role, SEEK_IN(head), SEEK_TABLES_IN, SEEK_OUT(out));
+uint64_t seek_raw_disc_save_both(uint32_t role, SEEK_IN(head), SEEK_IN(other), SEEK_TABLES_IN, SEEK_TABLES_IN2, SEEK_OUT(out));
 uint32_t seek_raw_sum32(SEEK_IN(bytes));
 uint32_t seek_raw_fold32(uint32_t sum, uint32_t k, SEEK_OUT(answer));
 uint32_t seek_raw_fold64(uint64_t sum, uint32_t k, SEEK_OUT(answer));
@@ -702,9 +710,9 @@ static inline uint32_t seek_new(seek_list *l, const seek_area *a, uint32_t inter
 }
 
 /* The list of a file, loaded under an area with a limit in bytes for frame bytes, hints and confirmations (UINT64_MAX: all of it). */
-static inline uint32_t seek_load(seek_list *l, const seek_area *a, const uint8_t *file, size_t length, uint64_t limit)
+static inline uint32_t seek_load(uint32_t role, seek_list *l, const seek_area *a, const uint8_t *file, size_t length, uint64_t limit)
 {
-    return seek_raw_load(l->head, SEEK_BLOCK, SEEK_AREA_(a), file, length, limit, SEEK_LENT_SEVEN_(l));
+    return seek_raw_load(role, l->head, SEEK_BLOCK, SEEK_AREA_(a), file, length, limit, SEEK_LENT_SEVEN_(l));
 }
 
 /* The length that seek_save will write: at least 88; below 88 a refusal number. */
@@ -714,16 +722,16 @@ static inline uint64_t seek_saved_length(const seek_list *l)
 }
 
 /* Writes the list file into out. Answers its length, at least 88; below 88 a refusal number. */
-static inline uint64_t seek_save(const seek_list *l, uint8_t *out, size_t length)
+static inline uint64_t seek_save(uint32_t role, const seek_list *l, uint8_t *out, size_t length)
 {
-    return seek_raw_save(l->head, SEEK_BLOCK, SEEK_LENT_SEVEN_(l), out, length);
+    return seek_raw_save(role, l->head, SEEK_BLOCK, SEEK_LENT_SEVEN_(l), out, length);
 }
 
 /* Merges the other list, which is only read, into l. A sector of which both have a hint then has the other list's frame number: merge the newer list into the
  * older one. The own hints that are kept stay kept, and no other becomes so. */
-static inline uint32_t seek_merge(seek_list *l, const seek_list *other)
+static inline uint32_t seek_merge(uint32_t role, seek_list *l, const seek_list *other)
 {
-    return seek_raw_merge(l->head, SEEK_BLOCK, other->head, SEEK_BLOCK, SEEK_LENT_SEVEN_(l), SEEK_LENT_SEVEN_(other));
+    return seek_raw_merge(role, l->head, SEEK_BLOCK, other->head, SEEK_BLOCK, SEEK_LENT_SEVEN_(l), SEEK_LENT_SEVEN_(other));
 }
 
 /* What merging the other list would change in l. A hint of l whose number the other list has otherwise is a change: of two such lists each brings hints to
@@ -1008,13 +1016,13 @@ static inline uint32_t seek_disc_sizes(const seek_area *a0, const seek_area *a1,
 
 /* The lists of a disc file, loaded under the areas of slots 0 and 1 with a limit as seek_load's: all of them, or none. present tells which are there; a list
  * that is not there stays as it was. */
-static inline uint32_t seek_disc_load(seek_list *l0, seek_list *l1, const seek_area *a0, const seek_area *a1, const uint8_t *file, size_t length,
+static inline uint32_t seek_disc_load(uint32_t role, seek_list *l0, seek_list *l1, const seek_area *a0, const seek_area *a1, const uint8_t *file, size_t length,
                                       uint64_t limit, int present[2])
 {
     uint8_t answer[SEEK_BLOCK] = {0};
     seek_area b0 = seek_area_of_slot_(a0, 0), b1 = seek_area_of_slot_(a1, 1);
     seek_list none0 = SEEK_ABSENT, none1 = SEEK_ABSENT, *m0 = l0 ? l0 : &none0, *m1 = l1 ? l1 : &none1;
-    uint32_t n = seek_raw_disc_load(m0->head, SEEK_BLOCK, m1->head, SEEK_BLOCK, SEEK_AREA_(&b0), SEEK_AREA_(&b1), file, length, limit, answer, SEEK_BLOCK,
+    uint32_t n = seek_raw_disc_load(role, m0->head, SEEK_BLOCK, m1->head, SEEK_BLOCK, SEEK_AREA_(&b0), SEEK_AREA_(&b1), file, length, limit, answer, SEEK_BLOCK,
                                     SEEK_LENT_SEVEN_(m0), SEEK_LENT_SEVEN_(m1));
     present[0] = seek_word(answer, 0) != 0;
     present[1] = seek_word(answer, 1) != 0;
@@ -1031,11 +1039,11 @@ static inline uint64_t seek_disc_saved_length(const seek_list *l, const seek_lis
 
 /* Writes the disc file of l and the other list, or of l alone where other is NULL, into out. Which list is given first makes no difference.
  * Answers its length, at least 104; below 88 a refusal number. */
-static inline uint64_t seek_disc_save(const seek_list *l, const seek_list *other, uint8_t *out, size_t length)
+static inline uint64_t seek_disc_save(uint32_t role, const seek_list *l, const seek_list *other, uint8_t *out, size_t length)
 {
     if (other == SEEK_NULL_)
-        return seek_raw_disc_save(l->head, SEEK_BLOCK, SEEK_LENT_SEVEN_(l), out, length);
-    return seek_raw_disc_save_both(l->head, SEEK_BLOCK, other->head, SEEK_BLOCK, SEEK_LENT_SEVEN_(l), SEEK_LENT_SEVEN_(other), out, length);
+        return seek_raw_disc_save(role, l->head, SEEK_BLOCK, SEEK_LENT_SEVEN_(l), out, length);
+    return seek_raw_disc_save_both(role, l->head, SEEK_BLOCK, other->head, SEEK_BLOCK, SEEK_LENT_SEVEN_(l), SEEK_LENT_SEVEN_(other), out, length);
 }
 
 /* ---- sectors and bytes */
@@ -1129,7 +1137,7 @@ static inline uint32_t seek_coarse(const seek_list *fine, uint32_t interval, see
 }
 
 /* ---- all lists of a drawer together */
-uint32_t seek_raw_merge_all(SEEK_OUT(head), SEEK_IN(lengths), SEEK_IN(files), uint64_t limit, SEEK_TABLES_OUT, SEEK_TABLES_OUT2);
+uint32_t seek_raw_merge_all(uint32_t role, SEEK_OUT(head), SEEK_IN(lengths), SEEK_IN(files), uint64_t limit, SEEK_TABLES_OUT, SEEK_TABLES_OUT2);
 
 /* The most files of a set. */
 #define SEEK_MOST_FILES 16
@@ -1170,15 +1178,174 @@ static inline uint32_t seek_set_sizes(const seek_area *a, const uint8_t *files, 
  * refusal too, and work is no list. Answers 0; 1 to 4 of l; SEEK_NO_SET; then for the first file that is refused 20 where it runs past the buffer, else 20 to
  * 38, or 3 where work has no room for it; then 41 to 43 for the first two lists that cannot be merged, by the earlier, then the later one, where l comes
  * before all files. Which file it was seek_file_sizes of each tells, and which two lists seek_lacks of each pair. A refusal changes nothing of l. */
-static inline uint32_t seek_merge_all(seek_list *l, const uint8_t *files, size_t files_length, const uint64_t *lengths, size_t count, uint64_t limit,
+static inline uint32_t seek_merge_all(uint32_t role, seek_list *l, const uint8_t *files, size_t files_length, const uint64_t *lengths, size_t count, uint64_t limit,
                                       seek_list *work)
 {
     uint8_t numbers[8 * (SEEK_MOST_FILES + 1)] = {0};
     size_t n = count <= SEEK_MOST_FILES ? count : SEEK_MOST_FILES + 1, i;
+    uint32_t answer;
     for (i = 0; i < 8 * n; i++)
         numbers[i] = SEEK_CAST_(uint8_t, lengths[i / 8] >> 8 * (i % 8) & 255);
-    seek_clear_(work->head);
-    return seek_raw_merge_all(l->head, SEEK_BLOCK, numbers, 8 * n, files, files_length, limit, SEEK_LENT_SEVEN_(l), SEEK_LENT_SEVEN_(work));
+    answer = seek_raw_merge_all(role, l->head, SEEK_BLOCK, numbers, 8 * n, files, files_length, limit, SEEK_LENT_SEVEN_(l), SEEK_LENT_SEVEN_(work));
+    if (answer != SEEK_NO_ROLE)
+        seek_clear_(work->head);
+    return answer;
+}
+
+/* ---- views (docs/VIEW.md)
+ * What a screen shows of a list, as bytes. A listener's view has the area, the interval, whether the list is complete, and each checkpoint's sector and
+ * threshold; a workshop's has more. seek_view writes one; what follows below reads one from its bytes alone, so that a program which only shows views needs no
+ * list and no library.
+ */
+uint64_t seek_raw_view_length(uint32_t role, SEEK_IN(head), SEEK_TABLES_IN);
+uint64_t seek_raw_view(uint32_t role, SEEK_IN(head), SEEK_TABLES_IN, SEEK_OUT(out));
+
+/* How many bytes the view has, at least 88; or, below 88, SEEK_NO_ROLE or 1 to 4. */
+static inline uint64_t seek_view_length(uint32_t role, const seek_list *l) { return seek_raw_view_length(role, l->head, SEEK_BLOCK, SEEK_LENT_SEVEN_(l)); }
+
+/* Writes the view at the start of out and answers its length; or, below 88, SEEK_NO_ROLE, 1 to 4, or SEEK_NO_OUTPUT where out is too short. */
+static inline uint64_t seek_view(uint32_t role, const seek_list *l, uint8_t *out, uint64_t length)
+{
+    return seek_raw_view(role, l->head, SEEK_BLOCK, SEEK_LENT_SEVEN_(l), out, length);
+}
+
+/* The bytes of a view and where its sections begin. They are only lent: they must stay as they are while it is read. */
+typedef struct {
+    const uint8_t *bytes;
+    uint32_t role;
+    uint64_t checkpoints, malformed, parts, hints, confirmations; /* how many of each; a listener's view has checkpoints alone */
+} seek_viewed;
+
+/* Takes n records of so many bytes from what is left; 0 where there are not so many. */
+static inline int seek_view_takes_(uint64_t *left, uint64_t n, uint64_t size)
+{
+    if (n > *left / size)
+        return 0;
+    *left -= n * size;
+    return 1;
+}
+
+/* Reads these bytes as a view. Answers 0, and v has no records, where they are none: another role, or another length than the counts give. */
+static inline int seek_view_read(seek_viewed *v, const uint8_t *bytes, uint64_t length)
+{
+    uint64_t left = length, role = length < 88 ? 0 : seek_word(bytes, 0), n = length < 88 ? 0 : seek_word(bytes, 10);
+    const seek_viewed none = {SEEK_NULL_, 0, 0, 0, 0, 0, 0};
+    const uint8_t *totals;
+    int whole = (role == SEEK_LISTENER || role == SEEK_WORKSHOP) && seek_view_takes_(&left, 11, 8) && seek_view_takes_(&left, n, 8);
+    *v = none;
+    if (whole && role == SEEK_WORKSHOP && left < 48)
+        whole = 0;
+    if (whole) {
+        v->bytes = bytes;
+        v->role = SEEK_CAST_(uint32_t, role);
+        v->checkpoints = n;
+    }
+    if (whole && role == SEEK_WORKSHOP) {
+        totals = bytes + 88 + 8 * n;
+        v->malformed = seek_word(totals, 0);
+        v->parts = seek_word(totals, 1);
+        v->hints = seek_word(totals, 2);
+        v->confirmations = seek_word(totals, 5);
+        whole = seek_view_takes_(&left, 6, 8) && seek_view_takes_(&left, n, 12) && seek_view_takes_(&left, v->malformed, 4) &&
+                seek_view_takes_(&left, v->parts, 8) && seek_view_takes_(&left, v->hints, 9) && seek_view_takes_(&left, v->confirmations, 16);
+    }
+    whole = whole && left == 0;
+    if (!whole)
+        *v = none;
+    return whole;
+}
+
+/* The fields of both views. Of bytes that are no view they are 0. */
+static inline uint64_t seek_view_word_(const seek_viewed *v, unsigned i) { return v->bytes ? seek_word(v->bytes, i) : 0; }
+static inline seek_area seek_view_area(const seek_viewed *v)
+{
+    seek_area a;
+    a.slot = SEEK_CAST_(uint8_t, seek_view_word_(v, 1));
+    a.channels = SEEK_CAST_(uint8_t, seek_view_word_(v, 2));
+    a.key_start = SEEK_CAST_(uint32_t, seek_view_word_(v, 3));
+    a.key_end = SEEK_CAST_(uint32_t, seek_view_word_(v, 4));
+    a.sectors = seek_view_word_(v, 5);
+    a.start = seek_view_word_(v, 6);
+    a.end = seek_view_word_(v, 7);
+    return a;
+}
+static inline uint64_t seek_view_interval(const seek_viewed *v) { return seek_view_word_(v, 8); }
+static inline int seek_view_is_complete(const seek_viewed *v) { return seek_view_word_(v, 9) == 1; }
+
+/* Record number i of n, of so many bytes, in the section that begins at byte at; NULL where there is none. */
+static inline const uint8_t *seek_view_record_(const seek_viewed *v, uint64_t at, uint64_t n, uint64_t i, uint64_t size)
+{
+    return v->bytes && i < n ? v->bytes + at + i * size : SEEK_NULL_;
+}
+
+/* Where the sections of a workshop's view begin, behind its six words. */
+static inline uint64_t seek_view_backs_(const seek_viewed *v) { return 88 + 8 * v->checkpoints + 48; }
+static inline uint64_t seek_view_malformed_(const seek_viewed *v) { return seek_view_backs_(v) + 12 * v->checkpoints; }
+static inline uint64_t seek_view_parts_(const seek_viewed *v) { return seek_view_malformed_(v) + 4 * v->malformed; }
+static inline uint64_t seek_view_hints_(const seek_viewed *v) { return seek_view_parts_(v) + 8 * v->parts; }
+static inline uint64_t seek_view_marks_(const seek_viewed *v) { return seek_view_hints_(v) + 8 * v->hints; }
+static inline uint64_t seek_view_confirmed_(const seek_viewed *v) { return seek_view_marks_(v) + v->hints; }
+
+/* Checkpoint number j: its sector and threshold. This and the functions below answer 0, and give 0, where there is no such record. */
+static inline int seek_view_checkpoint_at(const seek_viewed *v, uint64_t j, uint32_t *lsn, uint32_t *threshold)
+{
+    const uint8_t *b = seek_view_record_(v, 88, v->checkpoints, j, 8);
+    *lsn = b ? SEEK_CAST_(uint32_t, seek_bytes(b, 4)) : 0;
+    *threshold = b ? SEEK_CAST_(uint32_t, seek_bytes(b + 4, 4)) : 0;
+    return b != SEEK_NULL_;
+}
+
+/* What follows is in a workshop's view alone. Checkpoint number j: how far back its frame starts, and its digest. */
+static inline int seek_view_back_at(const seek_viewed *v, uint64_t j, uint32_t *back, uint64_t *digest)
+{
+    const uint8_t *b = seek_view_record_(v, seek_view_backs_(v), v->role == SEEK_WORKSHOP ? v->checkpoints : 0, j, 12);
+    *back = b ? SEEK_CAST_(uint32_t, seek_bytes(b, 4)) : 0;
+    *digest = b ? seek_bytes(b + 4, 8) : 0;
+    return b != SEEK_NULL_;
+}
+
+static inline int seek_view_malformed_at(const seek_viewed *v, uint64_t i, uint32_t *lsn)
+{
+    const uint8_t *b = seek_view_record_(v, seek_view_malformed_(v), v->malformed, i, 4);
+    *lsn = b ? SEEK_CAST_(uint32_t, seek_bytes(b, 4)) : 0;
+    return b != SEEK_NULL_;
+}
+
+/* Held part number i: the number of its checkpoint, and its length in bytes. */
+static inline int seek_view_held_at(const seek_viewed *v, uint64_t i, uint32_t *checkpoint, uint32_t *length)
+{
+    const uint8_t *b = seek_view_record_(v, seek_view_parts_(v), v->parts, i, 8);
+    *checkpoint = b ? SEEK_CAST_(uint32_t, seek_bytes(b, 4)) : 0;
+    *length = b ? SEEK_CAST_(uint32_t, seek_bytes(b + 4, 4)) : 0;
+    return b != SEEK_NULL_;
+}
+
+/* Hint number i, and whether it is kept. */
+static inline int seek_view_hint_at(const seek_viewed *v, uint64_t i, uint32_t *lsn, uint32_t *number, int *kept)
+{
+    const uint8_t *b = seek_view_record_(v, seek_view_hints_(v), v->hints, i, 8);
+    const uint8_t *m = seek_view_record_(v, seek_view_marks_(v), v->hints, i, 1);
+    *lsn = b ? SEEK_CAST_(uint32_t, seek_bytes(b, 4)) : 0;
+    *number = b ? SEEK_CAST_(uint32_t, seek_bytes(b + 4, 4)) : 0;
+    *kept = m ? *m == 1 : 0;
+    return b != SEEK_NULL_;
+}
+
+/* The fingerprint; answers 0 where the list has none. */
+static inline int seek_view_fingerprint(const seek_viewed *v, uint64_t *fingerprint)
+{
+    const uint8_t *totals = v->role == SEEK_WORKSHOP ? v->bytes + 88 + 8 * v->checkpoints : SEEK_NULL_;
+    *fingerprint = totals ? seek_word(totals, 4) : 0;
+    return totals ? seek_word(totals, 3) == 1 : 0;
+}
+
+static inline int seek_view_confirmation_at(const seek_viewed *v, uint64_t i, seek_confirmation *c)
+{
+    const uint8_t *b = seek_view_record_(v, seek_view_confirmed_(v), v->confirmations, i, 16);
+    c->lsn = b ? SEEK_CAST_(uint32_t, seek_bytes(b, 4)) : 0;
+    c->threshold = b ? SEEK_CAST_(uint32_t, seek_bytes(b + 4, 4)) : 0;
+    c->digest = b ? seek_bytes(b + 8, 8) : 0;
+    return b != SEEK_NULL_;
 }
 
 /* ---- one shelf for many discs

@@ -2,7 +2,8 @@
  *
  * seek_open reads a list file, asks what memory its list takes, allocates it and loads; seek_saved saves a list into a new block. What these functions
  * allocate, the caller gives back: a list by seek_close, a recorder by seek_close_recorder, a hint recorder by seek_close_hint_recorder, bytes by free.
- * They answer 0, a refusal number of the library, or one of the three numbers below, and leave nothing allocated where they refuse.
+ * Those that load or save take a role, as seek_load and seek_save do. They answer 0, a refusal number of the library, or one of the three numbers below, and leave
+ * nothing allocated where they refuse.
  */
 #ifndef SEEK_FILE_H
 #define SEEK_FILE_H
@@ -109,39 +110,48 @@ static inline uint32_t seek_allocate_(seek_list *l, const seek_table_sizes *s)
     return 0;
 }
 
+/* SEEK_NO_ROLE where the role may not load or save, else 0: as in the library it is asked before anything else. */
+static inline uint32_t seek_asked_role_(uint32_t role)
+{
+    const seek_list none = SEEK_ABSENT;
+    return seek_save(role, &none, SEEK_NULL_, 0) == SEEK_NO_ROLE ? SEEK_NUMBER_(SEEK_NO_ROLE) : 0;
+}
+
 /* The list of a file's bytes, under an area (NULL: the one that the file says it is of), with a limit as seek_load's. */
-static inline uint32_t seek_open_bytes(const uint8_t *file, size_t length, const seek_area *area, uint64_t limit, seek_list *l)
+static inline uint32_t seek_open_bytes(uint32_t role, const uint8_t *file, size_t length, const seek_area *area, uint64_t limit, seek_list *l)
 {
     const seek_list none = SEEK_ABSENT;
     seek_area told;
     seek_table_sizes s;
-    uint32_t no = 0;
+    uint32_t no = seek_asked_role_(role);
     *l = none;
     if (area)
         told = *area;
-    else
+    else if (no == 0)
         no = seek_file_area(file, length, &told);
     if (no == 0)
         no = seek_file_sizes(&told, file, length, limit, &s);
     if (no == 0)
         no = seek_allocate_(l, &s);
     if (no == 0)
-        no = seek_load(l, &told, file, length, limit);
+        no = seek_load(role, l, &told, file, length, limit);
     if (no)
         seek_close(l);
     return no;
 }
 
 /* The list of a file. */
-static inline uint32_t seek_open(const char *name, const seek_area *area, uint64_t limit, seek_list *l)
+static inline uint32_t seek_open(uint32_t role, const char *name, const seek_area *area, uint64_t limit, seek_list *l)
 {
     const seek_list none = SEEK_ABSENT;
-    uint8_t *file;
-    size_t length;
-    uint32_t no = seek_read_file(name, &file, &length);
+    uint8_t *file = SEEK_NULL_;
+    size_t length = 0;
+    uint32_t no = seek_asked_role_(role);
     *l = none;
     if (no == 0)
-        no = seek_open_bytes(file, length, area, limit, l);
+        no = seek_read_file(name, &file, &length);
+    if (no == 0)
+        no = seek_open_bytes(role, file, length, area, limit, l);
     free(file);
     return no;
 }
@@ -163,9 +173,11 @@ static inline uint32_t seek_begin(const seek_area *area, uint32_t interval, uint
 }
 
 /* The list file of a list, in a new block, and its length. */
-static inline uint32_t seek_saved(const seek_list *l, uint8_t **bytes, size_t *length)
+static inline uint32_t seek_saved(uint32_t role, const seek_list *l, uint8_t **bytes, size_t *length)
 {
-    uint64_t n = seek_saved_length(l);
+    uint64_t n = seek_asked_role_(role);
+    if (n == 0)
+        n = seek_saved_length(l);
     *bytes = SEEK_NULL_;
     *length = 0;
     if (seek_refused(n))
@@ -174,7 +186,7 @@ static inline uint32_t seek_saved(const seek_list *l, uint8_t **bytes, size_t *l
     if (*bytes == SEEK_NULL_)
         return SEEK_NO_MEMORY;
     *length = SEEK_LENGTH_(n);
-    n = seek_save(l, *bytes, *length);
+    n = seek_save(role, l, *bytes, *length);
     if (!seek_refused(n))
         return 0;
     free(*bytes);
@@ -184,11 +196,11 @@ static inline uint32_t seek_saved(const seek_list *l, uint8_t **bytes, size_t *l
 }
 
 /* Saves a list over a file. */
-static inline uint32_t seek_save_file(const seek_list *l, const char *name)
+static inline uint32_t seek_save_file(uint32_t role, const seek_list *l, const char *name)
 {
     uint8_t *bytes;
     size_t length;
-    uint32_t no = seek_saved(l, &bytes, &length);
+    uint32_t no = seek_saved(role, l, &bytes, &length);
     if (no == 0)
         no = seek_write_file(name, bytes, length);
     free(bytes);

@@ -22,6 +22,7 @@ mod sectors;
 mod shelf;
 mod sums;
 mod tables;
+mod views;
 
 use report::Report;
 use rounds::Effort;
@@ -64,6 +65,7 @@ fn main() {
     merges::rows(&report);
     hints::rows(&report);
     kept::rows(&report);
+    views::rows(&report);
     records::rows(&report);
     report.tail();
 }

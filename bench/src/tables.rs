@@ -96,7 +96,7 @@ impl Tables {
 
     pub fn load(&mut self, a: &Area, file: &[u8]) -> u32 {
         let Area { slot, channels, key_start, key_end, sectors, start, end } = *a;
-        seven!(seek_raw_load(self.head.as_mut_ptr(), BLOCK, slot, channels, key_start, key_end, sectors, start, end, file.as_ptr(), file.len(), u64::MAX)
+        seven!(seek_raw_load(2, self.head.as_mut_ptr(), BLOCK, slot, channels, key_start, key_end, sectors, start, end, file.as_ptr(), file.len(), u64::MAX)
             self.tables, ())
     }
 
@@ -105,7 +105,7 @@ impl Tables {
     }
 
     pub fn save(&mut self, out: &mut [u8]) -> u64 {
-        seven!(seek_raw_save(self.head.as_ptr(), BLOCK) self.tables, (out.as_mut_ptr(), out.len()))
+        seven!(seek_raw_save(2, self.head.as_ptr(), BLOCK) self.tables, (out.as_mut_ptr(), out.len()))
     }
 
     /// The saved file.
@@ -140,7 +140,7 @@ impl Tables {
     }
 
     pub fn merge(&mut self, other: &Tables) -> u32 {
-        fourteen!(seek_raw_merge(self.head.as_mut_ptr(), BLOCK, other.head.as_ptr(), BLOCK) self.tables, &other.tables, as_ptr, ())
+        fourteen!(seek_raw_merge(2, self.head.as_mut_ptr(), BLOCK, other.head.as_ptr(), BLOCK) self.tables, &other.tables, as_ptr, ())
     }
 
     pub fn adds(&mut self, other: &Tables, answer: &mut [u8; BLOCK]) -> u32 {
@@ -158,8 +158,16 @@ impl Tables {
 
     /// The files, end to end in one buffer, through the working tables.
     pub fn merge_all(&mut self, lengths: &[u8], files: &[u8], work: &mut Tables) -> u32 {
-        fourteen!(seek_raw_merge_all(self.head.as_mut_ptr(), BLOCK, lengths.as_ptr(), lengths.len(), files.as_ptr(), files.len(), u64::MAX) self.tables,
+        fourteen!(seek_raw_merge_all(2, self.head.as_mut_ptr(), BLOCK, lengths.as_ptr(), lengths.len(), files.as_ptr(), files.len(), u64::MAX) self.tables,
             &mut work.tables, as_mut_ptr, ())
+    }
+
+    pub fn view_length(&mut self, role: u32) -> u64 {
+        seven!(seek_raw_view_length(role, self.head.as_ptr(), BLOCK) self.tables, ())
+    }
+
+    pub fn view(&mut self, role: u32, out: &mut [u8]) -> u64 {
+        seven!(seek_raw_view(role, self.head.as_ptr(), BLOCK) self.tables, (out.as_mut_ptr(), out.len()))
     }
 
     /// Hints of 8 bytes each.
@@ -196,18 +204,18 @@ impl Tables {
     }
 
     pub fn disc_save(&mut self, out: &mut [u8]) -> u64 {
-        seven!(seek_raw_disc_save(self.head.as_ptr(), BLOCK) self.tables, (out.as_mut_ptr(), out.len()))
+        seven!(seek_raw_disc_save(2, self.head.as_ptr(), BLOCK) self.tables, (out.as_mut_ptr(), out.len()))
     }
 
     pub fn disc_save_both(&mut self, other: &Tables, out: &mut [u8]) -> u64 {
-        fourteen!(seek_raw_disc_save_both(self.head.as_ptr(), BLOCK, other.head.as_ptr(), BLOCK) self.tables, &other.tables, as_ptr,
+        fourteen!(seek_raw_disc_save_both(2, self.head.as_ptr(), BLOCK, other.head.as_ptr(), BLOCK) self.tables, &other.tables, as_ptr,
             (out.as_mut_ptr(), out.len()))
     }
 
     /// A disc file's lists of slots 0 and 1, into these tables and the others.
     pub fn disc_load(&mut self, other: &mut Tables, [a, b]: &[Area; 2], file: &[u8], answer: &mut [u8; BLOCK]) -> u32 {
         fourteen!(seek_raw_disc_load(
-            self.head.as_mut_ptr(), BLOCK, other.head.as_mut_ptr(), BLOCK, a.slot, a.channels, a.key_start, a.key_end, a.sectors, a.start, a.end, b.slot,
+            2, self.head.as_mut_ptr(), BLOCK, other.head.as_mut_ptr(), BLOCK, a.slot, a.channels, a.key_start, a.key_end, a.sectors, a.start, a.end, b.slot,
             b.channels, b.key_start, b.key_end, b.sectors, b.start, b.end, file.as_ptr(), file.len(), u64::MAX, answer.as_mut_ptr(), BLOCK)
             self.tables, &mut other.tables, as_mut_ptr, ())
     }

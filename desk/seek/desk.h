@@ -1,6 +1,6 @@
 /* What the files of the desk's program share. Each answers for itself: text.c words and lines, refuse.c refusals, read.c bytes read, file.c files and their
- * lists, hold.c what a list holds, lack.c what it holds beside another, sort.c many lists sorted, words.c the sentences on them, write.c files written; show.c,
- * check.c, compare.c, merge.c, report.c, coarse.c, pack.c, plan.c and hint.c the commands. */
+ * lists, hold.c what a list holds, lack.c what it holds beside another, sort.c many lists sorted, words.c the sentences on them, write.c files written, page.c HTML
+ * pages; show.c, check.c, compare.c, merge.c, report.c, coarse.c, pack.c, plan.c, hint.c and view.c the commands. */
 #ifndef DESK_H
 #define DESK_H
 
@@ -28,6 +28,8 @@ typedef struct {
     int checked;              /* --checked */
     uint64_t interval;        /* --interval */
     int widened;              /* it was given */
+    uint32_t role;            /* --role; 0 without it */
+    int html;                 /* --html */
     FILE *told;               /* where answers go: standard output, or with -o - standard error */
 } Options;
 extern Options opt;
@@ -203,6 +205,16 @@ int save_list(const List *l, Output *out);
 int save_disc(const List *l, const List *other, Output *out, uint32_t *number);
 void written(const char *out, const List *l, int with_slot);
 
+/* ---- HTML pages */
+enum { LEFT = 20, WIDE = 960 }; /* where a bar begins, and how wide it is */
+extern Text page;
+void escape(const char *s);
+void element(const char *tag, const char *text);
+void paragraph(const char *text);
+void page_head(const char *title);
+void page_key(const char *what, const char *shape, const char *text);
+int write_page(const char *name);
+
 /* ---- commands */
 int show(char **names, int n);
 int check(char **names, int n);
@@ -215,5 +227,6 @@ int unpack(char **names, int n);
 int plan(char **words, int n);
 int frame_of(const char *s, uint32_t *frame);
 int hint(char **words, int n);
+int view(char **names, int n);
 
 #endif

@@ -66,7 +66,7 @@ int load_list(List *l)
         return DONE;
     if (make_tables(l, &sizes) != DONE)
         return USAGE;
-    l->number = seek_load(&l->list, &l->area, l->bytes, l->length, UINT64_MAX);
+    l->number = seek_load(SEEK_WORKSHOP, &l->list, &l->area, l->bytes, l->length, UINT64_MAX);
     return DONE;
 }
 
@@ -118,7 +118,7 @@ int merge_set(List *own, List *const *lists, int n, uint32_t *number)
     work.name = own->name;
     status = make_tables(&work, &sizes);
     if (status == DONE)
-        *number = seek_merge_all(&own->list, files, total, lengths, (size_t)n, UINT64_MAX, &work.list);
+        *number = seek_merge_all(SEEK_WORKSHOP, &own->list, files, total, lengths, (size_t)n, UINT64_MAX, &work.list);
     free(work.memory);
     free(files);
     return status;
@@ -246,7 +246,7 @@ static int load_disc(File *f)
     for (s = 0; s < 2; s++)
         if (f->present[s] && make_tables(&l[s], &sizes[s]) != DONE)
             return USAGE;
-    f->number = seek_disc_load(&l[0].list, &l[1].list, &l[0].area, &l[1].area, f->bytes.at, f->bytes.length, UINT64_MAX, loaded);
+    f->number = seek_disc_load(SEEK_WORKSHOP, &l[0].list, &l[1].list, &l[0].area, &l[1].area, f->bytes.at, f->bytes.length, UINT64_MAX, loaded);
     return DONE;
 }
 

@@ -168,7 +168,7 @@ static void tell_one(List *own, const List *other, int again)
     Beside before = ask_beside(own, other), after;
     seek_lacking l;
     Text t = {0};
-    if (before.number || seek_merge(&own->list, &other->list))
+    if (before.number || seek_merge(SEEK_WORKSHOP, &own->list, &other->list))
         return;
     after = ask_beside(own, other);
     l = taken(&before.more, &after.more);

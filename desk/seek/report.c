@@ -4,33 +4,7 @@
 #include <stdlib.h>
 #include <string.h>
 
-enum { LEFT = 20, WIDE = 960, ROW = 54, BINS = 240 };
-
-static Text page;
-
-/* ---- text in HTML */
-static void escape(const char *s)
-{
-    for (; *s; s++)
-        switch (*s) {
-        case '&': add(&page, "&amp;"); break;
-        case '<': add(&page, "&lt;"); break;
-        case '>': add(&page, "&gt;"); break;
-        case '"': add(&page, "&quot;"); break;
-        case '\'': add(&page, "&#39;"); break;
-        case NO_BREAK: add(&page, " "); break;
-        default: add(&page, "%c", *s);
-        }
-}
-
-static void element(const char *tag, const char *text)
-{
-    add(&page, "<%s>", tag);
-    escape(text);
-    add(&page, "</%s>\n", tag);
-}
-
-static void paragraph(const char *text) { element("p", text); }
+enum { ROW = 54, BINS = 240 };
 
 /* ---- times */
 /* The frame at a sector: between the thresholds of the checkpoints around it. */
@@ -223,36 +197,15 @@ static void table_of(const Drawer *d, int group)
 }
 
 /* ---- the page */
-static const char *const head =
-    "<!DOCTYPE html>\n<html lang=\"en\">\n<head>\n<meta charset=\"utf-8\">\n<meta name=\"viewport\" content=\"width=device-width\">\n"
-    "<title>Seek lists</title>\n<style>\n"
-    "body { font: 15px/1.45 sans-serif; color: #222; max-width: 1040px; margin: 1.5em auto; padding: 0 1em }\n"
-    "h1 { font-size: 1.5em } h2 { font-size: 1.05em; margin: 2.2em 0 .4em } p, li { margin: .3em 0; overflow-wrap: anywhere }\n"
-    "svg { display: block; width: 100%; height: auto } svg text { font: 13px sans-serif; fill: #222 } svg .small { fill: #666 }\n"
-    "svg .time { font-size: 12px; fill: #555; text-anchor: middle }\n"
-    ".area { fill: #f0f0ee; stroke: #bbb } .read { fill: #8fbf9f } .part { fill: #24508f } .hint { fill: #b3640c } .bad { fill: #c0162c }\n"
-    ".end { fill: #222 }\n"
-    ".axis { stroke: #888; fill: none } .key svg { display: inline; width: 14px; height: 14px; vertical-align: -2px }\n"
-    ".key span { margin-right: 1.2em; white-space: nowrap } table { border-collapse: collapse; margin: .6em 0; font-size: .93em }\n"
-    "th, td { text-align: left; padding: .15em .9em .15em 0; border-bottom: 1px solid #ddd; vertical-align: top; overflow-wrap: anywhere }\n"
-    "th { font-weight: normal; color: #555 } td.n { text-align: right; white-space: nowrap }\n"
-    "@media print { body { margin: 0; max-width: none } section { break-inside: avoid } * { print-color-adjust: exact; -webkit-print-color-adjust: exact } }\n"
-    "</style>\n</head>\n<body>\n<h1>Seek lists</h1>\n";
-
-static void key(const char *what, const char *shape, const char *text)
-{
-    add(&page, "<span><svg viewBox=\"0 0 14 14\"><path class=\"%s\" d=\"%s\"/></svg> %s</span>\n", what, shape, text);
-}
-
 static void legend(void)
 {
     add(&page, "<p class=\"key\">");
-    key("read", "M0 0h14v14h-14z", "was read");
-    key("area", "M0 0h14v14h-14z", "was not read");
-    key("part", "M5 0h4v14h-4z", "held part");
-    key("hint", "M0 4h14v6h-14z", "hints, the darker the more");
-    key("bad", "M7 12l-6 -9h12z", "malformed sector");
-    key("end", "M5 0h4v14h-4z", "end of the area");
+    page_key("read", "M0 0h14v14h-14z", "was read");
+    page_key("area", "M0 0h14v14h-14z", "was not read");
+    page_key("part", "M5 0h4v14h-4z", "held part");
+    page_key("hint", "M0 4h14v6h-14z", "hints, the darker the more");
+    page_key("bad", "M7 12l-6 -9h12z", "malformed sector");
+    page_key("end", "M5 0h4v14h-4z", "end of the area");
     add(&page, "</p>\n");
 }
 
@@ -321,12 +274,11 @@ static void others_of(const File *f, int n)
         add(&page, "</ul>\n</section>\n");
 }
 
-static int write_page(const Drawer *d, const File *f, int n)
+static int report_page(const Drawer *d, const File *f, int n)
 {
-    Output out = {NULL, NULL, 0};
     Text t = {0};
     int s;
-    add(&page, "%s", head);
+    page_head("Seek lists");
     summary(&t, d);
     paragraph(text_of(&t));
     free_text(&t);
@@ -335,11 +287,7 @@ static int write_page(const Drawer *d, const File *f, int n)
         if (files_of(d, s) > 0)
             section_of(d, f, s);
     others_of(f, n);
-    add(&page, "</body>\n</html>\n");
-    out.name = opt.out;
-    out.bytes = (uint8_t *)page.at;
-    out.length = page.length;
-    return write_files(&out, 1);
+    return write_page(opt.out);
 }
 
 static void told_page(int n)
@@ -365,7 +313,7 @@ int report(char **names, int n)
     if (done == DONE)
         done = may_write(opt.out, f, n, "this file is one of those to report on");
     if (done == DONE)
-        done = write_page(&d, f, n);
+        done = report_page(&d, f, n);
     if (done != DONE)
         complain("nothing was written");
     else

@@ -278,7 +278,7 @@ int save_list(const List *l, Output *out)
         return refused(out->name, (uint32_t)n);
     if (make_bytes(out, n) != DONE)
         return USAGE;
-    n = seek_save(&l->list, out->bytes, (size_t)n);
+    n = seek_save(SEEK_WORKSHOP, &l->list, out->bytes, (size_t)n);
     out->length = (size_t)n;
     return n < 88 ? refused(out->name, (uint32_t)n) : DONE;
 }
@@ -293,7 +293,7 @@ int save_disc(const List *l, const List *other, Output *out, uint32_t *number)
         return REFUSED;
     if (make_bytes(out, n) != DONE)
         return USAGE;
-    n = seek_disc_save(&l->list, second, out->bytes, (size_t)n);
+    n = seek_disc_save(SEEK_WORKSHOP, &l->list, second, out->bytes, (size_t)n);
     *number = n < 88 ? (uint32_t)n : 0;
     out->length = (size_t)n;
     return *number ? REFUSED : DONE;

@@ -31,12 +31,12 @@ static void do_sizes(void) { seek_table_sizes s; seek_sizes(&area, INTERVAL, 104
 static void do_file_area(void) { seek_area a; seek_file_area(file, length, &a); }
 static void do_file_sizes(void) { seek_table_sizes s; seek_file_sizes(&area, file, length, UINT64_MAX, &s); }
 static void do_new(void) { seek_new(&fresh, &area, INTERVAL, 1048576, 8, 2048); }
-static void do_load(void) { seek_load(&copy, &area, file, length, UINT64_MAX); }
+static void do_load(void) { seek_load(SEEK_WORKSHOP, &copy, &area, file, length, UINT64_MAX); }
 static void do_length(void) { seek_saved_length(&list); }
-static void do_save(void) { seek_save(&list, file, length); }
+static void do_save(void) { seek_save(SEEK_WORKSHOP, &list, file, length); }
 static void do_plan(void) { seek_jump j; seek_plan(&list, 500000, &j); }
 static void do_fingerprint(void) { seek_fingerprint(&list, 7); }
-static void do_merge(void) { seek_merge(&list, &copy); }
+static void do_merge(void) { seek_merge(SEEK_WORKSHOP, &list, &copy); }
 static void do_adds(void) { seek_brings b; seek_adds(&list, &copy, &b); }
 static void do_lacks(void) { seek_lacking m; seek_lacks(&list, &copy, &m); }
 static void do_hint(void) { seek_hinted h; seek_hint(&list, 5000, 5075, 300000, &h); }
@@ -56,9 +56,9 @@ static void do_flush(void) { seek_flush(&hinter); }
 static void do_take(void) { size_t n; seek_take(&hinter, &n); }
 static void do_contents(void) { seek_contents c; seek_disc_contents(disc, disc_length, &c); }
 static void do_disc_sizes(void) { seek_table_sizes s, t; seek_disc_sizes(&area, &second, disc, disc_length, UINT64_MAX, &s, &t); }
-static void do_disc_load(void) { int p[2]; seek_disc_load(&copy, NULL, &area, NULL, disc, disc_length, UINT64_MAX, p); }
+static void do_disc_load(void) { int p[2]; seek_disc_load(SEEK_WORKSHOP, &copy, NULL, &area, NULL, disc, disc_length, UINT64_MAX, p); }
 static void do_disc_length(void) { seek_disc_saved_length(&list, NULL); }
-static void do_disc_save(void) { seek_disc_save(&list, NULL, disc, disc_room); }
+static void do_disc_save(void) { seek_disc_save(SEEK_WORKSHOP, &list, NULL, disc, disc_room); }
 
 static const struct {
     const char *name;
@@ -170,14 +170,14 @@ static int begin(void)
             many[8 * n + (uint64_t)k] = (uint8_t)(v >> 8 * k);
     }
     if (seek_finish(&kept, 200000, 0) || seek_absorb(&list, &kept, NULL, NULL, 0) || seek_add_hints(&list, many, 8 * 2048) || seek_fingerprint(&list, 7)
-        || seek_saved(&list, &file, &length) || seek_open_bytes(file, length, &area, UINT64_MAX, &copy))
+        || seek_saved(SEEK_WORKSHOP, &list, &file, &length) || seek_open_bytes(SEEK_WORKSHOP, file, length, &area, UINT64_MAX, &copy))
         return 0;
     for (n = 0; n < 100; n++) /* 100 that rise, at the start of the list of many */
         memset(many + 8 * n, 0, 8), many[8 * n] = (uint8_t)n;
     disc_length = (size_t)seek_disc_saved_length(&list, NULL);
     disc_room = disc_length + 65536; /* confirmations are kept meanwhile */
     disc = (uint8_t *)calloc(1, disc_room);
-    return disc != NULL && !seek_refused(seek_disc_save(&list, NULL, disc, disc_length));
+    return disc != NULL && !seek_refused(seek_disc_save(SEEK_WORKSHOP, &list, NULL, disc, disc_length));
 }
 
 int main(void)

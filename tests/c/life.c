@@ -72,7 +72,7 @@ static int record(const char *name)
     if (accepted("recorder", seek_begin_recorder(&l, START, &r))) {
         if (accepted("hint recorder", seek_begin_hint_recorder(&l, &h, &made)) && made) {
             done = read_disc(&r, &h) && accepted("absorb", seek_absorb(&l, &r, &image, NULL, 0)) && accepted("take", seek_take(&h, &length))
-                   && accepted("add hints", seek_add_hints(&l, h.list.at, length)) && accepted("save", seek_save_file(&l, name));
+                   && accepted("add hints", seek_add_hints(&l, h.list.at, length)) && accepted("save", seek_save_file(SEEK_WORKSHOP, &l, name));
             seek_close_hint_recorder(&h);
         }
         seek_close_recorder(&r);
@@ -89,9 +89,9 @@ int main(int argc, char **argv)
     int done = 0;
     if (argc != 5 || seek_version() < SEEK_VERSION)
         return 2;
-    if (accepted(argv[1], seek_open(argv[1], NULL, UINT64_MAX, &own))) {
-        if (accepted(argv[2], seek_open(argv[2], NULL, UINT64_MAX, &other))) {
-            done = accepted("merge", seek_merge(&own, &other)) && jump(&own, (uint32_t)strtoul(argv[3], NULL, 10));
+    if (accepted(argv[1], seek_open(SEEK_WORKSHOP, argv[1], NULL, UINT64_MAX, &own))) {
+        if (accepted(argv[2], seek_open(SEEK_WORKSHOP, argv[2], NULL, UINT64_MAX, &other))) {
+            done = accepted("merge", seek_merge(SEEK_WORKSHOP, &own, &other)) && jump(&own, (uint32_t)strtoul(argv[3], NULL, 10));
             seek_close(&other);
         }
         seek_close(&own);

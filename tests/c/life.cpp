@@ -20,7 +20,7 @@ void accept(const std::string &what, std::uint32_t no)
 
 struct List {
     seek_list list = SEEK_ABSENT;
-    explicit List(const std::string &name) { accept(name, seek_open(name.c_str(), nullptr, UINT64_MAX, &list)); }
+    explicit List(const std::string &name) { accept(name, seek_open(SEEK_WORKSHOP, name.c_str(), nullptr, UINT64_MAX, &list)); }
     explicit List(const seek_area &area) { accept("begin", seek_begin(&area, 50, 1048576, 8, 2048, &list)); }
     List(const List &) = delete;
     List &operator=(const List &) = delete;
@@ -95,7 +95,7 @@ void record(const std::string &name)
     accept("absorb", seek_absorb(&list.list, &r.recorder, &image, nullptr, 0));
     accept("take", seek_take(&h.recorder, &length));
     accept("add hints", seek_add_hints(&list.list, h.recorder.list.at, length));
-    accept("save", seek_save_file(&list.list, name.c_str()));
+    accept("save", seek_save_file(SEEK_WORKSHOP, &list.list, name.c_str()));
     std::cout << seek_checkpoint_count(&list.list) << " checkpoints, " << seek_hint_count(&list.list) << " hints, "
               << (seek_is_complete(&list.list) != 0 ? "complete" : "open") << '\n';
 }
@@ -108,7 +108,7 @@ int main(int argc, char **argv)
         return 2;
     try {
         List own{std::string(argv[1])}, other{std::string(argv[2])};
-        accept("merge", seek_merge(&own.list, &other.list));
+        accept("merge", seek_merge(SEEK_WORKSHOP, &own.list, &other.list));
         jump(own.list, static_cast<std::uint32_t>(std::stoul(argv[3])));
         record(argv[4]);
     } catch (const std::exception &e) {

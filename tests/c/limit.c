@@ -141,7 +141,7 @@ static void saves(const seek_list *l, const model *m)
 {
     uint8_t *file;
     size_t length, n = written(m);
-    HOLDS(seek_saved(l, &file, &length) == 0);
+    HOLDS(seek_saved(SEEK_WORKSHOP, l, &file, &length) == 0);
     HOLDS(length == n && memcmp(file, bytes, n) == 0);
     free(file);
 }
@@ -171,7 +171,7 @@ static model own, other, kept;
 static void loads(const model *m, uint64_t limit)
 {
     seek_list l;
-    HOLDS(seek_open_bytes(bytes, written(m), &area, limit, &l) == 0);
+    HOLDS(seek_open_bytes(SEEK_WORKSHOP, bytes, written(m), &area, limit, &l) == 0);
     kept = *m;
     limit_to(&kept, limit);
     saves(&l, &kept);
@@ -218,17 +218,17 @@ static void full(void)
     saves(&o, &other);
     /* a small list takes what its own limit allows, and stays of version 2 */
     begun(&small, SHORT);
-    HOLDS(seek_merge(&small, &o) == 0);
+    HOLDS(seek_merge(SEEK_WORKSHOP, &small, &o) == 0);
     fill(&kept, SHORT, 0, 0, 1);
     join(&kept, &other);
     saves(&small, &kept);
     /* 524,288 hints are thinned to 196,608 */
-    HOLDS(seek_merge(&l, &o) == 0);
+    HOLDS(seek_merge(SEEK_WORKSHOP, &l, &o) == 0);
     join(&own, &other);
     HOLDS(own.hints == MOST - MOST / 4 && seek_hint_count(&l) == own.hints);
     saves(&l, &own);
     loads(&own, UINT64_MAX);
-    HOLDS(seek_merge(&l, &small) == 0 && seek_hint_limit(&l) == MOST);
+    HOLDS(seek_merge(SEEK_WORKSHOP, &l, &small) == 0 && seek_hint_limit(&l) == MOST);
     seek_close(&l);
     seek_close(&o);
     seek_close(&small);

@@ -31,7 +31,7 @@ static int plan_rule(unsigned n, int complete, uint64_t limit, uint32_t frame)
     size_t length = sample_file(file, n, complete, 0);
     HOLDS(seek_file_area(file, length, &area) == 0 && seek_file_sizes(&area, file, length, limit, &s) == 0);
     carve(&l, &s);
-    HOLDS(seek_load(&l, &area, file, length, limit) == 0);
+    HOLDS(seek_load(SEEK_WORKSHOP, &l, &area, file, length, limit) == 0);
     HOLDS(seek_plan(&l, frame, &j) == 0);
     return j.rule;
 }

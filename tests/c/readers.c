@@ -28,7 +28,7 @@ static void records(void)
     uint64_t at;
     int kept;
     size_t n = sample_file(file, 5, 0, 3);
-    HOLDS(seek_open_bytes(file, n, NULL, UINT64_MAX, &l) == 0);
+    HOLDS(seek_open_bytes(SEEK_WORKSHOP, file, n, NULL, UINT64_MAX, &l) == 0);
     HOLDS(seek_budget(&l) == SAMPLE_BUDGET && seek_hint_limit(&l) == 2048 && seek_spacing(&l) == 8 && seek_interval(&l) == SAMPLE_INTERVAL);
     HOLDS(seek_frontier(&l) == 1200 && !seek_has_image(&l) && !seek_is_complete(&l));
     HOLDS(seek_checkpoint_at(&l, 2, &c) && c.lsn == 1100 && c.threshold == 150 && c.back == 40 && c.malformed == 0);
@@ -46,7 +46,7 @@ static void records(void)
     seek_close(&l);
 
     n = sample_file(file, 8, 1, 0);
-    HOLDS(seek_open_bytes(file, n, NULL, UINT64_MAX, &l) == 0 && seek_is_complete(&l) && seek_frontier(&l) == 1400 && seek_end_threshold(&l) == 600);
+    HOLDS(seek_open_bytes(SEEK_WORKSHOP, file, n, NULL, UINT64_MAX, &l) == 0 && seek_is_complete(&l) && seek_frontier(&l) == 1400 && seek_end_threshold(&l) == 600);
     seek_close(&l);
 }
 
@@ -204,22 +204,22 @@ static void kept(void)
     HOLDS(add_run(&l, 1010, 1166880, 1) == 0 && seek_hint_at(&l, 1, &lsn, &number) && number == 1166880 && seek_hint_kept_at(&l, 1));
 
     /* the other list's marks are not taken */
-    HOLDS(add_run(&other, 1000, 5, 2) == 0 && seek_keep_hint(&other, 1000) == 0 && seek_adds(&l, &other, &b) == 0 && b.hints && seek_merge(&l, &other) == 0);
+    HOLDS(add_run(&other, 1000, 5, 2) == 0 && seek_keep_hint(&other, 1000) == 0 && seek_adds(&l, &other, &b) == 0 && b.hints && seek_merge(SEEK_WORKSHOP, &l, &other) == 0);
     HOLDS(seek_hint_at(&l, 0, &lsn, &number) && number == 5 && !seek_hint_kept_at(&l, 0) && seek_kept_count(&l) == 2);
     HOLDS(seek_hint_at(&l, 1, &lsn, &number) && number == 6 && seek_hint_kept_at(&l, 1));
     HOLDS(seek_adds(&l, &other, &b) == 0 && !b.hints);
 
     /* a file holds no mark; a hint's last byte in a file is that of its number */
-    HOLDS(seek_saved(&l, &bytes, &length) == 0);
+    HOLDS(seek_saved(SEEK_WORKSHOP, &l, &bytes, &length) == 0);
     seek_close(&other);
-    HOLDS(seek_open_bytes(bytes, length, NULL, UINT64_MAX, &other) == 0 && seek_hint_count(&other) == 6 && seek_kept_count(&other) == 0);
+    HOLDS(seek_open_bytes(SEEK_WORKSHOP, bytes, length, NULL, UINT64_MAX, &other) == 0 && seek_hint_count(&other) == 6 && seek_kept_count(&other) == 0);
     free(bytes);
 
     /* a mark of 2, three marks under a limit of 8, and a number of 1,166,881 with a mark are no list */
     l.hints.at[7] = 2;
-    HOLDS(seek_keep_hint(&l, 1010) == SEEK_NO_CONTENT && seek_refused(seek_saved_length(&l)) && seek_merge(&other, &l) == SEEK_NO_CONTENT);
+    HOLDS(seek_keep_hint(&l, 1010) == SEEK_NO_CONTENT && seek_refused(seek_saved_length(&l)) && seek_merge(SEEK_WORKSHOP, &other, &l) == SEEK_NO_CONTENT);
     l.hints.at[7] = 1;
-    HOLDS(seek_kept_count(&l) == 3 && seek_keep_hint(&l, 1010) == SEEK_NO_CONTENT && seek_merge(&l, &other) == SEEK_NO_CONTENT);
+    HOLDS(seek_kept_count(&l) == 3 && seek_keep_hint(&l, 1010) == SEEK_NO_CONTENT && seek_merge(SEEK_WORKSHOP, &l, &other) == SEEK_NO_CONTENT);
     l.hints.at[7] = 0;
     sample_put(l.hints.at + 12, 1166881, 3);
     HOLDS(seek_keep_hint(&l, 1010) == SEEK_NO_CONTENT && l.hints.length-- > 0 && seek_keep_hint(&l, 1) == SEEK_NO_ROOM);
@@ -249,32 +249,32 @@ static void nothing(void)
     seek_first first;
     HOLDS(seek_carve(&l, &zero, NULL, 0) && l.store.at == NULL && l.hints.length == 0 && seek_carve_recorder(&r, &zero, NULL, 0));
     HOLDS(seek_plan(&none, 0, &j) == SEEK_NO_NUMBERS && j.where == SEEK_AT_START && seek_part(&none, &j) == NULL && seek_frontier(&none) == 0);
-    HOLDS(seek_saved_length(&none) == SEEK_NO_NUMBERS && seek_refused(seek_save(&none, NULL, 0)) && seek_fingerprint(&none, 1) == SEEK_NO_NUMBERS);
-    HOLDS(seek_merge(&none, &l) == SEEK_NO_NUMBERS && seek_adds(&none, &l, &b) == SEEK_NO_NUMBERS && seek_hint(&none, 0, 0, 0, &h) == SEEK_NO_NUMBERS);
+    HOLDS(seek_saved_length(&none) == SEEK_NO_NUMBERS && seek_refused(seek_save(SEEK_WORKSHOP, &none, NULL, 0)) && seek_fingerprint(&none, 1) == SEEK_NO_NUMBERS);
+    HOLDS(seek_merge(SEEK_WORKSHOP, &none, &l) == SEEK_NO_NUMBERS && seek_adds(&none, &l, &b) == SEEK_NO_NUMBERS && seek_hint(&none, 0, 0, 0, &h) == SEEK_NO_NUMBERS);
     HOLDS(seek_keep_hint(&none, 0) == SEEK_NO_NUMBERS && seek_kept_count(&none) == 0 && !seek_hint_kept_at(&none, 0));
     HOLDS(seek_add_hints(&none, NULL, 0) == SEEK_NO_NUMBERS && seek_recorder_of(&none, 0, &r) == SEEK_NO_NUMBERS);
     HOLDS(seek_hint_recorder_of(&none, &hr, &made) == SEEK_NO_NUMBERS && !made && seek_see(&hr, 0, NULL, 0, NULL) == SEEK_NO_ROOM);
     HOLDS(seek_flush(&hr) == SEEK_NO_ROOM && seek_take(&hr, &length) == SEEK_NO_ROOM && length == 0);
     HOLDS(seek_record(&r, 0, 0, 0, NULL, NULL, 0) == SEEK_NO_NUMBERS && seek_finish(&r, 0, 0) == SEEK_NO_NUMBERS && !seek_due(&r, &number));
     HOLDS(seek_absorb(&none, &r, NULL, NULL, 0) == SEEK_NO_NUMBERS && seek_keep_confirmation(&none, 0, 0, 0, &made) == SEEK_NO_NUMBERS);
-    HOLDS(seek_file_area(NULL, 0, &area) == SEEK_NO_FILE_SHORT && seek_load(&l, &empty, NULL, 0, 0) == SEEK_NO_FILE_SHORT);
+    HOLDS(seek_file_area(NULL, 0, &area) == SEEK_NO_FILE_SHORT && seek_load(SEEK_WORKSHOP, &l, &empty, NULL, 0, 0) == SEEK_NO_FILE_SHORT);
     HOLDS(seek_file_sizes(&empty, NULL, 0, 0, &s[0]) == SEEK_NO_FILE_SHORT && seek_total(&s[0]) == 0 && seek_new(&l, &empty, 1, 0, 0, 0) == SEEK_NO_ROOM);
-    HOLDS(seek_disc_contents(NULL, 0, &c) == SEEK_NO_DISC && seek_disc_load(NULL, NULL, NULL, NULL, NULL, 0, 0, present) == SEEK_NO_DISC);
+    HOLDS(seek_disc_contents(NULL, 0, &c) == SEEK_NO_DISC && seek_disc_load(SEEK_WORKSHOP, NULL, NULL, NULL, NULL, NULL, 0, 0, present) == SEEK_NO_DISC);
     HOLDS(seek_first_record(NULL, 0, &first) == 0 && is_first(&first, 0, 0, 0, SEEK_BYTES_MISSING) && seek_sum(NULL, 0) == UINT64_C(0xcbf29ce484222325));
-    HOLDS(seek_saved(&none, &bytes, &length) == SEEK_NO_NUMBERS && bytes == NULL && seek_open("", NULL, 0, &l) == SEEK_NO_READ);
+    HOLDS(seek_saved(SEEK_WORKSHOP, &none, &bytes, &length) == SEEK_NO_NUMBERS && bytes == NULL && seek_open(SEEK_WORKSHOP, "", NULL, 0, &l) == SEEK_NO_READ);
     seek_close(&none); /* an absent list has nothing to give back */
 
     /* a disc file of one list: the other slot has no area, no list and no memory */
-    HOLDS(seek_open_bytes(file, n, NULL, UINT64_MAX, &l) == 0);
-    HOLDS((length = (size_t)seek_disc_save(&l, NULL, disc, sizeof disc)) == n + 16);
+    HOLDS(seek_open_bytes(SEEK_WORKSHOP, file, n, NULL, UINT64_MAX, &l) == 0);
+    HOLDS((length = (size_t)seek_disc_save(SEEK_WORKSHOP, &l, NULL, disc, sizeof disc)) == n + 16);
     seek_area_of(&l, &area);
     HOLDS(seek_disc_sizes(&area, &empty, disc, length, UINT64_MAX, &s[0], &s[1]) == 0 && seek_total(&s[1]) == 0);
     HOLDS(seek_disc_sizes(&area, NULL, disc, length, UINT64_MAX, &s[0], &s[1]) == 0 && (bytes = (uint8_t *)calloc(1, (size_t)seek_total(&s[0]))) != NULL);
     HOLDS(seek_carve(&m, &s[0], bytes, seek_total(&s[0])) && seek_carve(&none, &s[1], NULL, 0));
-    HOLDS(seek_disc_load(&m, &none, &area, &empty, disc, length, UINT64_MAX, present) == 0 && present[0] && !present[1]);
-    HOLDS(seek_disc_load(&m, NULL, &area, NULL, disc, length, UINT64_MAX, present) == 0 && seek_checkpoint_count(&m) == 5);
-    HOLDS(seek_disc_load(NULL, &m, NULL, &area, disc, length, UINT64_MAX, present) == SEEK_NO_AREA);     /* slot 0's area for slot 1 */
-    HOLDS(seek_disc_load(&m, NULL, NULL, NULL, disc, length, UINT64_MAX, present) == SEEK_NO_FILE_AREA && !present[0]);
+    HOLDS(seek_disc_load(SEEK_WORKSHOP, &m, &none, &area, &empty, disc, length, UINT64_MAX, present) == 0 && present[0] && !present[1]);
+    HOLDS(seek_disc_load(SEEK_WORKSHOP, &m, NULL, &area, NULL, disc, length, UINT64_MAX, present) == 0 && seek_checkpoint_count(&m) == 5);
+    HOLDS(seek_disc_load(SEEK_WORKSHOP, NULL, &m, NULL, &area, disc, length, UINT64_MAX, present) == SEEK_NO_AREA);     /* slot 0's area for slot 1 */
+    HOLDS(seek_disc_load(SEEK_WORKSHOP, &m, NULL, NULL, NULL, disc, length, UINT64_MAX, present) == SEEK_NO_FILE_AREA && !present[0]);
     free(bytes);
 
     /* a recorder's block as a list's head, and the other way round */
@@ -294,8 +294,8 @@ static void nothing(void)
         for (i = 0; i < sizeof words / sizeof *words; i++) {
             m = l;
             sample_put(m.head + 8 * words[i][0], words[i][1], 8);
-            HOLDS(seek_plan(&m, 0, &j) == SEEK_NO_ROOM && seek_saved_length(&m) == SEEK_NO_ROOM && seek_merge(&m, &l) == SEEK_NO_ROOM);
-            HOLDS(seek_merge(&l, &m) == SEEK_NO_ROOM && seek_fingerprint(&m, 1) == SEEK_NO_ROOM && seek_word(m.head, (unsigned)words[i][0]) == words[i][1]);
+            HOLDS(seek_plan(&m, 0, &j) == SEEK_NO_ROOM && seek_saved_length(&m) == SEEK_NO_ROOM && seek_merge(SEEK_WORKSHOP, &m, &l) == SEEK_NO_ROOM);
+            HOLDS(seek_merge(SEEK_WORKSHOP, &l, &m) == SEEK_NO_ROOM && seek_fingerprint(&m, 1) == SEEK_NO_ROOM && seek_word(m.head, (unsigned)words[i][0]) == words[i][1]);
         }
         sample_put(r.block + 8 * 14, 3, 8);
         HOLDS(!seek_due(&r, &number) && seek_record(&r, 1000, 0, 0, NULL, sector, sizeof sector) == SEEK_NO_ROOM && seek_absorb(&l, &r, NULL, NULL, 0) == SEEK_NO_ROOM);
@@ -315,16 +315,16 @@ static void sets(void)
     seek_area area;
     uint8_t *memory;
     size_t n = sample_file(file, 1, 0, 0), total = 0, i;
-    HOLDS(seek_open_bytes(file, n, NULL, UINT64_MAX, &own) == 0);
+    HOLDS(seek_open_bytes(SEEK_WORKSHOP, file, n, NULL, UINT64_MAX, &own) == 0);
     before = own;
     seek_area_of(&own, &area);
     for (i = 0; i < 3; i++)
         total += (size_t)(right[i] = lengths[i] = sample_file(files + total, counts[i], i == 1, 3));
     HOLDS(seek_set_sizes(&area, files, total, lengths, 3, UINT64_MAX, &s) == 0 && seek_file_sizes(&area, files, (size_t)right[0], UINT64_MAX, &t) == 0);
     HOLDS(memcmp(&s, &t, sizeof s) == 0 && (memory = (uint8_t *)calloc(1, (size_t)seek_total(&s))) != NULL);
-    HOLDS(seek_merge_all(&own, files, total, lengths, 3, UINT64_MAX, &work) == SEEK_NO_ROOM && seek_carve(&work, &s, memory, seek_total(&s)));
-    HOLDS(seek_merge_all(&own, NULL, 0, NULL, 0, 0, &work) == SEEK_NO_SET && seek_merge_all(&own, files, total, lengths, 17, 0, &work) == SEEK_NO_SET);
-    HOLDS(seek_merge_all(&own, files, total, lengths, 40, 0, &work) == SEEK_NO_SET && seek_merge_all(&work, files, total, lengths, 0, 0, &own) == SEEK_NO_NUMBERS);
+    HOLDS(seek_merge_all(SEEK_WORKSHOP, &own, files, total, lengths, 3, UINT64_MAX, &work) == SEEK_NO_ROOM && seek_carve(&work, &s, memory, seek_total(&s)));
+    HOLDS(seek_merge_all(SEEK_WORKSHOP, &own, NULL, 0, NULL, 0, 0, &work) == SEEK_NO_SET && seek_merge_all(SEEK_WORKSHOP, &own, files, total, lengths, 17, 0, &work) == SEEK_NO_SET);
+    HOLDS(seek_merge_all(SEEK_WORKSHOP, &own, files, total, lengths, 40, 0, &work) == SEEK_NO_SET && seek_merge_all(SEEK_WORKSHOP, &work, files, total, lengths, 0, 0, &own) == SEEK_NO_NUMBERS);
     own = before; /* lent as a working list it was none afterwards */
     HOLDS(seek_set_sizes(&area, NULL, 0, NULL, 0, 0, &t) == 0 && seek_total(&t) == 0);
     {
@@ -332,18 +332,18 @@ static void sets(void)
         const uint64_t wrong[] = {right[2] + 1, 0, UINT64_MAX, UINT64_MAX - right[0] - right[1] + 1 + 88};
         for (i = 0; i < 4; i++) {
             lengths[2] = wrong[i];
-            HOLDS(seek_merge_all(&own, files, total, lengths, 3, UINT64_MAX, &work) == SEEK_NO_FILE_SHORT);
+            HOLDS(seek_merge_all(SEEK_WORKSHOP, &own, files, total, lengths, 3, UINT64_MAX, &work) == SEEK_NO_FILE_SHORT);
             HOLDS(seek_set_sizes(&area, files, total, lengths, 3, UINT64_MAX, &t) == SEEK_NO_FILE_SHORT && seek_total(&t) == seek_total(&s));
         }
     }
-    HOLDS(seek_raw_merge_all(own.head, SEEK_BLOCK, files, 8, files, total, 0, NULL, 0, NULL, 0, NULL, 0, NULL, 0, NULL, 0, NULL, 0, NULL, 0, NULL, 0, NULL, 0, NULL, 0,
+    HOLDS(seek_raw_merge_all(SEEK_WORKSHOP, own.head, SEEK_BLOCK, files, 8, files, total, 0, NULL, 0, NULL, 0, NULL, 0, NULL, 0, NULL, 0, NULL, 0, NULL, 0, NULL, 0, NULL, 0, NULL, 0,
                              NULL, 0, NULL, 0, NULL, 0, NULL, 0) == SEEK_NO_ROOM);
-    HOLDS(memcmp(&before, &own, sizeof own) == 0 && seek_save(&own, sector, sizeof sector) == n && memcmp(sector, file, n) == 0);
-    HOLDS(seek_merge_all(&own, files, total, right, 3, UINT64_MAX, &work) == 0 && seek_is_complete(&own) && seek_hint_count(&own) == 3);
+    HOLDS(memcmp(&before, &own, sizeof own) == 0 && seek_save(SEEK_WORKSHOP, &own, sector, sizeof sector) == n && memcmp(sector, file, n) == 0);
+    HOLDS(seek_merge_all(SEEK_WORKSHOP, &own, files, total, right, 3, UINT64_MAX, &work) == 0 && seek_is_complete(&own) && seek_hint_count(&own) == 3);
     for (i = 0, total = 0; i < 16; i++)
         total += (size_t)(lengths[i] = sample_file(files + total, 0, 0, 0));
     saved = seek_saved_length(&own);
-    HOLDS(total == 16 * 88 && seek_merge_all(&own, files, total, lengths, 16, 0, &work) == 0 && seek_saved_length(&own) == saved && seek_word(work.head, 7) == 0);
+    HOLDS(total == 16 * 88 && seek_merge_all(SEEK_WORKSHOP, &own, files, total, lengths, 16, 0, &work) == 0 && seek_saved_length(&own) == saved && seek_word(work.head, 7) == 0);
     free(memory);
     seek_close(&own);
 }

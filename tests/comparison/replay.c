@@ -452,7 +452,7 @@ static void do_load(void)
     const uint8_t *file = bytes(&n);
     if (places[p].has_area) {
         keep_list(p, WRITTEN);
-        places[p].has_list |= answer(seek_load(&places[p].list, &places[p].area, file, n, limit));
+        places[p].has_list |= answer(seek_load(SEEK_WORKSHOP, &places[p].list, &places[p].area, file, n, limit));
         end_line();
     } else
         none();
@@ -470,7 +470,7 @@ static void do_save(void)
         return;
     memset(output, 165, length);
     keep_list(p, READ);
-    n = seek_save(&places[p].list, output, length);
+    n = seek_save(SEEK_WORKSHOP, &places[p].list, output, length);
     if (answer(n < 88 ? n : 0)) {
         say_sum(n, output, (size_t)n);
         say_hex(output, 16), say_hex(output + n - 16, 16);
@@ -486,8 +486,8 @@ static void do_reload(void)
     uint64_t limit = number(), n;
     if (list_there(p)) {
         keep_list(p, WRITTEN);
-        n = seek_save(&places[p].list, output, output_most);
-        n = n < 88 ? n : seek_load(&places[p].list, &places[p].area, output, (size_t)n, limit);
+        n = seek_save(SEEK_WORKSHOP, &places[p].list, output, output_most);
+        n = n < 88 ? n : seek_load(SEEK_WORKSHOP, &places[p].list, &places[p].area, output, (size_t)n, limit);
         answer(n);
         end_line();
     }
@@ -540,7 +540,7 @@ static void do_merge(void)
     int p = at_place(), q = at_place();
     if (places[p].has_list && places[q].has_list) {
         keep_list(p, WRITTEN), keep_list(q, READ);
-        answer(seek_merge(&places[p].list, &places[q].list));
+        answer(seek_merge(SEEK_WORKSHOP, &places[p].list, &places[q].list));
         end_line();
     } else
         none();

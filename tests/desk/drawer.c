@@ -154,7 +154,7 @@ static void write_list(const char *folder, const char *name, const seek_list *l)
     char path[4096];
     FILE *out;
     snprintf(path, sizeof path, "%s/%s.sbx", folder, name);
-    if (length < 88 || seek_save(l, bytes, (size_t)length) != length)
+    if (length < 88 || seek_save(SEEK_WORKSHOP, l, bytes, (size_t)length) != length)
         stop(path, "cannot be saved");
     out = fopen(path, "wb");
     if (!out || fwrite(bytes, 1, (size_t)length, out) != length || fclose(out))
@@ -168,11 +168,11 @@ static void load_again(const Spec *s, const seek_area *a, seek_list *l, uint8_t 
     uint64_t length = seek_saved_length(l);
     uint8_t *bytes = memory_of(s->name, length);
     seek_table_sizes sizes;
-    seek_save(l, bytes, (size_t)length);
+    seek_save(SEEK_WORKSHOP, l, bytes, (size_t)length);
     accepted(s->name, seek_file_sizes(a, bytes, (size_t)length, s->limit - 1, &sizes));
     *memory = memory_of(s->name, seek_total(&sizes));
     seek_carve(l, &sizes, *memory, seek_total(&sizes));
-    accepted(s->name, seek_load(l, a, bytes, (size_t)length, s->limit - 1));
+    accepted(s->name, seek_load(SEEK_WORKSHOP, l, a, bytes, (size_t)length, s->limit - 1));
     free(bytes);
 }
 
@@ -232,7 +232,7 @@ static void make_limited(const char *folder, const char *file)
     accepted(file, seek_file_sizes(&a, bytes, length, 0, &sizes));
     memory = memory_of(file, seek_total(&sizes));
     seek_carve(&l, &sizes, memory, seek_total(&sizes));
-    accepted(file, seek_load(&l, &a, bytes, length, 0));
+    accepted(file, seek_load(SEEK_WORKSHOP, &l, &a, bytes, length, 0));
     write_list(folder, "limited", &l);
     free(memory);
 }

@@ -141,6 +141,7 @@ static uint64_t v[8];
 #define FOUR LENT(CHECKPOINTS3), LENT(FRAMES3), LENT(STORE3), LENT(PARTS3)
 #define SLOT1 LENT(CHECKPOINTS4), LENT(FRAMES4), LENT(STORE4), LENT(PARTS4), LENT(MALFORMED4), LENT(HINTS4), LENT(CONFIRMED4)
 #define AREA1 area1.slot, area1.channels, area1.key_start, area1.key_end, area1.sectors, area1.start, area1.end
+#define ROLE ((uint32_t)(v[7] + SEEK_WORKSHOP)) /* the workshop's, for the usual numbers */
 #define AREA area.slot, area.channels, area.key_start, area.key_end, area.sectors, area.start, area.end
 
 static uint64_t call_sum(void) { return seek_raw_sum(LENT(FILE_)), 0; }
@@ -149,16 +150,18 @@ static uint64_t call_sizes(void) { return seek_raw_sizes(AREA, (uint32_t)v[0], v
 static uint64_t call_file_area(void) { return seek_raw_file_area(LENT(FILE_), LENT(ANSWER)); }
 static uint64_t call_file_sizes(void) { return seek_raw_file_sizes(AREA, LENT(FILE_), v[0], LENT(ANSWER)); }
 static uint64_t call_new(void) { return seek_raw_new(LENT(HEAD), AREA, (uint32_t)v[0], v[1], (uint32_t)v[2], (uint32_t)v[3], TABLES); }
-static uint64_t call_load(void) { return seek_raw_load(LENT(HEAD), AREA, LENT(FILE_), v[0], TABLES); }
+static uint64_t call_load(void) { return seek_raw_load(ROLE, LENT(HEAD), AREA, LENT(FILE_), v[0], TABLES); }
 static uint64_t call_length(void) { return seek_raw_saved_length(LENT(HEAD), TABLES); }
-static uint64_t call_save(void) { return seek_raw_save(LENT(HEAD), TABLES, LENT(OUT)); }
+static uint64_t call_save(void) { return seek_raw_save(ROLE, LENT(HEAD), TABLES, LENT(OUT)); }
+static uint64_t call_view_length(void) { return seek_raw_view_length(ROLE, LENT(HEAD), TABLES); }
+static uint64_t call_view(void) { return seek_raw_view(ROLE, LENT(HEAD), TABLES, LENT(OUT)); }
 static uint64_t call_plan(void) { return seek_raw_plan(LENT(HEAD), (uint32_t)v[0], LENT(ANSWER), TABLES); }
 static uint64_t call_fingerprint(void) { return seek_raw_fingerprint(LENT(HEAD), v[0], TABLES); }
-static uint64_t call_merge(void) { return seek_raw_merge(LENT(HEAD), LENT(OTHER), TABLES, OTHERS); }
+static uint64_t call_merge(void) { return seek_raw_merge(ROLE, LENT(HEAD), LENT(OTHER), TABLES, OTHERS); }
 static uint64_t call_adds(void) { return seek_raw_adds(LENT(HEAD), LENT(OTHER), LENT(ANSWER), TABLES, OTHERS); }
 static uint64_t call_lacks(void) { return seek_raw_lacks(LENT(HEAD), LENT(OTHER), LENT(ANSWER), TABLES, OTHERS); }
 static uint64_t call_coarse(void) { return seek_raw_coarse(LENT(HEAD), (uint32_t)v[0], LENT(OTHER), TABLES, OTHERS); }
-static uint64_t call_merge_all(void) { return seek_raw_merge_all(LENT(HEAD), LENT(LENGTHS), LENT(FILES), v[0], TABLES, OTHERS); }
+static uint64_t call_merge_all(void) { return seek_raw_merge_all(ROLE, LENT(HEAD), LENT(LENGTHS), LENT(FILES), v[0], TABLES, OTHERS); }
 static uint64_t call_add_hints(void) { return seek_raw_add_hints(LENT(HEAD), LENT(LIST), TABLES); }
 static uint64_t call_keep_hint(void) { return seek_raw_keep_hint(LENT(HEAD), v[0], TABLES); }
 static uint64_t call_recorder(void) { return seek_raw_recorder(LENT(HEAD), v[0], LENT(RECORDER), TABLES); }
@@ -182,12 +185,12 @@ static uint64_t call_contents(void) { return seek_raw_disc_contents(LENT(DISC), 
 static uint64_t call_disc_sizes(void) { return seek_raw_disc_sizes(AREA, AREA1, LENT(DISC), v[0], LENT(ANSWER)); }
 static uint64_t call_disc_load(void)
 {
-    return seek_raw_disc_load(LENT(HEAD), LENT(HEAD4), AREA, AREA1, LENT(DISC), v[0], LENT(ANSWER), TABLES, SLOT1);
+    return seek_raw_disc_load(ROLE, LENT(HEAD), LENT(HEAD4), AREA, AREA1, LENT(DISC), v[0], LENT(ANSWER), TABLES, SLOT1);
 }
 static uint64_t call_disc_length(void) { return seek_raw_disc_saved_length(LENT(HEAD), TABLES); }
 static uint64_t call_disc_length_both(void) { return seek_raw_disc_saved_length_both(LENT(HEAD), LENT(HEAD4), TABLES, SLOT1); }
-static uint64_t call_disc_save(void) { return seek_raw_disc_save(LENT(HEAD), TABLES, LENT(DISC_OUT)); }
-static uint64_t call_disc_save_both(void) { return seek_raw_disc_save_both(LENT(HEAD), LENT(HEAD4), TABLES, SLOT1, LENT(DISC_OUT)); }
+static uint64_t call_disc_save(void) { return seek_raw_disc_save(ROLE, LENT(HEAD), TABLES, LENT(DISC_OUT)); }
+static uint64_t call_disc_save_both(void) { return seek_raw_disc_save_both(ROLE, LENT(HEAD), LENT(HEAD4), TABLES, SLOT1, LENT(DISC_OUT)); }
 static uint64_t call_sum32(void) { return seek_raw_sum32(LENT(FILE_)), 0; }
 static uint64_t call_fold32(void) { return seek_raw_fold32((uint32_t)v[0], (uint32_t)v[1], LENT(ANSWER)); }
 static uint64_t call_fold64(void) { return seek_raw_fold64(v[0], (uint32_t)v[1], LENT(ANSWER)); }
@@ -228,6 +231,8 @@ static const struct {
     {"load", call_load, BIT(HEAD) | BIT(FILE_) | SEVEN, BIT(HEAD) | SEVEN, 0, {4096}},
     {"saved_length", call_length, BIT(HEAD) | SEVEN, 0, 1, {0}},
     {"save", call_save, BIT(HEAD) | BIT(OUT) | SEVEN, BIT(OUT), 1, {0}},
+    {"view_length", call_view_length, BIT(HEAD) | SEVEN, 0, 1, {0}},
+    {"view", call_view, BIT(HEAD) | BIT(OUT) | SEVEN, BIT(OUT), 1, {0}},
     {"plan", call_plan, BIT(HEAD) | BIT(ANSWER) | SEVEN, BIT(ANSWER), 0, {160}},
     {"fingerprint", call_fingerprint, BIT(HEAD) | SEVEN, BIT(HEAD), 0, {7}},
     {"merge", call_merge, BIT(HEAD) | BIT(OTHER) | SEVEN | SEVEN2, BIT(HEAD) | SEVEN, 0, {0}},
@@ -325,15 +330,30 @@ static int no_head(unsigned c)
     return 0;
 }
 
+/* Is the role one that the call refuses? */
+static int no_role(unsigned c)
+{
+    uint64_t (*const workshop[])(void) = {call_load, call_save, call_merge, call_merge_all, call_disc_load, call_disc_save, call_disc_save_both};
+    size_t i;
+    for (i = 0; i < sizeof workshop / sizeof *workshop; i++)
+        if (calls[c].run == workshop[i])
+            return ROLE != SEEK_WORKSHOP;
+    return (calls[c].run == call_view || calls[c].run == call_view_length) && ROLE != SEEK_LISTENER && ROLE != SEEK_WORKSHOP;
+}
+
 static int check(unsigned c, uint64_t answer)
 {
     int refused = calls[c].lengths ? answer < 88 : answer != 0, k;
     if (refused && (answer == 0 || (answer > 44 && answer != SEEK_NO_COARSE_INTERVAL && answer != SEEK_NO_COARSE_CONTENT && answer != SEEK_NO_FOLD && answer != SEEK_NO_SHELF_LIST &&
-                                    answer != SEEK_NO_SHELF_COUNT && answer != SEEK_NO_KEEP && answer != SEEK_NO_DISC))) {
+                                    answer != SEEK_NO_SHELF_COUNT && answer != SEEK_NO_ROLE && answer != SEEK_NO_KEEP && answer != SEEK_NO_DISC))) {
         fprintf(stderr, "%s: %" PRIu64 " is no refusal number\n", calls[c].name, answer);
         return 0;
     }
-    if (no_head(c) && answer != SEEK_NO_ROOM) {
+    if (no_role(c) != (answer == SEEK_NO_ROLE)) {
+        fprintf(stderr, "%s: answered %" PRIu64 " for the role %" PRIu32 "\n", calls[c].name, answer, ROLE);
+        return 0;
+    }
+    if (no_head(c) && answer != SEEK_NO_ROOM && answer != SEEK_NO_ROLE) {
         fprintf(stderr, "%s: answered %" PRIu64 " for a block that is no head\n", calls[c].name, answer);
         return 0;
     }
@@ -385,7 +405,7 @@ static seek_list begin_list(int head, int first, unsigned n, unsigned s, uint8_t
         }
     }
     memset(l.head, 0, sizeof l.head);
-    if (seek_load(&l, a, file, length, UINT64_MAX) || seek_fingerprint(&l, 7))
+    if (seek_load(SEEK_WORKSHOP, &l, a, file, length, UINT64_MAX) || seek_fingerprint(&l, 7))
         exit(2);
     make(head, "head", SEEK_BLOCK);
     memcpy(real[head], l.head, SEEK_BLOCK);
@@ -451,7 +471,7 @@ static void begin_disc(const seek_list *l0, const seek_list *l1)
     size_t length = (size_t)seek_disc_saved_length(l0, l1);
     make(DISC, "disc file", length);
     make(DISC_OUT, "disc file's output", length);
-    if (length < 88 || seek_disc_save(l1, l0, real[DISC], length) != length)
+    if (length < 88 || seek_disc_save(SEEK_WORKSHOP, l1, l0, real[DISC], length) != length)
         exit(2);
 }
 

@@ -1,7 +1,7 @@
 //! life A B FRAME OUT: a player's life, written from the crate's documentation alone. It loads two list files, merges them, plans a jump and asks for a hint;
 //! then it records a simulated disc, absorbs the reading and saves its list.
 
-use seek::{Area, Frame, List, Plan};
+use seek::{Role, Area, Frame, List, Plan};
 use std::{env, fs};
 
 const START: u64 = 1000;
@@ -9,7 +9,7 @@ const END: u64 = 1400;
 
 fn open(name: &str) -> Result<List, Box<dyn std::error::Error>> {
     let file = fs::read(name)?;
-    Ok(List::load(Area::of_file(&file)?, &file, u64::MAX)?)
+    Ok(List::load(Role::Workshop, Area::of_file(&file)?, &file, u64::MAX)?)
 }
 
 fn jump(list: &List, frame: u32) -> Result<(), seek::Error> {
@@ -52,10 +52,10 @@ fn main() -> Result<(), Box<dyn std::error::Error>> {
     let words: Vec<String> = env::args().collect();
     let [_, a, b, frame, out] = &words[..] else { return Err("life A B FRAME OUT".into()) };
     let mut own = open(a)?;
-    own.merge(&open(b)?)?;
+    own.merge(Role::Workshop, &open(b)?)?;
     jump(&own, frame.parse()?)?;
     let list = record()?;
     println!("{} checkpoints, {} hints, {}", list.checkpoints(), list.hints(), if list.is_complete() { "complete" } else { "open" });
-    fs::write(out, list.save()?)?;
+    fs::write(out, list.save(Role::Workshop)?)?;
     Ok(())
 }

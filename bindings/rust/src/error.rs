@@ -88,6 +88,7 @@ errors! {
     ShelfList = 50, "the new list alone exceeds the shelf's limit";
     ShelfCount = 51, "the shelf's count is at its largest";
     Keep = 53, "no hint has this sector, or it is not kept and a quarter of the hint limit is kept already";
+    Role = 52, "the role is neither listener nor workshop, or a listener asks for what is the workshop's";
     Disc = 54, "the disc file's contents table breaks its rules, or two lists share a slot, or one is too long";
     Memory = 200, "there is no memory for it";
 }

@@ -6,7 +6,7 @@
 //! A reading becomes a list, which is saved, loaded and merged, and plans a jump:
 //!
 //! ```
-//! use seek::{Area, Frame, List, Plan};
+//! use seek::{Role, Area, Frame, List, Plan};
 //!
 //! # fn main() -> Result<(), seek::Error> {
 //! let area = Area { slot: 0, channels: 2, key_start: 1000, key_end: 1399, sectors: 1550, start: 1000, end: 1400 };
@@ -20,14 +20,14 @@
 //! }
 //! recorder.finish(400, 0)?;
 //! list.absorb(&mut recorder, Some(1), &[])?;
-//! let file = list.save()?;
+//! let file = list.save(Role::Workshop)?;
 //!
 //! let mut other = List::new(area, 64, 1 << 20, 8, 2048)?;
-//! other.merge(&List::load(Area::of_file(&file)?, &file, u64::MAX)?)?;
+//! other.merge(Role::Workshop, &List::load(Role::Workshop, Area::of_file(&file)?, &file, u64::MAX)?)?;
 //! assert!(other.is_complete());
 //! let Plan::At(at) = other.plan(130)? else { panic!("no checkpoint") };
 //! assert_eq!((at.lsn, at.threshold, at.part.unwrap().bytes.len()), (1128, 128, 100));
-//! assert_eq!(other.save()?, file);
+//! assert_eq!(other.save(Role::Workshop)?, file);
 //! # Ok(())
 //! # }
 //! ```
@@ -41,6 +41,7 @@ mod readers;
 mod recorder;
 mod shelf;
 mod sums;
+mod view;
 
 pub use disc::{contents, load_disc, save_disc};
 pub use error::Error;
@@ -49,9 +50,11 @@ pub use readers::{Checkpoint, Held};
 pub use recorder::{Frame, Recorder};
 pub use shelf::{Shelf, ShelfList};
 pub use sums::{fold32, fold64, sum32};
+pub use view::{ListenerView, Role, SeenCheckpoint, SeenHint, WorkshopView};
 
 use error::answer;
 use raw::BLOCK;
+use view::workshop;
 
 /// An area of a disc: its slot (0 two-channel, 1 multichannel), the key of the disc's table of contents, and the range of sectors, its end excluded.
 #[derive(Clone, Copy, Debug, PartialEq, Eq)]
@@ -372,23 +375,24 @@ impl List {
     /// The list of a file, under an area, with a limit in bytes for frame bytes, hints and confirmations (`u64::MAX`: all of it).
     ///
     /// ```
-    /// # use seek::{Area, Error, List};
+    /// # use seek::{Role, Area, Error, List};
     /// # fn main() -> Result<(), Error> {
     /// # let area = Area { slot: 0, channels: 2, key_start: 1000, key_end: 1399, sectors: 1550, start: 1000, end: 1400 };
-    /// let file = List::new(area, 64, 1 << 20, 8, 2048)?.save()?;
-    /// assert_eq!(List::load(area, &file, u64::MAX)?.area(), area);
-    /// assert_eq!(List::load(area, &file[..87], u64::MAX).unwrap_err(), Error::FileMagic);
-    /// assert_eq!(List::load(Area { slot: 1, ..area }, &file, u64::MAX).unwrap_err(), Error::FileArea);
+    /// let file = List::new(area, 64, 1 << 20, 8, 2048)?.save(Role::Workshop)?;
+    /// assert_eq!(List::load(Role::Workshop, area, &file, u64::MAX)?.area(), area);
+    /// assert_eq!(List::load(Role::Workshop, area, &file[..87], u64::MAX).unwrap_err(), Error::FileMagic);
+    /// assert_eq!(List::load(Role::Workshop, Area { slot: 1, ..area }, &file, u64::MAX).unwrap_err(), Error::FileArea);
     /// # Ok(())
     /// # }
     /// ```
-    pub fn load(a: Area, file: &[u8], limit: u64) -> Result<List, Error> {
+    pub fn load(role: Role, a: Area, file: &[u8], limit: u64) -> Result<List, Error> {
+        let asked = workshop(role)?;
         let mut list = List::zeroed(file_sizes(a, file, limit)?)?;
         let (head, [t0, t1, t2, t3, t4, t5, t6]) = list.tables_mut();
         // Safety: each pointer is that of a slice of the length behind it, and no two overlap.
         answer(unsafe {
             raw::seek_raw_load(
-                head.as_mut_ptr(), BLOCK, a.slot, a.channels, a.key_start, a.key_end, a.sectors, a.start, a.end, file.as_ptr(), file.len(), limit,
+                asked, head.as_mut_ptr(), BLOCK, a.slot, a.channels, a.key_start, a.key_end, a.sectors, a.start, a.end, file.as_ptr(), file.len(), limit,
                 t0.as_mut_ptr(), t0.len(), t1.as_mut_ptr(), t1.len(), t2.as_mut_ptr(), t2.len(), t3.as_mut_ptr(), t3.len(), t4.as_mut_ptr(),
                 t4.len(), t5.as_mut_ptr(), t5.len(), t6.as_mut_ptr(), t6.len(),
             )
@@ -397,7 +401,8 @@ impl List {
     }
 
     /// The list file.
-    pub fn save(&self) -> Result<Vec<u8>, Error> {
+    pub fn save(&self, role: Role) -> Result<Vec<u8>, Error> {
+        let asked = workshop(role)?;
         let [t0, t1, t2, t3, t4, t5, t6] = self.tables();
         // Safety: each pointer is that of a slice of the length behind it.
         let length = unsafe {
@@ -410,7 +415,7 @@ impl List {
         // Safety: the same, and the output is a slice of its own.
         let written = unsafe {
             raw::seek_raw_save(
-                self.head.as_ptr(), BLOCK, t0.as_ptr(), t0.len(), t1.as_ptr(), t1.len(), t2.as_ptr(), t2.len(), t3.as_ptr(), t3.len(), t4.as_ptr(),
+                asked, self.head.as_ptr(), BLOCK, t0.as_ptr(), t0.len(), t1.as_ptr(), t1.len(), t2.as_ptr(), t2.len(), t3.as_ptr(), t3.len(), t4.as_ptr(),
                 t4.len(), t5.as_ptr(), t5.len(), t6.as_ptr(), t6.len(), out.as_mut_ptr(), out.len(),
             )
         };
@@ -463,13 +468,14 @@ impl List {
     }
 
     /// Merges another list into this one. A sector of which both have a hint then has the other list's frame number.
-    pub fn merge(&mut self, other: &List) -> Result<(), Error> {
+    pub fn merge(&mut self, role: Role, other: &List) -> Result<(), Error> {
+        let asked = workshop(role)?;
         let [u0, u1, u2, u3, u4, u5, u6] = other.tables();
         let (head, [t0, t1, t2, t3, t4, t5, t6]) = self.tables_mut();
         // Safety: each pointer is that of a slice of the length behind it, and no two overlap.
         answer(unsafe {
             raw::seek_raw_merge(
-                head.as_mut_ptr(), BLOCK, other.head.as_ptr(), BLOCK, t0.as_mut_ptr(), t0.len(), t1.as_mut_ptr(), t1.len(), t2.as_mut_ptr(), t2.len(),
+                asked, head.as_mut_ptr(), BLOCK, other.head.as_ptr(), BLOCK, t0.as_mut_ptr(), t0.len(), t1.as_mut_ptr(), t1.len(), t2.as_mut_ptr(), t2.len(),
                 t3.as_mut_ptr(), t3.len(), t4.as_mut_ptr(), t4.len(), t5.as_mut_ptr(), t5.len(), t6.as_mut_ptr(), t6.len(), u0.as_ptr(), u0.len(),
                 u1.as_ptr(), u1.len(), u2.as_ptr(), u2.len(), u3.as_ptr(), u3.len(), u4.as_ptr(), u4.len(), u5.as_ptr(), u5.len(), u6.as_ptr(), u6.len(),
             )
@@ -480,19 +486,20 @@ impl List {
     /// file that is refused gives the error, else the first two lists that cannot be merged, this list before all files.
     ///
     /// ```
-    /// # use seek::{Area, Error, List};
+    /// # use seek::{Role, Area, Error, List};
     /// # fn main() -> Result<(), Error> {
     /// # let area = Area { slot: 0, channels: 2, key_start: 1000, key_end: 1399, sectors: 1550, start: 1000, end: 1400 };
     /// let mut own = List::new(area, 64, 1 << 20, 8, 2048)?;
-    /// let file = List::new(area, 64, 1 << 20, 8, 2048)?.save()?;
-    /// let wider = List::new(area, 128, 1 << 20, 8, 2048)?.save()?;
-    /// own.merge_all(&[&file, &file], u64::MAX)?;
-    /// assert_eq!(own.merge_all(&[&file, &wider], u64::MAX), Err(Error::MergeArea));
-    /// assert_eq!(own.merge_all(&[], u64::MAX), Err(Error::Set));
+    /// let file = List::new(area, 64, 1 << 20, 8, 2048)?.save(Role::Workshop)?;
+    /// let wider = List::new(area, 128, 1 << 20, 8, 2048)?.save(Role::Workshop)?;
+    /// own.merge_all(Role::Workshop, &[&file, &file], u64::MAX)?;
+    /// assert_eq!(own.merge_all(Role::Workshop, &[&file, &wider], u64::MAX), Err(Error::MergeArea));
+    /// assert_eq!(own.merge_all(Role::Workshop, &[], u64::MAX), Err(Error::Set));
     /// # Ok(())
     /// # }
     /// ```
-    pub fn merge_all(&mut self, files: &[&[u8]], limit: u64) -> Result<(), Error> {
+    pub fn merge_all(&mut self, role: Role, files: &[&[u8]], limit: u64) -> Result<(), Error> {
+        let asked = workshop(role)?;
         // 17 files are refused as more are
         let files = &files[..files.len().min(17)];
         let (mut lengths, mut buffer, mut sizes) = (Vec::new(), Vec::new(), [0; 7]);
@@ -513,7 +520,7 @@ impl List {
         // Safety: each pointer is that of a slice of the length behind it, and no two overlap.
         answer(unsafe {
             raw::seek_raw_merge_all(
-                head.as_mut_ptr(), BLOCK, lengths.as_ptr(), lengths.len(), buffer.as_ptr(), buffer.len(), limit, t0.as_mut_ptr(), t0.len(),
+                asked, head.as_mut_ptr(), BLOCK, lengths.as_ptr(), lengths.len(), buffer.as_ptr(), buffer.len(), limit, t0.as_mut_ptr(), t0.len(),
                 t1.as_mut_ptr(), t1.len(), t2.as_mut_ptr(), t2.len(), t3.as_mut_ptr(), t3.len(), t4.as_mut_ptr(), t4.len(), t5.as_mut_ptr(), t5.len(),
                 t6.as_mut_ptr(), t6.len(), u0.as_mut_ptr(), u0.len(), u1.as_mut_ptr(), u1.len(), u2.as_mut_ptr(), u2.len(), u3.as_mut_ptr(), u3.len(),
                 u4.as_mut_ptr(), u4.len(), u5.as_mut_ptr(), u5.len(), u6.as_mut_ptr(), u6.len(),
@@ -576,13 +583,13 @@ impl List {
     /// The list that the same reading would have given at a wider interval, a multiple of this list's.
     ///
     /// ```
-    /// # use seek::{Area, Error, List};
+    /// # use seek::{Role, Area, Error, List};
     /// # fn main() -> Result<(), Error> {
     /// # let area = Area { slot: 0, channels: 2, key_start: 1000, key_end: 1399, sectors: 1550, start: 1000, end: 1400 };
     /// let fine = List::new(area, 100, 1 << 20, 8, 2048)?;
     /// let mut other = List::new(area, 400, 1 << 20, 8, 2048)?;
-    /// assert_eq!(other.merge(&fine), Err(Error::MergeArea));
-    /// other.merge(&fine.coarse(400)?)?;
+    /// assert_eq!(other.merge(Role::Workshop, &fine), Err(Error::MergeArea));
+    /// other.merge(Role::Workshop, &fine.coarse(400)?)?;
     /// assert_eq!(fine.coarse(250).unwrap_err(), Error::CoarseInterval);
     /// # Ok(())
     /// # }

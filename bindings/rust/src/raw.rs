@@ -57,7 +57,7 @@ unsafe extern "C" {
         t4: *const u8, l4: usize, t5: *const u8, l5: usize, t6: *const u8, l6: usize,
     ) -> u32;
     pub fn seek_raw_load(
-        head: *mut u8, head_length: usize, slot: u8, channels: u8, key_start: u32, key_end: u32, sectors: u64, start: u64, end: u64,
+        role: u32, head: *mut u8, head_length: usize, slot: u8, channels: u8, key_start: u32, key_end: u32, sectors: u64, start: u64, end: u64,
         file: *const u8, length: usize, limit: u64, t0: *mut u8, l0: usize, t1: *mut u8, l1: usize, t2: *mut u8, l2: usize, t3: *mut u8, l3: usize,
         t4: *mut u8, l4: usize, t5: *mut u8, l5: usize, t6: *mut u8, l6: usize,
     ) -> u32;
@@ -66,8 +66,16 @@ unsafe extern "C" {
         t4: *const u8, l4: usize, t5: *const u8, l5: usize, t6: *const u8, l6: usize,
     ) -> u64;
     pub fn seek_raw_save(
-        head: *const u8, head_length: usize, t0: *const u8, l0: usize, t1: *const u8, l1: usize, t2: *const u8, l2: usize, t3: *const u8, l3: usize,
+        role: u32, head: *const u8, head_length: usize, t0: *const u8, l0: usize, t1: *const u8, l1: usize, t2: *const u8, l2: usize, t3: *const u8, l3: usize,
         t4: *const u8, l4: usize, t5: *const u8, l5: usize, t6: *const u8, l6: usize, out: *mut u8, out_length: usize,
+    ) -> u64;
+    pub fn seek_raw_view_length(
+        role: u32, head: *const u8, head_length: usize, t0: *const u8, l0: usize, t1: *const u8, l1: usize, t2: *const u8, l2: usize, t3: *const u8,
+        l3: usize, t4: *const u8, l4: usize, t5: *const u8, l5: usize, t6: *const u8, l6: usize,
+    ) -> u64;
+    pub fn seek_raw_view(
+        role: u32, head: *const u8, head_length: usize, t0: *const u8, l0: usize, t1: *const u8, l1: usize, t2: *const u8, l2: usize, t3: *const u8,
+        l3: usize, t4: *const u8, l4: usize, t5: *const u8, l5: usize, t6: *const u8, l6: usize, out: *mut u8, out_length: usize,
     ) -> u64;
     pub fn seek_raw_plan(
         head: *const u8, head_length: usize, frame: u32, answer: *mut u8, answer_length: usize, t0: *const u8, l0: usize, t1: *const u8, l1: usize,
@@ -78,7 +86,7 @@ unsafe extern "C" {
         l3: usize, t4: *const u8, l4: usize, t5: *const u8, l5: usize, t6: *const u8, l6: usize,
     ) -> u32;
     pub fn seek_raw_merge(
-        head: *mut u8, head_length: usize, other: *const u8, other_length: usize, t0: *mut u8, l0: usize, t1: *mut u8, l1: usize, t2: *mut
+        role: u32, head: *mut u8, head_length: usize, other: *const u8, other_length: usize, t0: *mut u8, l0: usize, t1: *mut u8, l1: usize, t2: *mut
         u8, l2: usize, t3: *mut u8, l3: usize, t4: *mut u8, l4: usize, t5: *mut u8, l5: usize, t6: *mut u8, l6: usize, u0: *const u8, m0:
         usize, u1: *const u8, m1: usize, u2: *const u8, m2: usize, u3: *const u8, m3: usize, u4: *const u8, m4: usize, u5: *const u8, m5:
         usize, u6: *const u8, m6: usize,
@@ -102,7 +110,7 @@ unsafe extern "C" {
         u5: *mut u8, m5: usize, u6: *mut u8, m6: usize,
     ) -> u32;
     pub fn seek_raw_merge_all(
-        head: *mut u8, head_length: usize, lengths: *const u8, lengths_length: usize, files: *const u8, files_length: usize, limit: u64, t0: *mut
+        role: u32, head: *mut u8, head_length: usize, lengths: *const u8, lengths_length: usize, files: *const u8, files_length: usize, limit: u64, t0: *mut
         u8, l0: usize, t1: *mut u8, l1: usize, t2: *mut u8, l2: usize, t3: *mut u8, l3: usize, t4: *mut u8, l4: usize, t5: *mut u8, l5: usize,
         t6: *mut u8, l6: usize, u0: *mut u8, m0: usize, u1: *mut u8, m1: usize, u2: *mut u8, m2: usize, u3: *mut u8, m3: usize, u4: *mut u8,
         m4: usize, u5: *mut u8, m5: usize, u6: *mut u8, m6: usize,
@@ -158,7 +166,7 @@ unsafe extern "C" {
         key_end1: u32, sectors1: u64, start1: u64, end1: u64, file: *const u8, length: usize, limit: u64, answer: *mut u8, answer_length: usize,
     ) -> u32;
     pub fn seek_raw_disc_load(
-        head: *mut u8, head_length: usize, other: *mut u8, other_length: usize, slot0: u8, channels0: u8, key_start0: u32, key_end0: u32, sectors0:
+        role: u32, head: *mut u8, head_length: usize, other: *mut u8, other_length: usize, slot0: u8, channels0: u8, key_start0: u32, key_end0: u32, sectors0:
         u64, start0: u64, end0: u64, slot1: u8, channels1: u8, key_start1: u32, key_end1: u32, sectors1: u64, start1: u64, end1: u64, file: *const
         u8, length: usize, limit: u64, answer: *mut u8, answer_length: usize, t0: *mut u8, l0: usize, t1: *mut u8, l1: usize, t2: *mut u8, l2:
         usize, t3: *mut u8, l3: usize, t4: *mut u8, l4: usize, t5: *mut u8, l5: usize, t6: *mut u8, l6: usize, u0: *mut u8, m0: usize, u1: *mut u8,
@@ -175,11 +183,11 @@ unsafe extern "C" {
         *const u8, m6: usize,
     ) -> u64;
     pub fn seek_raw_disc_save(
-        head: *const u8, head_length: usize, t0: *const u8, l0: usize, t1: *const u8, l1: usize, t2: *const u8, l2: usize, t3: *const u8, l3: usize,
+        role: u32, head: *const u8, head_length: usize, t0: *const u8, l0: usize, t1: *const u8, l1: usize, t2: *const u8, l2: usize, t3: *const u8, l3: usize,
         t4: *const u8, l4: usize, t5: *const u8, l5: usize, t6: *const u8, l6: usize, out: *mut u8, out_length: usize,
     ) -> u64;
     pub fn seek_raw_disc_save_both(
-        head: *const u8, head_length: usize, other: *const u8, other_length: usize, t0: *const u8, l0: usize, t1: *const u8, l1: usize, t2: *const
+        role: u32, head: *const u8, head_length: usize, other: *const u8, other_length: usize, t0: *const u8, l0: usize, t1: *const u8, l1: usize, t2: *const
         u8, l2: usize, t3: *const u8, l3: usize, t4: *const u8, l4: usize, t5: *const u8, l5: usize, t6: *const u8, l6: usize, u0: *const u8, m0:
         usize, u1: *const u8, m1: usize, u2: *const u8, m2: usize, u3: *const u8, m3: usize, u4: *const u8, m4: usize, u5: *const u8, m5: usize, u6:
         *const u8, m6: usize, out: *mut u8, out_length: usize,

@@ -1,6 +1,6 @@
 //! A list's life through the wrapper.
 
-use seek::{
+use seek::{Role, 
     Area, Brings, Checkpoint, Confirmation, Error, First, Frame, Held, Hint, HintEnd, HintStart, Hinted, Lacking, List, Plan, PlanRule, contents, first_record,
     load_disc, save_disc, sum, version,
 };
@@ -52,7 +52,7 @@ fn sums_and_sectors() {
 fn a_file_loads_plans_and_saves() {
     let bytes = file(5);
     assert_eq!(Area::of_file(&bytes), Ok(area()));
-    let list = List::load(area(), &bytes, u64::MAX).unwrap();
+    let list = List::load(Role::Workshop, area(), &bytes, u64::MAX).unwrap();
     assert_eq!((list.checkpoints(), list.hints(), list.is_complete()), (5, 0, false));
     let Plan::At(at) = list.plan(160).unwrap() else { panic!("no checkpoint") };
     assert_eq!((at.number, at.lsn, at.threshold, at.back), (2, 1100, 150, 40));
@@ -61,12 +61,12 @@ fn a_file_loads_plans_and_saves() {
     assert!(part.bytes.iter().enumerate().all(|(k, &b)| b == k as u8));
     let Plan::At(first) = list.plan(0).unwrap() else { panic!("no checkpoint") };
     assert_eq!((first.number, first.part), (0, None));
-    assert_eq!(list.save().unwrap(), bytes);
+    assert_eq!(list.save(Role::Workshop).unwrap(), bytes);
 }
 
 #[test]
 fn a_limit_drops_frames() {
-    let list = List::load(area(), &file(5), 100).unwrap();
+    let list = List::load(Role::Workshop, area(), &file(5), 100).unwrap();
     let Plan::At(at) = list.plan(160).unwrap() else { panic!("no checkpoint") };
     assert_eq!((at.lsn, at.part), (1100, None));
 }
@@ -75,11 +75,11 @@ fn a_limit_drops_frames() {
 fn every_cut_file_is_refused() {
     let bytes = file(3);
     for n in 0..bytes.len() {
-        assert!(List::load(area(), &bytes[..n], u64::MAX).is_err(), "{n} bytes are accepted");
+        assert!(List::load(Role::Workshop, area(), &bytes[..n], u64::MAX).is_err(), "{n} bytes are accepted");
     }
-    assert_eq!(List::load(area(), &bytes[..7], u64::MAX).err(), Some(Error::FileShort));
-    assert_eq!(List::load(area(), &bytes[..8], u64::MAX).err(), Some(Error::FileMagic));
-    assert_eq!(List::load(Area { channels: 6, ..area() }, &bytes, u64::MAX).err(), Some(Error::FileArea));
+    assert_eq!(List::load(Role::Workshop, area(), &bytes[..7], u64::MAX).err(), Some(Error::FileShort));
+    assert_eq!(List::load(Role::Workshop, area(), &bytes[..8], u64::MAX).err(), Some(Error::FileMagic));
+    assert_eq!(List::load(Role::Workshop, Area { channels: 6, ..area() }, &bytes, u64::MAX).err(), Some(Error::FileArea));
 }
 
 #[test]
@@ -91,8 +91,8 @@ fn a_new_list_is_empty() {
     assert_eq!(list.fingerprint(), Some(7));
     assert_eq!(list.bind_fingerprint(8), Err(Error::Fingerprint));
     assert_eq!(list.fingerprint(), Some(7));
-    let saved = list.save().unwrap();
-    assert_eq!(List::load(area(), &saved, u64::MAX).unwrap().fingerprint(), Some(7));
+    let saved = list.save(Role::Workshop).unwrap();
+    assert_eq!(List::load(Role::Workshop, area(), &saved, u64::MAX).unwrap().fingerprint(), Some(7));
     assert_eq!(List::new(area(), 0, 0, 8, 2048).err(), Some(Error::Numbers));
     assert_eq!(List::new(Area { slot: 2, ..area() }, 50, 0, 8, 2048).err(), Some(Error::Area));
     assert_eq!(Error::Numbers.number(), 2);
@@ -101,44 +101,44 @@ fn a_new_list_is_empty() {
 
 #[test]
 fn the_longer_list_is_merged() {
-    let mut short = List::load(area(), &file(2), u64::MAX).unwrap();
-    let long = List::load(area(), &file(5), u64::MAX).unwrap();
+    let mut short = List::load(Role::Workshop, area(), &file(2), u64::MAX).unwrap();
+    let long = List::load(Role::Workshop, area(), &file(5), u64::MAX).unwrap();
     assert_eq!(long.adds(&short), Ok(Brings::default()));
     assert_eq!(short.adds(&long), Ok(Brings { checkpoints: true, parts: true, ..Brings::default() }));
-    short.merge(&long).unwrap();
-    assert_eq!(short.save().unwrap(), file(5));
+    short.merge(Role::Workshop, &long).unwrap();
+    assert_eq!(short.save(Role::Workshop).unwrap(), file(5));
 }
 
 #[test]
 fn a_drawer_is_merged_whole_or_not() {
-    let mut own = List::load(area(), &file(1), u64::MAX).unwrap();
+    let mut own = List::load(Role::Workshop, area(), &file(1), u64::MAX).unwrap();
     let (short, long) = (file(2), file(5));
-    own.merge_all(&[&short, &long, &short], u64::MAX).unwrap();
-    assert_eq!(own.save().unwrap(), long);
-    own.merge_all(&vec![&short[..]; 16], 0).unwrap();
-    assert_eq!(own.merge_all(&vec![&short[..]; 17], 0), Err(Error::Set));
-    assert_eq!(own.merge_all(&[], 0), Err(Error::Set));
+    own.merge_all(Role::Workshop, &[&short, &long, &short], u64::MAX).unwrap();
+    assert_eq!(own.save(Role::Workshop).unwrap(), long);
+    own.merge_all(Role::Workshop, &vec![&short[..]; 16], 0).unwrap();
+    assert_eq!(own.merge_all(Role::Workshop, &vec![&short[..]; 17], 0), Err(Error::Set));
+    assert_eq!(own.merge_all(Role::Workshop, &[], 0), Err(Error::Set));
     let mut other = file(8);
     let at = other.len() - 8;
     other[80 + 24 * 4 + 16] ^= 1;
     let s = sum(&other[..at]);
     other[at..].copy_from_slice(&s.to_le_bytes());
-    assert_eq!(own.merge_all(&[&file(6), &other], u64::MAX), Err(Error::MergeCheckpoints));
-    assert_eq!(own.merge_all(&[&other, &long[1..]], u64::MAX), Err(Error::FileMagic));
-    assert_eq!(own.save().unwrap(), long);
+    assert_eq!(own.merge_all(Role::Workshop, &[&file(6), &other], u64::MAX), Err(Error::MergeCheckpoints));
+    assert_eq!(own.merge_all(Role::Workshop, &[&other, &long[1..]], u64::MAX), Err(Error::FileMagic));
+    assert_eq!(own.save(Role::Workshop).unwrap(), long);
 }
 
 #[test]
 fn a_limited_copy_lacks_what_no_merge_would_bring() {
-    let whole = List::load(area(), &file(5), u64::MAX).unwrap();
-    let copy = List::load(area(), &file(5), 0).unwrap();
+    let whole = List::load(Role::Workshop, area(), &file(5), u64::MAX).unwrap();
+    let copy = List::load(Role::Workshop, area(), &file(5), 0).unwrap();
     assert_eq!(copy.adds(&whole), Ok(Brings::default()));
     let lacking = copy.lacks(&whole).unwrap();
     assert!(lacking.parts > 0 && lacking.budget && lacking.most && !lacking.is_nothing());
     assert_eq!((lacking.checkpoints, lacking.end_state, lacking.hints), (0, false, whole.hints()));
     assert_eq!(whole.lacks(&copy), Ok(Lacking::default()));
     assert_eq!(whole.lacks(&whole), Ok(Lacking::default()));
-    let short = List::load(area(), &file(2), u64::MAX).unwrap();
+    let short = List::load(Role::Workshop, area(), &file(2), u64::MAX).unwrap();
     assert_eq!(short.lacks(&whole).unwrap().checkpoints, whole.checkpoints() - short.checkpoints());
     let mut bound = short.clone();
     bound.bind_fingerprint(7).unwrap();
@@ -175,8 +175,8 @@ fn a_reading_becomes_a_list() {
     let part = at.part.unwrap();
     assert_eq!((at.lsn, part.number, part.remaining, part.bytes), (1100, 100, -7, &bytes[..]));
     assert!(list.recorder(1000).unwrap().is_stopped());
-    let saved = list.save().unwrap();
-    assert_eq!(List::load(area(), &saved, u64::MAX).unwrap().save().unwrap(), saved);
+    let saved = list.save(Role::Workshop).unwrap();
+    assert_eq!(List::load(Role::Workshop, area(), &saved, u64::MAX).unwrap().save(Role::Workshop).unwrap(), saved);
 }
 
 #[test]
@@ -232,11 +232,11 @@ fn kept_hints_stay() {
     list.add_hints(&[Hint { lsn: 1010, number: 1_166_880 }]).unwrap();
     assert_eq!((list.hint_at(1), list.is_hint_kept(1), list.is_hint_kept(6)), (Some(Hint { lsn: 1010, number: 1_166_880 }), true, false));
 
-    let file = list.save().unwrap();
-    let mut loaded = List::load(area(), &file, u64::MAX).unwrap();
+    let file = list.save(Role::Workshop).unwrap();
+    let mut loaded = List::load(Role::Workshop, area(), &file, u64::MAX).unwrap();
     assert_eq!((loaded.hints(), loaded.kept_hints(), list.kept_hints()), (6, 0, 2));
     loaded.keep_hint(1080).unwrap();
-    list.merge(&loaded).unwrap();
+    list.merge(Role::Workshop, &loaded).unwrap();
     assert_eq!((list.kept_hints(), list.is_hint_kept(5)), (2, false));
     assert_eq!(Error::Keep.number(), 53);
 }
@@ -244,10 +244,10 @@ fn kept_hints_stay() {
 #[test]
 fn a_plan_names_its_rule() {
     let bytes = file(5);
-    let list = List::load(area(), &bytes, u64::MAX).unwrap();
+    let list = List::load(Role::Workshop, area(), &bytes, u64::MAX).unwrap();
     assert_eq!(list.plan(160).unwrap().rule(), PlanRule::HeldPart);
     assert_eq!(list.plan(0).unwrap().rule(), PlanRule::Checkpoint);
-    assert_eq!(List::load(area(), &bytes, 100).unwrap().plan(160).unwrap().rule(), PlanRule::Checkpoint);
+    assert_eq!(List::load(Role::Workshop, area(), &bytes, 100).unwrap().plan(160).unwrap().rule(), PlanRule::Checkpoint);
     assert_eq!(List::new(area(), 50, 0, 8, 2048).unwrap().plan(5).unwrap().rule(), PlanRule::AreaStart);
     assert_eq!(Plan::End { threshold: 1, malformed: 0 }.rule(), PlanRule::EndState);
 }
@@ -281,29 +281,29 @@ fn a_hint_names_how_it_was_chosen_and_its_end() {
 fn a_disc_file_holds_both_lists() {
     let (a0, a1) = (area(), Area { slot: 1, ..area() });
     let bytes = file(5);
-    let first = List::load(a0, &bytes, u64::MAX).unwrap();
+    let first = List::load(Role::Workshop, a0, &bytes, u64::MAX).unwrap();
     let second = List::new(a1, 50, 4096, 8, 100).unwrap();
-    let disc = save_disc(&second, Some(&first)).unwrap();
-    assert_eq!(disc, save_disc(&first, Some(&second)).unwrap());
+    let disc = save_disc(Role::Workshop, &second, Some(&first)).unwrap();
+    assert_eq!(disc, save_disc(Role::Workshop, &first, Some(&second)).unwrap());
     let [Some(at), Some(next)] = contents(&disc).unwrap() else { panic!("a list is missing") };
     assert_eq!((at.start, next.start, next.end), (28, at.end, disc.len()));
     assert_eq!(disc[at], bytes);
-    let [Some(x), Some(y)] = load_disc(a0, a1, &disc, u64::MAX).unwrap() else { panic!("a list is missing") };
-    assert_eq!((x.save(), y.save()), (first.save(), second.save()));
+    let [Some(x), Some(y)] = load_disc(Role::Workshop, a0, a1, &disc, u64::MAX).unwrap() else { panic!("a list is missing") };
+    assert_eq!((x.save(Role::Workshop), y.save(Role::Workshop)), (first.save(Role::Workshop), second.save(Role::Workshop)));
 
-    let alone = save_disc(&second, None).unwrap();
-    assert!(matches!(load_disc(a0, a1, &alone, u64::MAX), Ok([None, Some(_)])));
-    assert_eq!(save_disc(&first, Some(&first)), Err(Error::Disc));
+    let alone = save_disc(Role::Workshop, &second, None).unwrap();
+    assert!(matches!(load_disc(Role::Workshop, a0, a1, &alone, u64::MAX), Ok([None, Some(_)])));
+    assert_eq!(save_disc(Role::Workshop, &first, Some(&first)), Err(Error::Disc));
     assert_eq!(contents(&disc[1..]), Err(Error::Disc));
-    assert_eq!(load_disc(a1, a0, &disc, u64::MAX).err(), Some(Error::Area));
+    assert_eq!(load_disc(Role::Workshop, a1, a0, &disc, u64::MAX).err(), Some(Error::Area));
     let mut changed = disc.clone();
     changed[100] ^= 1;
-    assert_eq!(load_disc(a0, a1, &changed, u64::MAX).err(), Some(Error::FileSum));
+    assert_eq!(load_disc(Role::Workshop, a0, a1, &changed, u64::MAX).err(), Some(Error::FileSum));
 }
 
 #[test]
 fn what_a_list_holds_by_number() {
-    let mut list = List::load(area(), &file(5), u64::MAX).unwrap();
+    let mut list = List::load(Role::Workshop, area(), &file(5), u64::MAX).unwrap();
     assert_eq!((list.area(), list.interval(), list.budget(), list.spacing(), list.hint_limit()), (area(), 50, 4096, 8, 2048));
     assert_eq!((list.frontier(), list.end(), list.image(), list.parts(), list.malformed()), (1200, None, None, 1, 0));
     assert_eq!(list.checkpoint(2), Some(Checkpoint { lsn: 1100, threshold: 150, back: 40, malformed: 0, digest: 2 }));
@@ -315,9 +315,9 @@ fn what_a_list_holds_by_number() {
     assert!(list.keep_confirmation(1003, 4, 11).unwrap() && list.is_fingerprint_checked());
     assert_eq!((list.hint_at(0), list.hint_at(1)), (Some(Hint { lsn: 1003, number: 4 }), None));
     assert_eq!(list.confirmation(0), Some(Confirmation { lsn: 1003, threshold: 4, digest: 11 }));
-    assert_eq!(list.try_clone().unwrap().save(), list.save());
+    assert_eq!(list.try_clone().unwrap().save(Role::Workshop), list.save(Role::Workshop));
     assert!(format!("{list:?}").starts_with("List { area: Area { slot: 0, channels: 2"));
-    assert!(version() >= 10100);
+    assert!(version() >= 20000);
 }
 
 #[test]

@@ -237,7 +237,7 @@ static void say_saved(const seek_list *l, const seek_list *other, size_t length)
     size_t i;
     printf(" / save");
     say(seek_disc_saved_length(l, other));
-    answer = seek_disc_save(l, other, out + EDGE, length);
+    answer = seek_disc_save(SEEK_WORKSHOP, l, other, out + EDGE, length);
     say(answer);
     say(seek_raw_sum(out + EDGE, length));
     for (i = 0; i < EDGE; i++)
@@ -272,7 +272,7 @@ static void load_case(void)
         say((uint64_t)c.present[s]), say(c.offset[s]), say(c.length[s]);
     printf(" / sizes %" PRIu32, seek_disc_sizes(&areas[0], &areas[1], file, length, limit, &sizes[0], &sizes[1]));
     say_sizes(&sizes[0]), say_sizes(&sizes[1]);
-    answer = seek_disc_load(&lists[0], &lists[1], &areas[0], &areas[1], file, length, limit, present);
+    answer = seek_disc_load(SEEK_WORKSHOP, &lists[0], &lists[1], &areas[0], &areas[1], file, length, limit, present);
     printf(" / load %" PRIu64 " %d %d", answer, present[0], present[1]);
     for (s = 0; s < 2; s++) {
         int holds = answer == 0 && present[s];
@@ -328,7 +328,7 @@ static void pair_case(void)
         numbers(lengths, TABLES);
         file = bytes(&length);
         lend(s, lengths);
-        refused[s] = seek_load(&lists[s], &a, file, length, limit);
+        refused[s] = seek_load(SEEK_WORKSHOP, &lists[s], &a, file, length, limit);
         say(refused[s]);
         if (refused[s] == 0)
             take(s);

@@ -216,7 +216,7 @@ static void own_list(const seek_area *a)
         memcpy(block[OWN] + place[k], known + place[k], near);
         memcpy(block[TURN] + place[k], known + place[k], near);
     }
-    if (seek_load(&lists[OWN], a, file, length, limit) != 0)
+    if (seek_load(SEEK_WORKSHOP, &lists[OWN], a, file, length, limit) != 0)
         stop("the own list is not loaded");
     numbers(stated, 2);
     if (stated[0] && seek_fingerprint(&lists[OWN], stated[1]) != 0)
@@ -239,9 +239,9 @@ static uint32_t in_turn(const seek_area *a, const uint8_t *files, const uint64_t
     uint32_t n = 0;
     size_t i;
     for (i = 0; i < count && n == 0; i++) {
-        n = seek_load(&lists[OTHER], a, files, (size_t)lengths[i], limit);
+        n = seek_load(SEEK_WORKSHOP, &lists[OTHER], a, files, (size_t)lengths[i], limit);
         if (n == 0)
-            n = seek_merge(&lists[TURN], &lists[OTHER]);
+            n = seek_merge(SEEK_WORKSHOP, &lists[TURN], &lists[OTHER]);
         files += lengths[i];
     }
     return n;
@@ -280,7 +280,7 @@ static void say_list(void)
         say(n / width[k]);
         say(n == 0 ? 0 : seek_raw_sum(block[OWN] + place[k], n));
     }
-    length = seek_save(l, out, OUT_MOST);
+    length = seek_save(SEEK_WORKSHOP, l, out, OUT_MOST);
     printf(" / save");
     say(length);
     say(seek_refused(length) ? 0 : seek_sum(out, (size_t)length));
@@ -296,11 +296,11 @@ static uint32_t merge_all(size_t head, const uint64_t *lengths, size_t count, co
     uint8_t *raw = lengths_end - 8 * count - rest_length;
     size_t i;
     if (head == SEEK_BLOCK && rest_length == 0)
-        return seek_merge_all(&lists[OWN], files, files_length, lengths, count, limit, &lists[WORK]);
+        return seek_merge_all(SEEK_WORKSHOP, &lists[OWN], files, files_length, lengths, count, limit, &lists[WORK]);
     for (i = 0; i < 8 * count; i++)
         raw[i] = (uint8_t)(lengths[i / 8] >> 8 * (i % 8));
     memmove(raw + 8 * count, rest, rest_length);
-    return seek_raw_merge_all(lists[OWN].head, head, raw, 8 * count + rest_length, files, files_length, limit, SEVEN(lists[OWN]), SEVEN(lists[WORK]));
+    return seek_raw_merge_all(SEEK_WORKSHOP, lists[OWN].head, head, raw, 8 * count + rest_length, files, files_length, limit, SEVEN(lists[OWN]), SEVEN(lists[WORK]));
 }
 
 static void set_case(void)

@@ -521,7 +521,7 @@ static void merge_one(int p, int q)
         stop("seek_lacks counts other hints");
     if (!unchanged(p))
         stop("seek_adds or seek_lacks writes");
-    expect(MERGE, seek_merge(&lists[p], &lists[q]), 0);
+    expect(MERGE, seek_merge(SEEK_WORKSHOP, &lists[p], &lists[q]), 0);
     others_marks += kept_count(&models[q]) > 0;
     arrive(&models[p], models[q].held, models[q].count, &of_merge);
     same_kept(p, 0, 0);
@@ -548,19 +548,19 @@ static void reload_one(int p, int q)
     seek_table_sizes sizes;
     int thinned;
     remember(p);
-    if (told_length(SAVE, seek_save(&lists[p], saved, n)) != 0 || seek_saved_length(&lists[p]) != n || memcmp(saved, file, n) != 0 || !unchanged(p))
+    if (told_length(SAVE, seek_save(SEEK_WORKSHOP, &lists[p], saved, n)) != 0 || seek_saved_length(&lists[p]) != n || memcmp(saved, file, n) != 0 || !unchanged(p))
         stop("another file is saved");
-    expect(SAVE, (uint32_t)seek_save(&lists[p], saved, n - 1), 40);
+    expect(SAVE, (uint32_t)seek_save(SEEK_WORKSHOP, &lists[p], saved, n - 1), 40);
     if (m->count > 0 && chance(20)) {
         file[FIRST_HINT + 8 * (size_t)below(m->count) + 7] = (uint8_t)(1 + below(255));
         summed(file + n - 8);
-        expect(LOAD, seek_load(&lists[p], &area, file, n, limit), 36);
+        expect(LOAD, seek_load(SEEK_WORKSHOP, &lists[p], &area, file, n, limit), 36);
         if (!unchanged(p))
             stop("a refused file is loaded");
     }
     if (seek_file_sizes(&area, saved, n, limit, &sizes) || !seek_carve(&lists[q], &sizes, memory[q], MEMORY))
         stop("no sizes of a file");
-    expect(LOAD, seek_load(&lists[q], &area, saved, n, limit), 0);
+    expect(LOAD, seek_load(SEEK_WORKSHOP, &lists[q], &area, saved, n, limit), 0);
     if (p != q) {
         models[q].most = m->most;
         models[q].count = m->count;
@@ -681,9 +681,9 @@ static void refuse_all(int p, int q, uint32_t no)
     expect(ADDS, seek_adds(&lists[q], l, &b), no);
     expect(LACKS, seek_lacks(l, &lists[q], &k), no);
     expect(LACKS, seek_lacks(&lists[q], l, &k), no);
-    expect(MERGE, seek_merge(l, &lists[q]), no);
-    expect(MERGE, seek_merge(&lists[q], l), no);
-    expect(SAVE, (uint32_t)seek_save(l, saved, 8 * (size_t)LARGEST), no);
+    expect(MERGE, seek_merge(SEEK_WORKSHOP, l, &lists[q]), no);
+    expect(MERGE, seek_merge(SEEK_WORKSHOP, &lists[q], l), no);
+    expect(SAVE, (uint32_t)seek_save(SEEK_WORKSHOP, l, saved, 8 * (size_t)LARGEST), no);
     expect(SAVE, (uint32_t)seek_saved_length(l), no);
     expect(HINT, seek_hint(l, 5, 4, 9, &h), no);
     expect(PLAN, seek_plan(l, 5, &j), no);

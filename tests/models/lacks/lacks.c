@@ -387,7 +387,7 @@ static int load(int place, const values *v, uint64_t limit)
     seek_list *l = &lists[place];
     if (seek_file_area(file, n, &a) || seek_file_sizes(&a, file, n, limit, &sizes[place]) || !seek_carve(l, &sizes[place], memory[place], MEMORY))
         return 0;
-    if (seek_load(l, &a, file, n, limit))
+    if (seek_load(SEEK_WORKSHOP, l, &a, file, n, limit))
         return 0;
     if (v->stated && chance(50) && seek_fingerprint(l, v->fingerprint))
         exit(2);
@@ -604,7 +604,7 @@ static int look_merge(int own, int other)
     seek_list *l = &lists[own];
     int k;
     copy(4, own);
-    if (seek_merge(&lists[4], &lists[other]))
+    if (seek_merge(SEEK_WORKSHOP, &lists[4], &lists[other]))
         return fail("the merge is refused");
     if (!seek_has_image(l))
         memcpy(lists[4].head + 8 * 22, l->head + 8 * 22, 16);
@@ -641,7 +641,7 @@ static int look_merged(int own, int other)
     seek_lacking a, b;
     uint64_t most = seek_hint_limit(&lists[own]);
     copy(3, own);
-    if (seek_merge(&lists[3], &lists[other]))
+    if (seek_merge(SEEK_WORKSHOP, &lists[3], &lists[other]))
         return fail("a merge is refused that lacks accepts");
     merges++;
     if (seek_lacks(&lists[3], &lists[own], &a) || seek_lacks(&lists[3], &lists[other], &b))

@@ -329,7 +329,7 @@ static void merge_one(int p, int q)
     uint64_t n = seek_hint_count(&lists[p]);
     int other = replaces(m, models[q].held), changed;
     memcpy(before, lists[p].hints.at, 8 * (size_t)n);
-    if (seek_adds(&lists[p], &lists[q], &b) || seek_merge(&lists[p], &lists[q]))
+    if (seek_adds(&lists[p], &lists[q], &b) || seek_merge(SEEK_WORKSHOP, &lists[p], &lists[q]))
         stop("a merge is refused");
     of_merge.lists++;
     of_merge.replace += (uint64_t)other;
