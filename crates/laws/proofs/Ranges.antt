@@ -52,9 +52,7 @@ boundaries-small a k l = go (boundaries a k) refl
 pub frontier-small : (a : Area) (k n : ℕ) (e : Option EndState) → 1 ≤ k → AreaFacts a → n ≤ boundaries a k → frontierOf a k n e ≤ a .end
 unfolding frontierOf
 frontier-small a k zero none l f h = omega arith
-frontier-small a k (suc n) none l f h =
-    let e : suc n - 1 ≡ n = omega arith in
-    rw e (let g = in-boundary a k n l h in omega arith)
+frontier-small a k (suc n) none l f h = let g = in-boundary a k n l h in omega arith
 frontier-small a k n (some e) l f h = omega arith
 
 -- ---- the sections

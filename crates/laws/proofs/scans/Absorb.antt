@@ -13,7 +13,7 @@ use Rattle.rules.specs.declared.Area.{Area}
 use Rattle.rules.specs.declared.Checkpoint.{Checkpoint}
 use Rattle.rules.specs.declared.EndState.{EndState}
 use Rattle.rules.specs.Tests.{isSome, orElse, agree}
-use Rattle.rules.specs.Values.{Scan, Index, Recorder, Lengths, maxMalformed, lastCheckpoint, boundaries, frontierOf, frontier, counted, count, sameEnd}
+use Rattle.rules.specs.Values.{Scan, Index, Recorder, Lengths, maxMalformed, lastCheckpoint, boundaries, lsnOf, frontierOf, frontier, counted, count, sameEnd}
 use Rattle.rules.specs.Sections.{begun, passed, checkpointOk, checkpointsOk, endOk, endingOk, malformedOk, rising}
 use Rattle.rules.specs.Questions.{scanOk, question1, question2, question4, recorderQuestion1, recorderQuestion2, recorderQuestion4, endOf}
 use Rattle.rules.specs.Record.{question9, question10, question11, question12, below, joined, moves, absorbedIndex, isStopped, absorbNumber}
@@ -21,6 +21,7 @@ use Rattle.laws.specs.Kept.{Sound, SoundIndex}
 use Rattle.rules.proofs.Tests.{test, never, choose, nil-of, and-left, and-right, or-cases, implied, all→, →all, asked, agree-eq}
 use Rattle.rules.proofs.Walk.{Snoc, ends, length-snoc, lastOr-none, lastOr-snoc, arrived, walk-none, walk-last}
 use Rattle.rules.proofs.Same.{sameEnd-eq, sameArea-eq}
+use Rattle.rules.proofs.Frontier.{frontier-open}
 use Rattle.laws.proofs.scans.Scans.{in-boundary, passed-number, checkpoint→, checkpoints-walk, StretchIs, RecorderIs, recorder→, ScanIs, scan→, →scan, malformed-length}
 use Rattle.laws.proofs.scans.Merge.{index-takes}
 use Rattle.laws.proofs.scans.Record.{interval-pos}
@@ -70,6 +71,8 @@ module _ (a : Area) (k first : ℕ) (cs ds : List Checkpoint) (ms : List ℕ) (p
   still none none h x f f' g m =
       let es = drop (length cs - first) ds in
       let n = length-append cs es in
+      let now = frontier-open a k (length (cs ++ es)) in
+      let was = frontier-open a k (length cs) in
       let b : length (cs ++ es) - 1 ≤ length cs - 1 = le-of-mul-le-mul-right {m = length (cs ++ es) - 1} {n = length cs - 1} {k = k} (omega arith) pos in
       ⊎-elim
       (λ (z : 0 ≡ length cs).
@@ -80,11 +83,12 @@ module _ (a : Area) (k first : ℕ) (cs ds : List Checkpoint) (ms : List ℕ) (p
       let q : checkpointsOk k 0 ds ≡ true = rw o at ok' in
       let t : lastCheckpoint ds .malformed ≡ lastCheckpoint cs .malformed = first-count k ds q l ∙ sym (first-count k cs (h .checkpoints) (omega arith)) in
       let u : length ds - 1 ≡ length cs - 1 = omega arith in
-      rw c (record { checkpoints = q; ending = refl; malformed = rw (u, t) (h .malformed) }))
+      let same : frontierOf a k (length ds) none ≡ frontierOf a k (length cs) none = frontier-open a k (length ds) ∙ ap (lsnOf a k) u ∙ sym was in
+      rw c (record { checkpoints = q; ending = refl; malformed = rw (same, t) (h .malformed) }))
       (λ (z : 0 < length cs). rw (append-none cs es (omega arith)) h)
       (eq-or-lt-of-le (let z : 0 ≤ length cs = omega arith in z))
   still none (some w) h x f f' g m =
-      let full = f' refl in let t = all→ _ x in let lo = leb-true (w .malformed) (a .end - a .start) (t .1 .1 .1 .0) in
+      let full = f' refl in let was = frontier-open a k (length cs) in let t = all→ _ x in let lo = leb-true (w .malformed) (a .end - a .start) (t .1 .1 .1 .0) in
       ⊎-elim
       (λ (z : 0 ≡ length cs).
       let y : (length cs - 1) * k ≡ 0 = ap (λ (i : ℕ). i * k) (let y : length cs - 1 ≡ 0 = omega arith in y) ∙ zero-mul k in

@@ -1,5 +1,7 @@
 use Rattle.sections.specs.Numbers.{endIn}
 use Rattle.rules.specs.Values.{frontierOf}
+use Rattle.rules.proofs.Frontier.{frontier-open}
+use mathlib.Core.Path.{_∙_, sym}
 use borrow.Author.Needs.{needs}
 use Rattle.sections.proofs.frontier_of.Statement.{statement}
 use Rattle.sections.proofs.frontier_of.Tie as tie
@@ -9,8 +11,8 @@ unfolding frontierOf endIn
 returns c = rw (c .before .enum-told .given .1, c .if1 .taken) (search needs)
 
 returns-2 : tie.Need-returns-2
-unfolding frontierOf endIn
-returns-2 c = rw (c .before .before .enum-told .given .1) (c .lsn-at .ensures)
+unfolding endIn
+returns-2 c = rw (c .before .before .enum-told .given .1) (c .lsn-at .ensures ∙ sym (frontier-open _ _ _))
 
 returns-3 : tie.Need-returns-3
 unfolding frontierOf endIn

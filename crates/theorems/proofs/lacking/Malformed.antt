@@ -1,5 +1,5 @@
 -- Of two lists cut from one reading a merged list lacks no malformed LSN. Assumes nothing.
-use mathlib.Core.Path.{_≡_, refl, sym, subst, _∙_}
+use mathlib.Core.Path.{_≡_, refl, sym, ap, subst, _∙_}
 use mathlib.Core.Bool.{Bool, true, false, not, _&&_}
 use mathlib.Core.Logic.{⊎-elim}
 use mathlib.Core.List.{List, [], _∷_}
@@ -27,6 +27,7 @@ use Rattle.laws.proofs.hint_lists.Rising.{rises-all}
 use Rattle.laws.proofs.scans.Record.{interval-pos}
 use Rattle.laws.proofs.scans.Scans.{in-boundary}
 use Rattle.theorems.proofs.ScanLaws.{Counts}
+use Rattle.rules.proofs.Frontier.{frontier-open}
 use Rattle.theorems.proofs.CutLaws.{cut-counts, cut-merged}
 use Rattle.rules_lacks.specs.Lacks.{covers, lacking}
 use Rattle.rules_lacks.proofs.Laws.{Found, →covers, none-missing}
@@ -37,9 +38,14 @@ use Rattle.theorems.proofs.lacking.MergeLacks.{merge-lacks}
 frontier-order : (a : Area) (k n m : ℕ) (e d : Option EndState) → 1 ≤ k → a .start ≤ a .end → n ≤ m → n ≤ boundaries a k → (isSome e ≡ true → isSome d ≡ true)
     → frontierOf a k n e ≤ frontierOf a k m d
 unfolding frontierOf isSome
-frontier-order a k n m none none hk ha l w f = let h : (n - 1) * k ≤ (m - 1) * k = mul-le-mul-right {m = n - 1} {n = m - 1} k (omega arith) in omega arith
+frontier-order a k n m none none hk ha l w f =
+    let was = frontier-open a k n in
+    let now = frontier-open a k m in
+    let h : (n - 1) * k ≤ (m - 1) * k = mul-le-mul-right {m = n - 1} {n = m - 1} k (omega arith) in omega arith
 frontier-order a k n m none (some v) hk ha l w f =
-    ⊎-elim (λ (z : 0 ≡ n). let e : n - 1 ≡ 0 = omega arith in rw (e, zero-mul k) (omega arith)) (λ (z : 0 < n). let h = in-boundary a k (n - 1) hk (omega arith) in omega arith)
+    let was = frontier-open a k n in
+    ⊎-elim (λ (z : 0 ≡ n). let e : n - 1 ≡ 0 = omega arith in let o : (n - 1) * k ≡ 0 = ap (λ (i : ℕ). i * k) e ∙ zero-mul k in omega arith)
+    (λ (z : 0 < n). let h = in-boundary a k (n - 1) hk (omega arith) in omega arith)
     (eq-or-lt-of-le (let z : 0 ≤ n = omega arith in z))
 frontier-order a k n m (some v) none hk ha l w f = never {b = false} (f refl) refl
 frontier-order a k n m (some v) (some u) hk ha l w f = omega arith
