@@ -1,4 +1,4 @@
-// Thinning of hints without a second table: the cutoff gap by bisection, then one pass that keeps what stays.
+// Thinning of hints without a second table: the cutoff gap by counting passes, then one pass that keeps what stays.
 pub mod gaps;
 
 use crate::gaps::gap_of;
@@ -55,21 +55,40 @@ pub struct Cut {
     pub rest: usize,
 }
 
-// A gap between two bounds: the middle, but below the double of the lower one and 64 as long as the upper one is 2^32 + 1.
-fn probe(low: u64, high: u64) -> u64
+// The next gap to count at: `first`, then ever farther from it until it lies between two counted ones, then the middle.
+fn probe(low: u64, high: u64, first: u64) -> u64
     requires { ⌜ (low + 1 < high) × (high ≤ 4294967297) ⌝ }
     ensures { λ r. ⌜ (low < r) × (r < high) ⌝ }
 {
     let mid = (low + high) / 2;
-    if high < 4294967297 {
+    if high == 4294967297 {
+        if low < first {
+            if first < high {
+                return first;
+            }
+            return mid;
+        }
+        let near = low + (low - first) * 3 + 1;
+        if near < high {
+            return near;
+        }
         return mid;
     }
-    let near = low * 2 + 64;
-    if near < mid { near } else { mid }
+    if low != 0 {
+        return mid;
+    }
+    if first < high {
+        return mid;
+    }
+    let far = first - high;
+    if far < high / 4 {
+        return high - far * 3 - 1;
+    }
+    mid
 }
 
-// The cutoff that drops `excess` of the n hints, by bisection.
-pub fn cutoff(t: &[u8], n: usize, excess: usize) -> Cut
+// The cutoff that drops `excess` of the n hints, looked for from the gap `first` outward, then by bisection.
+fn cutoff_near(t: &[u8], n: usize, excess: usize, first: u64) -> Cut
     requires { ⌜ (n * 8 ≤ length (now t)) × (excess ≤ n) ⌝ }
     ensures { λ r. ⌜ Cuts (keptIn n (now (t .entry))) excess r ⌝ }
 {
@@ -77,7 +96,7 @@ pub fn cutoff(t: &[u8], n: usize, excess: usize) -> Cut
     let mut high: u64 = 4294967297;
     let mut less: usize = 0;
     while low + 1 < high {
-        let mid = probe(low, high);
+        let mid = probe(low, high, first);
         let m = count_below(t, n, mid);
         if m == excess {
             return Cut { gap: mid, rest: 0 };
@@ -93,6 +112,15 @@ pub fn cutoff(t: &[u8], n: usize, excess: usize) -> Cut
         gap: low,
         rest: excess - less,
     }
+}
+
+// The cutoff that drops `excess` of the n hints, looked for from that of their first sixteenth.
+pub fn cutoff(t: &[u8], n: usize, excess: usize) -> Cut
+    requires { ⌜ (n * 8 ≤ length (now t)) × (excess ≤ n) ⌝ }
+    ensures { λ r. ⌜ Cuts (keptIn n (now (t .entry))) excess r ⌝ }
+{
+    let few = cutoff_near(t, n / 16, excess / 16, 64);
+    cutoff_near(t, n, excess, few.gap)
 }
 
 // One less where `hit`, and 0 of 0.

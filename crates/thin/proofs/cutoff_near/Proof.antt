@@ -6,14 +6,14 @@ use Rattle.thin.specs.Thin.{lower}
 use Rattle.thin.proofs.Ranks.{below-zero}
 use Rattle.thin.proofs.Steps.{high-start, found-cut, last-cut}
 use borrow.Author.Needs.{needs}
-use Rattle.thin.proofs.cutoff.Statement.{statement}
-use Rattle.thin.proofs.cutoff.Tie as tie
+use Rattle.thin.proofs.cutoff_near.Statement.{statement}
+use Rattle.thin.proofs.cutoff_near.Tie as tie
 
 abbrev Inv-loop : tie.InvT-loop
-Inv-loop t n excess low₀ high₀ less₀ low high less = (low < high) × (high ≤ 4294967297) × (less ≤ excess) × (less ≡ lower (keptIn n t) low) × (excess ≤ lower (keptIn n t) high)
+Inv-loop t n excess first low₀ high₀ less₀ low high less = (low < high) × (high ≤ 4294967297) × (less ≤ excess) × (less ≡ lower (keptIn n t) low) × (excess ≤ lower (keptIn n t) high)
 
 abbrev μ-loop : tie.MeasureT-loop
-μ-loop t n excess low₀ high₀ less₀ low high less = high - low
+μ-loop t n excess first low₀ high₀ less₀ low high less = high - low
 
 loop-holds : tie.Need-loop-holds Inv-loop μ-loop
 loop-holds c = (omega arith, omega arith, omega arith, sym (below-zero _ _), high-start _ _ _ (λ i. (c .shared-slice-known .given) i .fits) (c .before .pre .1))
@@ -24,8 +24,8 @@ returns c = found-cut _ (c .before .count-below .ensures) (c .if1 .taken)
 returns-2 : tie.Need-returns-2 Inv-loop μ-loop
 returns-2 c = last-cut _ (c .before .loop .inv .3) (c .before .loop .inv .2) (c .before .loop .inv .4) (c .loop-test .left)
 
-pub cutoff-spec : {M : Type 1} → statement M
-cutoff-spec =
+pub cutoff-near-spec : {M : Type 1} → statement M
+cutoff-near-spec =
     tie.close
     (tie.spec
     Inv-loop
