@@ -1,7 +1,7 @@
 //! Hints and confirmations: adding, keeping, seeing.
 
 use crate::limits::Work;
-use crate::lists::{List, confirmation, hint, list};
+use crate::lists::{List, confirmation, hint, list, uneven};
 use crate::plain::shuffled;
 use crate::raw::BLOCK;
 use crate::report::{Report, Row, grouped};
@@ -49,11 +49,19 @@ fn adding(r: &Report) {
     add(r, "64 to 2,048, between, rising", &small, every(1..4_096, 64), 0.7);
     add(r, "64 to 2,048, between, not rising", &small, shuffled(&every(1..4_096, 64)), 1.0);
     add(r, "2,048 to 2,048, rising, thinned from 4,096 to 1,536", &holding(2_048, 2_048), every(1..4_096, 2), 0.7);
+    let (held, given) = halves(&uneven(4_096));
+    let held = List { hints: held, ..holding(2_048, 0) };
+    add(r, "2,048 to 2,048, rising by 1 to 159, thinned from 4,096 to 1,536", &held, given, 0.7);
     add(r, "65,536 to 65,536, all known, rising", &large, known.clone(), 0.7);
     add(r, "65,536 to 65,536, all known, not rising", &large, shuffled(&known), 1.0);
     add(r, "65,536 to 65,536, rising, thinned from 131,072 to 49,152", &large, new.clone(), 0.7);
     add(r, "65,536 to 65,536, not rising, thinned from 131,072 to 49,152", &large, shuffled(&new), 1.0);
     add(r, "65,536 to none, not rising", &holding(65_536, 0), shuffled(&known), 1.0);
+}
+
+/// Every second hint from the first on, and those between.
+fn halves(hints: &[(u32, u32)]) -> (Vec<(u32, u32)>, Vec<(u32, u32)>) {
+    hints.chunks_exact(2).map(|two| (two[0], two[1])).unzip()
 }
 
 /// Hints as the library takes them.

@@ -1,5 +1,7 @@
 //! List files for the benches, written from docs/FILE.md.
 
+use crate::plain::bytes;
+
 /// An area's numbers.
 #[derive(Clone, Copy)]
 pub struct Area {
@@ -82,6 +84,11 @@ fn close(i: u32) -> (u32, u32) {
 /// The hint numbered `i`: every third sector.
 pub fn hint(i: u32) -> (u32, u32) {
     (START + 3 * i, number(i))
+}
+
+/// So many hints, whose frame numbers rise by 1 to 159 without a pattern, as on a disc of an hour and more.
+pub fn uneven(n: u32) -> Vec<(u32, u32)> {
+    bytes(n as usize).iter().zip(0..n).map(|(&b, i)| (START + 3 * i, 80 * i + u32::from(b % 80))).collect()
 }
 
 /// The confirmation numbered `i`.
