@@ -20,10 +20,26 @@ loop-holds : tie.Need-loop-holds Inv-loop μ-loop
 loop-holds c = (omega arith, refl, pass-start _ _ _ (c .first-place .ensures))
 
 turn-requires : tie.Need-turn-requires Inv-loop μ-loop
-turn-requires c κs = pass-within _ _ (c .before .before .before .before .loop .inv .2) (c .before .before .before .loop-test .taken) (omega arith)
+turn-requires c κs =
+    let turn : tie.In-loop Inv-loop μ-loop = search in
+    let head : tie.At-loop Inv-loop μ-loop = search in
+    pass-within _ _ (head .loop .inv .2) (turn .loop-test .taken) (omega arith)
 
 loop-again : tie.Need-loop-again Inv-loop μ-loop
-loop-again c = let u = c .before .before .before .before .before .before .before .loop .inv .2 in let l = c .before .before .before .before .before .before .loop-test .taken in let v = c .before .before .turn in let f : c .before .before .before .before .read-hint .result .number < 4294967296 = omega arith in let e = (c .before .before .before .before .read-hint .ensures) ∙ begins-at kept-layout (u .starts) _ (pass-short u) in (omega arith, omega (arith, (v .kept)), pass-step _ _ u l e f (pass-within _ _ u l (omega arith)) (v .ensures .0) (v .ensures .1))
+loop-again c =
+    let read : tie.After-read-hint Inv-loop μ-loop = search in
+    let f : read .read-hint .result .number < 4294967296 = omega arith in
+    let gone : tie.After-turn Inv-loop μ-loop = search in
+    let turn : tie.In-loop Inv-loop μ-loop = search in
+    let head : tie.At-loop Inv-loop μ-loop = search in
+    let u = head .loop .inv .2 in
+    let e = (read .read-hint .ensures) ∙ begins-at kept-layout (u .starts) _ (pass-short u) in
+    let l = turn .loop-test .taken in
+    let v = gone .turn in (
+      omega arith,
+      omega (arith, v .kept),
+      pass-step _ _ u l e f (pass-within _ _ u l (omega arith)) (v .ensures .0) (v .ensures .1),
+    )
 
 same-length : tie.Need-same-length Inv-loop μ-loop
 same-length c = (c .before .loop .inv .1)

@@ -16,10 +16,19 @@ loop-holds : tie.Need-loop-holds Inv-loop μ-loop
 loop-holds c = (omega arith, count-start _ _)
 
 add-found : tie.Need-add-found Inv-loop μ-loop
-add-found c = omega (arith, count-short (c .before .before .before .before .loop .inv .1), (c .one-of .ensures))
+add-found c =
+    let head : tie.At-loop Inv-loop μ-loop = search in
+    omega (arith, count-short (head .loop .inv .1), c .one-of .ensures)
 
 loop-again : tie.Need-loop-again Inv-loop μ-loop
-loop-again c = let f : c .before .before .read-hint .result .number < 4294967296 = omega arith in (omega arith, count-step (c .before .before .before .before .loop .inv .1) (hint-seen _ _ _ (c .before .before .before .loop-test .taken) (c .before .before .read-hint .ensures)) f (c .before .is-within .ensures) (c .one-of .ensures .0))
+loop-again c =
+    let read : tie.After-read-hint Inv-loop μ-loop = search in
+    let f : read .read-hint .result .number < 4294967296 = omega arith in
+    let asked : tie.After-is-within Inv-loop μ-loop = search in
+    let turn : tie.In-loop Inv-loop μ-loop = search in
+    let head : tie.At-loop Inv-loop μ-loop = search in
+    let h = hint-seen _ _ _ (turn .loop-test .taken) (read .read-hint .ensures) in
+    (omega arith, count-step (head .loop .inv .1) h f (asked .is-within .ensures) (c .one-of .ensures .0))
 
 returns : tie.Need-returns Inv-loop μ-loop
 returns c = count-end _ _ (c .before .loop .inv .1) (c .before .loop .inv .0) (c .loop-test .left)

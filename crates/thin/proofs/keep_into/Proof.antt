@@ -23,7 +23,8 @@ turn-requires c κs =
     let head : tie.At-loop Inv-loop μ-loop = search in
     let start : tie.Start Inv-loop μ-loop = search in
     let f : c .read-hint .result .number < 4294967296 = omega arith in
-    pass-room _ _ (head .loop .inv .2) (turn .loop-test .taken) (c .read-hint .ensures) f (omega (arith, start .pre, head .loop .inv .1))
+    pass-room _ _ (head .loop .inv .2) (turn .loop-test .taken) (c .read-hint .ensures) f
+    (omega (arith, start .pre, head .loop .inv .1))
 
 loop-again : tie.Need-loop-again Inv-loop μ-loop
 loop-again c =
@@ -36,8 +37,11 @@ loop-again c =
     let e = read .read-hint .ensures in
     let u = head .loop .inv .2 in
     let l = turn .loop-test .taken in
-    let v = gone .turn in
-    (omega arith, omega (arith, v .kept), pass-step _ _ u l e f (pass-room _ _ u l e f (omega (arith, start .pre))) (v .ensures .0) (v .ensures .1))
+    let v = gone .turn in (
+      omega arith,
+      omega (arith, v .kept),
+      pass-step _ _ u l e f (pass-room _ _ u l e f (omega (arith, start .pre))) (v .ensures .0) (v .ensures .1),
+    )
 
 same-length : tie.Need-same-length Inv-loop μ-loop
 same-length c = (c .before .loop .inv .1)
