@@ -1,15 +1,16 @@
 -- What the passes over a table of hints compute: a cutoff gap, how many at it go, and the hints that stay.
-use mathlib.Core.Path.{_≡_}
-use Prim.Native.Nat.{ℕ, zero, suc, _+_, _-_, _*_, _≤_}
+use Prim.Native.Nat.{ℕ, zero, suc, _+_, _-_}
 use mathlib.Core.Bool.{Bool, cond, _&&_, _||_}
 use mathlib.Core.List.{List}
-use lib.Dec.{eqb, leb, ltb}
+use lib.Dec.{eqb, ltb}
 use lib.ListN.{length, getD}
 use Rattle.rules.specs.declared.Hint.{Hint}
 use Rattle.rules.specs.Values.{noHint, max32}
 use Rattle.rules.specs.Sections.{isKept}
-use Rattle.rules.specs.Hints.{countOf, rise, gap, kept}
+use Rattle.rules.specs.Hints.{countOf, rise, kept}
 use Rattle.tables.specs.Tables.{encodeKept}
+use Rattle.laws.specs.Cutoff.{below, stays}
+use Rattle.laws.specs.Cutoff as cutoff
 use Rattle.laws.specs.Passes.{Begins}
 use Rattle.thin.specs.declared.Cut.{Cut}
 use Rattle.thin.specs.declared.Place.{Place}
@@ -17,25 +18,13 @@ use Rattle.thin.specs.declared.Place.{Place}
 abbrev pub one : Bool → ℕ
 one b = cond b 1 0
 
--- is the gap at place k below g?
-unfoldable pub below : List Hint → ℕ → ℕ → Bool
-below hs g k = ltb (gap hs k) g
-
 -- how many gaps are below g
 abbrev pub lower : List Hint → ℕ → ℕ
 lower hs g = countOf (below hs g) (length hs)
 
--- is the gap at place k just g?
-unfoldable pub level : List Hint → ℕ → ℕ → Bool
-level hs g k = eqb (gap hs k) g
-
--- is place i kept where all gaps below the cutoff go, and the first ones at it?
-unfoldable pub stays : List Hint → Cut → ℕ → Bool
-stays hs c i = ltb (c .gap) (gap hs i) || (eqb (gap hs i) (c .gap) && leb (c .rest) (countOf (level hs (c .gap)) i))
-
--- the hints kept then
+-- the hints that stay at a cutoff
 abbrev pub remaining : List Hint → Cut → List Hint
-remaining hs c = kept (stays hs c) hs (length hs)
+remaining hs c = kept (stays hs (c .gap) (c .rest)) hs (length hs)
 
 -- the number before place i, as the passes carry it
 unfoldable pub ahead : List Hint → ℕ → ℕ
@@ -47,9 +36,8 @@ unfoldable pub gapFrom : ℕ → Hint → ℕ
 gapFrom before h = cond (isKept h) (suc max32) (rise before (h .number))
 
 -- the cutoff c drops e of the hints
-pub record Cuts (hs : List Hint) (e : ℕ) (c : Cut) : Type 0 where
-  pub sum : lower hs (c .gap) + c .rest ≡ e
-  pub most : e ≤ lower hs (c .gap + 1)
+abbrev pub Cuts : List Hint → ℕ → Cut → Type 0
+Cuts hs e c = cutoff.Cuts hs (length hs) e (c .gap) (c .rest)
 
 -- ---- a pass
 abbrev pub firstPlace : Cut → Place

@@ -1,4 +1,4 @@
-// Thinning of hints without a second table: the cutoff gap by counting passes, then one pass that keeps what stays.
+// Thinning of hints without a second table: the cutoff gap by bisection, then one pass that keeps what stays.
 pub mod gaps;
 
 use crate::gaps::gap_of;

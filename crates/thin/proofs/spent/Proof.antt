@@ -1,5 +1,5 @@
 use native.Mathlib.Omega.{arith}
-use Rattle.thin.proofs.Ranks.{one-yes, one-no}
+use Rattle.thin.proofs.Counting.{one-yes, one-no}
 use borrow.Author.Needs.{needs}
 use Rattle.thin.proofs.spent.Statement.{statement}
 use Rattle.thin.proofs.spent.Tie as tie

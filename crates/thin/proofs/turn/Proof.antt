@@ -1,5 +1,5 @@
 use native.Mathlib.Omega.{arith}
-use Rattle.thin.proofs.Ranks.{one-yes, one-no}
+use Rattle.thin.proofs.Counting.{one-yes, one-no}
 use Rattle.thin.proofs.Steps.{stayed-is, next-is}
 use borrow.Author.Needs.{needs}
 use Rattle.thin.proofs.turn.Statement.{statement}
@@ -12,7 +12,8 @@ write-hint-requires c κs =
     let risen : tie.After-gap-of = search in
     let start : tie.Start = search in
     let a = start .args in
-    omega (arith, one-yes (stayed-is (a .cut) (a .p) (a .h) (risen .gap-of .ensures) (asked .stays-at .ensures) (kept .if1 .taken)))
+    let s = stayed-is (a .cut) (a .p) (a .h) (risen .gap-of .ensures) (asked .stays-at .ensures) (kept .if1 .taken) in
+    omega (arith, one-yes s)
 
 returns : tie.Need-returns
 returns c =
@@ -23,8 +24,10 @@ returns c =
     let risen : tie.After-gap-of = search in
     let start : tie.Start = search in
     let a = start .args in
-    let s = stayed-is (a .cut) (a .p) (a .h) (risen .gap-of .ensures) (asked .stays-at .ensures) (kept .if1 .taken) in
-    (next-is (a .cut) (a .p) (a .h) (risen .gap-of .ensures) (less .spent .ensures) (omega (arith, one-yes s)), rw s (wrote .write-hint .ensures))
+    let s = stayed-is (a .cut) (a .p) (a .h) (risen .gap-of .ensures) (asked .stays-at .ensures) (kept .if1 .taken) in (
+      next-is (a .cut) (a .p) (a .h) (risen .gap-of .ensures) (less .spent .ensures) (omega (arith, one-yes s)),
+      rw s (wrote .write-hint .ensures),
+    )
 
 returns-2 : tie.Need-returns-2
 returns-2 c =
