@@ -15,7 +15,8 @@ use Rattle.rules.specs.Hints.{countOf, rise, riseAt, gap}
 use Rattle.rules.proofs.Tests.{test}
 use Rattle.laws.proofs.hint_lists.Ranks.{count-none, count-next, count-every}
 use Rattle.laws.specs.Cutoff.{below}
-use Rattle.thin.specs.Thin.{one, ahead, gapFrom}
+use Rattle.thin.specs.Thin.{one, gapFrom}
+use Rattle.thin.specs.Steps.{ahead}
 
 -- ---- counting
 pub one-yes : {b : Bool} → b ≡ true → one b ≡ 1

@@ -25,7 +25,8 @@ use Rattle.thin.specs.declared.Cut.{Cut}
 use Rattle.thin.specs.declared.Place.{Place}
 use Rattle.tables.specs.Tables.{encodeKept, decodeKept, keptIn}
 use Rattle.tables.proofs.Kept.{kept-layout}
-use Rattle.thin.specs.Thin.{one, lower, remaining, ahead, gapFrom, stayed, firstPlace, nextPlace, Cuts, Starts}
+use Rattle.thin.specs.Thin.{one, gapFrom, Starts}
+use Rattle.thin.specs.Steps.{lower, remaining, ahead, stayed, firstPlace, nextPlace, Cuts}
 use Rattle.thin.proofs.Counting.{one-le, count-more, count-long, below-every, gap-at, gap-fits, ahead-next}
 
 -- ---- a hint in a table

@@ -16,7 +16,8 @@ ghost use lib.Dec.{eqb, ltb};
 ghost use lib.Seq.{sets};
 ghost use Rattle.rules.specs.Hints.{thin};
 ghost use Rattle.tables.specs.Tables.{encodeKept, keptIn};
-ghost use Rattle.thin.specs.Thin.{one, lower, remaining, stayed, firstPlace, nextPlace, Cuts, Starts};
+ghost use Rattle.thin.specs.Thin.{one, Starts};
+ghost use Rattle.thin.specs.Steps.{lower, remaining, stayed, firstPlace, nextPlace, Cuts};
 
 fn one_of(b: bool) -> usize
     ensures { λ r. ⌜ (r ≡ one b) × (r ≤ 1) ⌝ }
@@ -50,9 +51,9 @@ fn count_below(t: &[u8], n: usize, g: u64) -> usize
 }
 
 // A cutoff: all gaps below `gap` go, and the first `rest` at it.
-pub struct Cut {
-    pub gap: u64,
-    pub rest: usize,
+struct Cut {
+    gap: u64,
+    rest: usize,
 }
 
 // The next gap to count at: `first`, then ever farther from it until it lies between two counted ones, then the middle.
@@ -115,7 +116,7 @@ fn cutoff_near(t: &[u8], n: usize, excess: usize, first: u64) -> Cut
 }
 
 // The cutoff that drops `excess` of the n hints, looked for from that of their first sixteenth.
-pub fn cutoff(t: &[u8], n: usize, excess: usize) -> Cut
+fn cutoff(t: &[u8], n: usize, excess: usize) -> Cut
     requires { ⌜ (n * 8 ≤ length (now t)) × (excess ≤ n) ⌝ }
     ensures { λ r. ⌜ Cuts (keptIn n (now (t .entry))) excess r ⌝ }
 {

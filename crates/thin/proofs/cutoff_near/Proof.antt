@@ -2,7 +2,7 @@ use Prim.Native.Nat.{_≤_, _<_, _-_}
 use mathlib.Core.Path.{_≡_, sym}
 use native.Mathlib.Omega.{arith}
 use Rattle.tables.specs.Tables.{keptIn}
-use Rattle.thin.specs.Thin.{lower}
+use Rattle.thin.specs.Steps.{lower}
 use Rattle.thin.proofs.Counting.{below-zero}
 use Rattle.thin.proofs.Steps.{high-start, found-cut, last-cut}
 use borrow.Author.Needs.{needs}
