@@ -1,8 +1,7 @@
 // What the player's C program calls for the views of a list.
 use crate::block::index_in;
-use blocks::read::is_index;
 use view::Viewed;
-use view::is_role;
+use view::block_refuses;
 ghost use mathlib.Core.Path.{_≡_};
 ghost use Rattle.index.specs.Index.{tables};
 ghost use Rattle.player.specs.Block.{called};
@@ -33,11 +32,9 @@ pub extern "C" fn seek_raw_view_length(
 ) -> u64
     ensures { λ r. ⌜ r ≡ viewLengthCall role (now (head .entry)) (tables (now (checkpoints .entry)) (now (frames .entry)) (now (store .entry)) (now (parts .entry)) (now (malformed .entry)) (now (hints .entry)) (now (confirmed .entry))) ⌝ }
 {
-    if !is_role(role) {
-        return 52;
-    }
-    if !is_index(head) {
-        return 3;
+    let number = block_refuses(role, head);
+    if number != 0 {
+        return number as u64;
     }
     let x = index_in(head);
     let viewed = view::view_length(
@@ -70,11 +67,9 @@ pub extern "C" fn seek_raw_view(
 ) -> u64
     ensures { λ r. ⌜ called r (now (out .exit)) ≡ viewCall role (now (head .entry)) (tables (now (checkpoints .entry)) (now (frames .entry)) (now (store .entry)) (now (parts .entry)) (now (malformed .entry)) (now (hints .entry)) (now (confirmed .entry))) (now (out .entry)) ⌝ }
 {
-    if !is_role(role) {
-        return 52;
-    }
-    if !is_index(head) {
-        return 3;
+    let number = block_refuses(role, head);
+    if number != 0 {
+        return number as u64;
     }
     let x = index_in(head);
     let viewed = view::view(

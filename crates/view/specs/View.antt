@@ -7,6 +7,7 @@ use Rattle.rules.specs.declared.AreaIndex.{AreaIndex}
 use Rattle.rules.specs.Tests.{Answer, Refused, Accepted, after, ask, firstNo}
 use Rattle.rules.specs.File.{over}
 use Rattle.rules_view.specs.View.{isRole, view, viewSize}
+use Rattle.blocks.specs.IsHead.{isIndex}
 use Rattle.index.specs.Index.{Tables, roomOf, indexIn, kindsIn, kinded, refusal}
 use Rattle.view.specs.declared.Viewed.{Viewed}
 use Rattle.view.specs.declared.Viewed.the-variants as answer
@@ -30,6 +31,10 @@ viewedOf (answer.Length n) = Accepted n
 -- 52 before the kinds of parts
 unfoldable pub inRole : {A : Type 0} → ℕ → Answer A → Answer A
 inRole role r = after (firstNo (ask (isRole role) 52 ∷ [])) r
+
+-- 52, then 3 where the block with the list's numbers is no head: the number of the first answered no, 0 for none
+unfoldable pub blockRefusal : ℕ → List ℕ → ℕ
+blockRefusal role head = firstNo (ask (isRole role) 52 ∷ ask (isIndex head) 3 ∷ [])
 
 -- 52, then 1 to 4: the number of the first answered no, 0 for none
 unfoldable pub asked : ℕ → AreaIndex → Tables → ℕ

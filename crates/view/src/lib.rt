@@ -3,10 +3,12 @@ pub mod write;
 
 use crate::write::put_listener;
 use crate::write::put_workshop;
+use blocks::read::is_index;
 use field::or;
 use index::refuses;
 use rules::AreaIndex;
 use save::output::long_enough;
+use sections::ask;
 ghost use mathlib.Core.Path.{_≡_};
 ghost use mathlib.Core.Bool.{true};
 ghost use mathlib.Core.List.{[]};
@@ -16,7 +18,7 @@ ghost use Rattle.rules.specs.File.{over};
 ghost use Rattle.rules_view.specs.View.{isRole, viewBytes, viewLength};
 ghost use Rattle.index.specs.Index.{Tables, indexIn, tables, refusal};
 ghost use Rattle.view.specs.Sections.{Shown};
-ghost use Rattle.view.specs.View.{viewed, viewIn, viewSizeIn, viewedOf, asked};
+ghost use Rattle.view.specs.View.{viewed, viewIn, viewSizeIn, viewedOf, asked, blockRefusal};
 
 pub enum Viewed {
     Refused(u32),
@@ -29,6 +31,14 @@ pub fn is_role(role: u32) -> bool
     ensures { λ r. ⌜ r ≡ isRole role ⌝ }
 {
     or(role == 1, role == 2)
+}
+
+// 52, then 3 of the block with the list's numbers: the number of the first answered no, 0 for none.
+pub fn block_refuses(role: u32, head: &[u8]) -> u32
+    ensures { λ r. ⌜ r ≡ blockRefusal role (now (head .entry)) ⌝ }
+{
+    let n = ask(0, is_role(role), 52);
+    ask(n, is_index(head), 3)
 }
 
 // 52, then 1 to 4: the number of the first answered no, 0 for none.
