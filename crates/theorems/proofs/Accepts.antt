@@ -22,6 +22,9 @@ use Rattle.theorems.specs.Terms.{Valid, ValidRecorder, ValidHintRecorder
 use Rattle.theorems.specs.Useful.{RefusesNothing}
 use Rattle.adds.specs.Brings.{brings}
 use Rattle.rules_lacks.specs.Lacks.{lacks}
+use Rattle.rules_drawer.specs.Drawer.{question44, mergeLists, mergeAll}
+use Rattle.rules_coarsen.specs.Coarse.{coarser, question47, question48, coarseNumber, coarse}
+use Rattle.rules_view.specs.View.{viewLength, view, viewSize}
 use Rattle.theorems.proofs.disc.Accepts.{disc-save-accepts, disc-load-accepts}
 
 -- 1 to 4 are answered yes, then qs
@@ -42,7 +45,7 @@ merge-asked l m own other v w q41 q42 q43 =
     asks _ (both (v .one) (w .one), (both (v .two) (w .two), (both (v .three) (w .three), (both (v .four) (w .four), (q41, (q42, (q43, tt)))))))
 
 pub refuses-nothing : RefusesNothing
-unfolding new bindFingerprint recorder recordAt finish absorb hintRecorder see flush takeList addHints keepHint keepConfirmation hint plan save load merge brings lacks
+unfolding new bindFingerprint recorder recordAt finish absorb hintRecorder see flush takeList addHints keepHint keepConfirmation hint plan save load merge brings lacks mergeAll mergeLists coarse coarseNumber view viewSize
 refuses-nothing =
     record {
       made = λ l a k budget spacing most q1 q2 q3. let x = emptyIndex a k budget spacing most in →asked (ask (question1 x) 1 ∷ ask (question2 x) 2 ∷ ask (question3 l x) 3 ∷ []) (q1, (q2, (q3, tt))) refl;
@@ -92,6 +95,10 @@ refuses-nothing =
       merges = λ l m own other v w q41 q42 q43. →after (merge-asked l m own other v w q41 q42 q43) refl;
       adds = λ l m own other v w q41 q42 q43. →after (merge-asked l m own other v w q41 q42 q43) refl;
       lacks = λ l m own other v w q41 q42 q43. →after (merge-asked l m own other v w q41 q42 q43) refl;
+      mergesAll = λ l x m ns b limit ys w q e p. →asked _ (index-asked l x (ask (question44 ns) 44 ∷ []) w (q, tt)) (→bind _ e (→after p refl));
+      coarsens = λ l x k m w q47 q48 q3. →asked _ (index-asked l x (ask (question47 k x) 47 ∷ ask (question48 k x) 48 ∷ ask (question3 m (coarser k x)) 3 ∷ []) w (q47, (q48, (q3, tt)))) refl;
+      views = λ role l x out w r q. →asked _ (r, index-asked l x (ask (leb (viewLength role x) out) 40 ∷ []) w (le-leb (viewLength role x) out q, tt)) refl;
+      lengthsOfViews = λ role l x w r. →asked _ (r, index-asked l x [] w tt) refl;
       savesDisc = disc-save-accepts;
       loadsDisc = disc-load-accepts;
     }

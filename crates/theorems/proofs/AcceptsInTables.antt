@@ -5,7 +5,8 @@ use mathlib.Core.List.{List, [], _∷_}
 use mathlib.Core.Logic.{_≢_}
 use Prim.Native.Nat.{ℕ, _+_, _/_, _≤_}
 use native.Mathlib.Omega.{arith}
-use borrow.Author.Tests.{ne-eqb}
+use borrow.Author.Tests.{ne-eqb, le-leb}
+use lib.Dec.{leb}
 use lib.ListN.{length}
 use Rattle.rules.specs.declared.AreaIndex.{AreaIndex}
 use Rattle.rules.specs.declared.EndState.{EndState}
@@ -27,6 +28,8 @@ use Rattle.rules.specs.Hints.{see, addHints, keepHint, keepConfirmation}
 use Rattle.rules_jump.specs.Names.{namedHint}
 use Rattle.rules_jump.proofs.Values.{named-number}
 use Rattle.rules_lacks.specs.Lacks.{lacks}
+use Rattle.rules_drawer.specs.Drawer.{lengthsIn}
+use Rattle.rules_coverage.specs.Coverage.{maxFile, fileRow, lineRow}
 use Rattle.rules.specs.Merge.{merge}
 use Rattle.rules.specs.File.{decodeCheckpoint, saved, save}
 use Rattle.field.proofs.Records.{records-length}
@@ -56,6 +59,7 @@ use Rattle.keep_hint.specs.Keep.{keepHintIn}
 use Rattle.confirmations.specs.Keeping.{keepIn}
 use Rattle.confirmations.specs.Keeping as keeping
 use Rattle.adds.specs.Brings.{brings}
+use Rattle.drawer.specs.Drawer.{listsOf}
 use Rattle.hint.specs.Calls.{hintIn}
 use Rattle.save.specs.Save.{saveOut, saveIn}
 use Rattle.recorder.specs.Boundary.{boundaryAt}
@@ -72,6 +76,9 @@ use Rattle.theorems.specs.UsefulInTables.{RefusesNothingIn}
 use Rattle.theorems.proofs.Accepts.{index-asked, refuses-nothing}
 use Rattle.theorems.proofs.Demand1.{demand1, recorder-back}
 use Rattle.theorems.proofs.TableRun.{kinds-pass}
+use Rattle.theorems.proofs.Coverage.{row-of}
+use Rattle.theorems.proofs.ViewInTables.{view-leaves}
+use Rattle.theorems.proofs.shelves.Shelf.{shelf-accepts}
 use Rattle.theorems.proofs.disc.Accepts.{pair, single, up, down}
 use Rattle.theorems.proofs.disc.AcceptsInTables.{disc-save-accepts-in, disc-load-accepts-in}
 
@@ -163,7 +170,7 @@ module _ (x : AreaIndex) (t : Tables) (image : ImageId) (given : List ℕ) (r : 
 
 -- ---- each call
 pub refuses-nothing-in : RefusesNothingIn
-unfolding newIn boundIn keepIn keeping.outOf seeIn flushIn takeIn hinting.outOf hinting.sawOf hinting.takenOf frontierIn boundaryAt newSizes fileSizes fileArea fold contentsIn contentsFrom discSizes bothSizes after firstNo numbersOf startedIn recorderOf hintRecorderIn hinting.createdOf hinting.lastFrom hinting.tailFrom addHintsIn keepHintIn hintIn planIn saveIn saveOut outOf isAccepted
+unfolding newIn boundIn keepIn keeping.outOf seeIn flushIn takeIn hinting.outOf hinting.sawOf hinting.takenOf frontierIn boundaryAt newSizes fileSizes fileArea fold contentsIn contentsFrom discSizes bothSizes after firstNo numbersOf startedIn recorderOf hintRecorderIn hinting.createdOf hinting.lastFrom hinting.tailFrom addHintsIn keepHintIn hintIn planIn saveIn saveOut outOf isAccepted listsOf lineRow fileRow
 refuses-nothing-in =
     record {
       made = λ t a k budget spacing most q1 q2 q3. rw (refuses-nothing .made (roomOf t) a k budget spacing most q1 q2 q3) refl;
@@ -224,7 +231,14 @@ refuses-nothing-in =
       sizesOfFile = λ a b limit x p e. →asked (ask (areaOk a) 1 ∷ []) (p, tt) (→bind _ e refl);
       lengths = length-accepted;
       areaOfFile = λ b e. rw e refl;
+      mergesAll = λ x t ls b limit u ys v q e p.
+          rw (no-number x t v, refuses-nothing .mergesAll (roomOf t) (indexIn x t) (roomOf u) (lengthsIn ls) b limit ys (v .valid) q e p, e) refl;
+      rows = row-of;
+      rowsOfLines = λ l b r h e. →asked (ask (leb (length b) maxFile) 45 ∷ []) (le-leb (length b) maxFile h, tt) e;
+      coarsens = λ x t k u v q47 q48 q3. rw (no-number x t v, refuses-nothing .coarsens (roomOf t) (indexIn x t) k (roomOf u) (v .valid) q47 q48 q3) refl;
       folds = λ w k s q. rw q refl;
+      shelves = shelf-accepts;
+      views = view-leaves;
       savesDisc = disc-save-accepts-in;
       loadsDisc = disc-load-accepts-in;
       contents = λ b q. rw q refl;

@@ -114,7 +114,7 @@ load-read l b s e limit y h =
     let g = loaded-below (fromBytes (areaIn b s e) b) _ y (f .1) in
     (f .0 .0, (g .0, (g .1 .0, accepted→ _ (limited limit (g .0)) y (g .1 .1) .1)))
 
-row-of : (b : List ℕ) (s e : ℕ) (x : Index) → rangeOk s e ≡ true → fromBytes (areaIn b s e) b ≡ Accepted x → rowOf b s e ≡ Accepted (rowFrom x)
+pub row-of : (b : List ℕ) (s e : ℕ) (x : Index) → rangeOk s e ≡ true → fromBytes (areaIn b s e) b ≡ Accepted x → rowOf b s e ≡ Accepted (rowFrom x)
 unfolding rowOf firstNo after bind
 row-of b s e x o p = rw (o, p)
 

@@ -468,7 +468,7 @@ unfolding asWorkshop firstNo after
 listener-refused A role r h = test (eqb role workshop) (λ t. absurd (h (eqb-true role workshop t))) (λ t. rw t)
 
 -- ---- lengths and refusals
-least-size : (role : ℕ) (x : Index) → 88 ≤ viewLength role x
+pub least-size : (role : ℕ) (x : Index) → 88 ≤ viewLength role x
 unfolding viewLength workshopSize
 least-size role x = test (eqb role listener) (λ t. rw t (omega arith)) (λ t. rw t (omega arith))
 

@@ -2,7 +2,7 @@
 use Prim.Native.Nat.{ℕ, _+_, _-_, _/_, min, _<_, _≤_}
 use mathlib.Core.Path.{_≡_}
 use mathlib.Core.Bool.{true, false}
-use mathlib.Core.List.{List, [], _++_}
+use mathlib.Core.List.{List, [], _∷_, _++_}
 use mathlib.Core.Logic.{_≢_}
 use mathlib.Core.Option.{Option, none, some}
 use lib.Dec.{eqb}
@@ -32,6 +32,9 @@ use Rattle.rules.specs.Sizes.{sized}
 use Rattle.theorems.specs.Terms.{Valid, ValidRecorder, ValidHintRecorder, storedIn, SameRead}
 use Rattle.adds.specs.Brings.{bringsOf, brings}
 use Rattle.rules_lacks.specs.Lacks as lacking
+use Rattle.rules_drawer.specs.Drawer.{question44, loadFiles, pairsNumber, mergeEach, mergeAll}
+use Rattle.rules_coarsen.specs.Coarse.{coarser, question47, question48, coarse}
+use Rattle.rules_view.specs.View.{isRole, viewBytes, viewLength, view, viewSize}
 use Rattle.theorems.specs.DiscFile.{DiscSaveAccepts, DiscLoadAccepts}
 use Rattle.theorems.specs.Demand3.{LoadedParts}
 use Rattle.theorems.specs.PartRule.{Admits}
@@ -97,6 +100,18 @@ pub record RefusesNothing : Type 0 where
   pub lacks :
       (l m : Lengths) (own other : Index) → Valid l own → Valid m other → question41 own other ≡ true → question42 own other ≡ true → question43 own other ≡ true
       → lacking.lacks l own m other ≡ Accepted (lacking.lacking own other)
+  -- change request 1
+  pub mergesAll :
+      (l : Lengths) (x : Index) (m : Lengths) (ns b : List ℕ) (limit : ℕ) (ys : List Index) → Valid l x → question44 ns ≡ true
+      → loadFiles m (x .scan .area) ns b limit ≡ Accepted ys → pairsNumber (x ∷ ys) ≡ 0 → mergeAll l x m ns b limit ≡ Accepted (mergeEach x ys)
+  -- change request 6
+  pub coarsens :
+      (l : Lengths) (x : Index) (k : ℕ) (m : Lengths) → Valid l x → question47 k x ≡ true → question48 k x ≡ true → question3 m (coarser k x) ≡ true
+      → coarse l x k m ≡ Accepted (coarser k x)
+  -- change request 10
+  pub views :
+      (role : ℕ) (l : Lengths) (x : Index) (out : ℕ) → Valid l x → isRole role ≡ true → viewLength role x ≤ out → view role l x out ≡ Accepted (viewBytes role x)
+  pub lengthsOfViews : (role : ℕ) (l : Lengths) (x : Index) → Valid l x → isRole role ≡ true → viewSize role l x ≡ Accepted (viewLength role x)
   -- change request 14
   pub savesDisc : DiscSaveAccepts
   pub loadsDisc : DiscLoadAccepts

@@ -2,7 +2,7 @@
 use Prim.Native.Nat.{ℕ, _+_, _/_, min, _<_, _≤_}
 use mathlib.Core.Path.{_≡_}
 use mathlib.Core.Bool.{true, false, _&&_, _||_, cond}
-use mathlib.Core.List.{List, []}
+use mathlib.Core.List.{List, [], _∷_}
 use mathlib.Core.Logic.{_≢_}
 use mathlib.Core.Option.{Option, none, some}
 use lib.Dec.{eqb, ltb}
@@ -36,6 +36,11 @@ use Rattle.rules.specs.Merge.{question41, question42, question43, merged}
 use Rattle.rules.specs.File.{readHeader, encodeHint, savedLength, saved, over}
 use Rattle.index.specs.declared.Made.the-variants as madeAs
 use Rattle.rules_lacks.specs.Lacks.{lacking}
+use Rattle.rules_drawer.specs.Drawer.{lengthsIn, question44, loadFiles, pairsNumber, mergeEach}
+use Rattle.rules_coverage.specs.declared.Row.{Row}
+use Rattle.rules_coverage.specs.Lines.{Line}
+use Rattle.rules_coverage.specs.Coverage.{areaIn, rangeOk, rowFrom, rowOf, maxFile, lineRow}
+use Rattle.rules_coarsen.specs.Coarse.{coarser, question47, question48}
 use Rattle.index.specs.Index.{Tables, roomOf, indexIn, endIn, idIn, numbersFrom, tablesFrom, tablesCleared, frontierIn, Out, out}
 use Rattle.index.specs.Lent.{TableBytes}
 use Rattle.index.specs.Calls.{newIn, boundIn}
@@ -78,12 +83,16 @@ use Rattle.disc_load.specs.Contents.{placeFrom, contentsIn}
 use Rattle.disc_load.specs.Sizes.{bodySizes, discSizes}
 use Rattle.disc_save.specs.Length.{oneLength, bothLength}
 use Rattle.merge.specs.Merge.{mergeIn}
+use Rattle.drawer.specs.Drawer.{mergedTables, mergeAllIn}
+use Rattle.coarsen.specs.Coarsen.{coarseIn}
 use Rattle.theorems.specs.Terms.{ValidIn}
 use Rattle.theorems.specs.TableRun.{LentIn, isAccepted}
 use Rattle.theorems.specs.Recorders.{ValidRecorderIn, RecorderBytes, ValidHintRecorderIn}
 use Rattle.theorems.specs.Useful.{LoadOf, MergedOf, AbsorbedOf, Looked}
 use Rattle.theorems.specs.DiscFile as disc
 use Rattle.theorems.specs.DiscInTables.{DiscSaveAcceptsIn, DiscLoadAcceptsIn}
+use Rattle.theorems.specs.Shelf.{ShelfAccepts}
+use Rattle.theorems.specs.View.{ViewLeaves}
 
 -- ---- refuses every call
 -- where the questions are answered yes
@@ -171,8 +180,21 @@ pub record RefusesNothingIn : Type 0 where
   pub sizesOfFile : (a : Area) (b : List ℕ) (limit : ℕ) (x : Index) → areaOk a ≡ true → fromBytes a b ≡ Accepted x → fileSizes a b limit ≡ Accepted (sizesFor (limited limit x))
   pub lengths : (x : AreaIndex) (t : Tables) → ValidIn x t → fileLength x t ≡ length (saved (indexIn x t))
   pub areaOfFile : (b : List ℕ) → beforeSum (fileNumber b) ≡ 0 → fileArea b ≡ Accepted (rangeOf (keyOf (readHeader (bodyIn b))))
+  -- change request 1
+  pub mergesAll : (x : AreaIndex) (t : Tables) (ls b : List ℕ) (limit : ℕ) (u : Tables) (ys : List Index) → ValidIn x t → question44 (lengthsIn ls) ≡ true
+      → loadFiles (roomOf u) (x .area) (lengthsIn ls) b limit ≡ Accepted ys → let i = indexIn x t in pairsNumber (i ∷ ys) ≡ 0
+      → mergeAllIn x t ls b limit u ≡ out (madeAs.Index (numbersFrom (mergeEach i ys))) (mergedTables i ys t)
+  -- change request 2
+  pub rows : (b : List ℕ) (s e : ℕ) (x : Index) → rangeOk s e ≡ true → fromBytes (areaIn b s e) b ≡ Accepted x → rowOf b s e ≡ Accepted (rowFrom x)
+  pub rowsOfLines : (l : Line) (b : List ℕ) (r : Row) → length b ≤ maxFile → rowOf b (l .start) (l .end) ≡ Accepted r → lineRow (some l) (some b) ≡ Accepted r
+  -- change request 6; the tables are the coarser list's
+  pub coarsens : (x : AreaIndex) (t : Tables) (k : ℕ) (u : Tables) → ValidIn x t → let i = indexIn x t in let y = coarser k i in
+      question47 k i ≡ true → question48 k i ≡ true → question3 (roomOf u) y ≡ true → coarseIn x t k u ≡ out (madeAs.Index (numbersFrom y)) (tablesFrom y u)
   -- change request 8
   pub folds : (w k s : ℕ) → question49 w k ≡ true → fold w k s ≡ foldedAs.Sum (folded k s)
+  -- change requests 9 and 10
+  pub shelves : ShelfAccepts
+  pub views : ViewLeaves
   -- change request 14
   pub savesDisc : DiscSaveAcceptsIn
   pub loadsDisc : DiscLoadAcceptsIn

@@ -3,7 +3,7 @@ use Prim.Native.Nat.{ℕ, _≤_}
 use mathlib.Core.Path.{_≡_}
 use mathlib.Core.Logic.{_≢_}
 use mathlib.Core.Bool.{true}
-use mathlib.Core.List.{List, [], _∷_}
+use mathlib.Core.List.{List}
 use mathlib.Core.Option.{some}
 use lib.ListN.{length, take, drop}
 use Rattle.rules.specs.declared.Area.{Area}
@@ -24,7 +24,6 @@ use Rattle.player.specs.DrawerCalls.{mergeAllCall, mergeAllCallAs}
 use Rattle.player.specs.ViewCalls.{viewCall, viewLengthCall}
 use Rattle.player_disc.specs.Block.{calledLists}
 use Rattle.player_disc.specs.Calls.{calledDisc, discLoadCall, discSaveCall, discSaveBothCall, discLoadCallAs, discSaveCallAs, discSaveBothCallAs}
-use Rattle.theorems.specs.Demand1.{Refuses, four}
 use Rattle.theorems.specs.Terms.{Valid, ValidIn}
 
 -- "the bytes of a view determine every field it gives": read, they give the listener's fields back
@@ -65,12 +64,11 @@ pub record ViewNumber : Type 0 where
   pub refusal : (role : ℕ) (l : Lengths) (x : Index) (out n : ℕ) → view role l x out ≡ Refused n → n ≤ 54
 
 -- ---- over tables: what the calls answer and leave
--- a list that passes 1 to 4 and fits the output is written as its view's bytes, else the number is the rules' and the output stays
+-- a list that passes 1 to 4 and fits the output is written as its view's bytes, and their length is told before
 pub record ViewLeaves : Type 0 where
   pub bytes : (role : ℕ) (x : AreaIndex) (t : Tables) (out : List ℕ) → ValidIn x t → isRole role ≡ true → viewLength role (indexIn x t) ≤ length out
       → (viewIn role x t out .answer ≡ viewed.Length (viewLength role (indexIn x t))) × (viewIn role x t out .out ≡ over (viewBytes role (indexIn x t)) out)
-  pub refuses : (role : ℕ) (x : AreaIndex) (t : Tables) (out : List ℕ)
-      → Refuses (52 ∷ four (40 ∷ [])) (λ n. viewIn role x t out .answer ≡ viewed.Refused n) out (viewIn role x t out .out)
+  pub told : (role : ℕ) (x : AreaIndex) (t : Tables) → ValidIn x t → isRole role ≡ true → viewSizeIn role x t ≡ Accepted (viewLength role (indexIn x t))
 
 -- two valid lists, each in its own tables, that a listener sees alike: the same answer and the same output
 pub record ListenerSeesInTables : Type 0 where
