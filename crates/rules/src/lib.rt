@@ -31,6 +31,23 @@ pub const SECTOR_BYTES: usize = 2048;
 // SBSEEKIX, as a number of eight bytes.
 pub const MAGIC: u64 = 6361698709525447251;
 
+// The bytes of a file's header and of a record of each section, by the source's names.
+pub const HEADER: usize = 80;
+
+pub const CHECKPOINT: usize = 24;
+
+pub const FRAME_HEADER: usize = 8;
+
+pub const HELD: usize = 24;
+
+pub const HINTS_HEADER: usize = 24;
+
+pub const HINT: usize = 8;
+
+pub const CONFIRMED_HEADER: usize = 8;
+
+pub const CONFIRMED: usize = 16;
+
 // A frame number, and how far behind the sector's first byte its three bytes begin.
 pub struct TimeBytes {
     pub number: u32,
