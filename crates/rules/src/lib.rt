@@ -31,6 +31,15 @@ pub const SECTOR_BYTES: usize = 2048;
 // SBSEEKIX, as a number of eight bytes.
 pub const MAGIC: u64 = 6361698709525447251;
 
+// The first version of a file.
+pub const VERSION: u32 = 1;
+// With hints.
+pub const VERSION_HINTS: u32 = 2;
+// With confirmations.
+pub const VERSION_CONFIRMED: u32 = 3;
+// With a hint limit above MAX_SHORT_HINTS.
+pub const VERSION_MORE_HINTS: u32 = 4;
+
 // The bytes of a file's header and of a record of each section, by the source's names.
 pub const HEADER: usize = 80;
 
