@@ -1,7 +1,9 @@
 // The check of each section of a list that needs no other, over its records in a table.
 use field::and;
 use rules::Area;
+use rules::CONFIRMED;
 use rules::Checkpoint;
+use rules::HINT;
 use rules::Hint;
 use rules::MAX_FRAME_BYTES;
 use rules::MAX_NEXT_ACCEPTABLE;
@@ -121,7 +123,7 @@ pub fn check_hints(section: &[u8], n: usize, area: Area) -> bool
     requires { ⌜ n * 8 ≤ length (now section) ⌝ }
     ensures { λ r. ⌜ r ≡ hintsOk area (hintsIn n (now (section .entry))) ⌝ }
 {
-    check_numbered(section, n, 8, area)
+    check_numbered(section, n, HINT, area)
 }
 
 // Is the hint kept, its number below LIM?
@@ -162,7 +164,7 @@ pub fn check_confirmations(section: &[u8], n: usize, area: Area) -> bool
     requires { ⌜ n * 16 ≤ length (now section) ⌝ }
     ensures { λ r. ⌜ r ≡ confirmationsOk area (confirmationsIn n (now (section .entry))) ⌝ }
 {
-    check_numbered(section, n, 16, area)
+    check_numbered(section, n, CONFIRMED, area)
 }
 
 // What a check of frames answers: used only where ok.
