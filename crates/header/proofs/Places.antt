@@ -1,7 +1,7 @@
 -- A field is read and written at its place in the table. Assumes nothing.
 use mathlib.Core.Path.{_≡_, refl}
 use mathlib.Core.List.{List, [], _∷_, _++_, append-assoc, append-nil}
-use Prim.Native.Nat.{ℕ, zero, suc, _+_, _<_, _≤_, _%_}
+use Prim.Native.Nat.{ℕ, zero, suc, _+_, _<_, _≤_, _%_, _^_}
 use native.Mathlib.Omega.{arith}
 use lib.ListN.{length, getD, set, length-take, take, drop, length-append, length-drop}
 use lib.Seq.{take-at, drop-drop, drop-append-add}
@@ -15,11 +15,11 @@ use Rattle.header.specs.Place.{entry, total, Placed}
 pub number-byte : (b : List ℕ) (o : ℕ) → getD b o 0 ≡ numberAt 1 b o
 number-byte b o = rw (number-more 0 b o, number-none) (omega arith)
 
--- what is read at the place of field number i is that field
-pub read-field : {i o n : ℕ} (w : ℕ) (b : List ℕ) → Placed headerFields 0 i o n → entry headerFields i .width ≡ w → (r : ℕ)
-    → r ≡ numberAt w b o → r ≡ fieldAt b i
+-- what is read at the place of field number i is that field, and fits its width
+pub read-place : {i o n : ℕ} (w : ℕ) (b : List ℕ) → Placed headerFields 0 i o n → n ≡ w → (r : ℕ) → r ≡ numberAt w b o → r < 256 ^ w
+    → (r ≡ fieldAt b i) × (r < 256 ^ entry headerFields i .width)
 unfolding fieldAt
-read-field w b p q r e = rw (q, ← p .place) e
+read-place w b p q r e l = rw (← p .size, ← p .place, q) (e, l)
 
 -- ---- fields written one after another
 written-length : (fs : List Field) (vs : List ℕ) → length fs ≤ length vs → length (writeFields fs vs) ≡ total fs

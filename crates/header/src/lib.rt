@@ -12,7 +12,7 @@ use summing::sum_u32;
 use summing::sum_u64;
 ghost use mathlib.Core.Path.{_≡_};
 ghost use mathlib.Core.List.{_++_};
-ghost use Prim.Native.Nat.{_+_, _≤_, _<_};
+ghost use Prim.Native.Nat.{_+_, _^_, _≤_, _<_};
 ghost use lib.ListN.{length, take, drop};
 ghost use Rattle.field.specs.Number.{encode, put};
 ghost use Rattle.fnv.specs.Fnv.{fnvFrom, fnv64, prime64};
@@ -114,13 +114,20 @@ pub fn field_of(i: usize) -> Field
     FIELDS[i]
 }
 
-// The number in field number i, of one byte.
-fn u8_field(body: &[u8], i: usize) -> u8
-    requires { ⌜ Holds (now body) i 1 ⌝ }
-    ensures { λ r. ⌜ r ≡ fieldAt (now (body .entry)) i ⌝ }
+// The number in field number i.
+fn read_field(body: &[u8], i: usize) -> u64
+    requires { ⌜ (80 ≤ length (now body)) × (i < 19) ⌝ }
+    ensures { λ r. ⌜ (r ≡ fieldAt (now (body .entry)) i) × (r < 256 ^ entry headerFields i .width) ⌝ }
 {
-    let at = field_of(i).offset;
-    body[at]
+    let f = field_of(i);
+    let at = f.offset;
+    if f.width == 8 {
+        return read_u64(body, at);
+    }
+    if f.width == 4 {
+        return read_u32(body, at) as u64;
+    }
+    body[at] as u64
 }
 
 // The number in field number i, of four bytes.
@@ -128,17 +135,15 @@ fn u32_field(body: &[u8], i: usize) -> u32
     requires { ⌜ Holds (now body) i 4 ⌝ }
     ensures { λ r. ⌜ r ≡ fieldAt (now (body .entry)) i ⌝ }
 {
-    let f = field_of(i);
-    read_u32(body, f.offset)
+    read_field(body, i) as u32
 }
 
-// The number in field number i, of eight bytes.
-fn u64_field(body: &[u8], i: usize) -> u64
-    requires { ⌜ Holds (now body) i 8 ⌝ }
+// The number in field number i, of one byte.
+fn u8_field(body: &[u8], i: usize) -> u8
+    requires { ⌜ Holds (now body) i 1 ⌝ }
     ensures { λ r. ⌜ r ≡ fieldAt (now (body .entry)) i ⌝ }
 {
-    let f = field_of(i);
-    read_u64(body, f.offset)
+    read_field(body, i) as u8
 }
 
 // The header at the start of body.
@@ -147,7 +152,7 @@ pub fn read_header(body: &[u8]) -> Header
     ensures { λ r. ⌜ r ≡ readHeader (now (body .entry)) ⌝ }
 {
     Header {
-        magic: u64_field(body, 0),
+        magic: read_field(body, 0),
         version: u32_field(body, 1),
         slot: u8_field(body, 2),
         channels: u8_field(body, 3),
@@ -155,17 +160,17 @@ pub fn read_header(body: &[u8]) -> Header
         zero15: u8_field(body, 5),
         start: u32_field(body, 6),
         end: u32_field(body, 7),
-        sectors: u64_field(body, 8),
+        sectors: read_field(body, 8),
         interval: u32_field(body, 9),
         checkpoints: u32_field(body, 10),
         frames: u32_field(body, 11),
         parts: u32_field(body, 12),
         malformed: u32_field(body, 13),
         zero52: u32_field(body, 14),
-        budget: u64_field(body, 15),
+        budget: read_field(body, 15),
         threshold: u32_field(body, 16),
         zero68: u32_field(body, 17),
-        counted: u64_field(body, 18),
+        counted: read_field(body, 18),
     }
 }
 

@@ -1,10 +1,14 @@
-use Rattle.header.proofs.Places.{read-field}
+use Prim.Native.Nat.{_<_}
+use native.Mathlib.Omega.{arith}
 use borrow.Author.Needs.{needs}
 use Rattle.header.proofs.u32_field.Statement.{statement}
 use Rattle.header.proofs.u32_field.Tie as tie
 
-returns : tie.Need-returns
-returns c = read-field 4 _ (c .before .field-of .ensures) (c .before .before .before .pre .wide) _ (c .read-u32 .ensures)
+cast-result : tie.Need-cast-result
+cast-result c =
+    let start : tie.Start = search in
+    let l : c .read-field .result < 4294967296 = rw (start .pre .wide) at (c .read-field .ensures .1) in
+    record { fits = omega arith }
 
 pub u32-field-spec : {M : Type 1} → statement M
-u32-field-spec = tie.close (tie.spec (λ c κs. search needs) (λ c κs. search needs) returns)
+u32-field-spec = tie.close (tie.spec (λ c κs. search needs) cast-result (λ c. search needs))
