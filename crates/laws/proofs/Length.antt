@@ -19,7 +19,7 @@ unfolding bytesOf
 length-each e w h [] = omega arith
 length-each e w h (x ∷ xs) = rw (length-append, h x, length-each e w h xs) (omega arith)
 
-length-frames : (fs : List Frame) → length (bytesOf encodeFrame fs) ≡ 8 * length fs + used fs
+pub length-frames : (fs : List Frame) → length (bytesOf encodeFrame fs) ≡ 8 * length fs + used fs
 unfolding bytesOf used
 length-frames [] = refl
 length-frames (f ∷ fs) = rw (length-append, frame-length, length-frames fs) (omega arith)

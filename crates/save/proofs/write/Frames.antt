@@ -18,21 +18,16 @@ use Rattle.tables.specs.declared.FrameHeader.{FrameHeader}
 use Rattle.tables.specs.Tables.{decodeHeader, headersIn, frameOf, framesOf, framesIn}
 use Rattle.tables.proofs.Walk.{records-turn}
 use Rattle.tables.proofs.Frames.{stretch-length, stretch-within, frames-length, frames-used, weight, weight-on}
-use Rattle.laws.proofs.Readers.{frame-length}
+use Rattle.laws.proofs.Length.{length-frames}
 use Rattle.fnv.specs.Fnv.{fnvFrom, prime64}
 use Rattle.fnv.proofs.Hash.{joined}
 use Rattle.save.specs.Output.{Put, Filled, Summed, upTo}
 use Rattle.save.proofs.output.Stretches.{put-both, put-copy, put-over}
 use Rattle.save.proofs.output.Sums.{sum-both}
 
-pub frames-size : (fs : List Frame) → length (bytesOf encodeFrame fs) ≡ length fs * 8 + used fs
-unfolding bytesOf used
-frames-size [] = refl
-frames-size (f ∷ fs) = rw (length-append, frame-length, frames-size fs) (omega arith)
-
 pub framesIn-size : (f : ℕ) (headers store : List ℕ) → length (bytesOf encodeFrame (framesIn f headers store)) ≡ f * 8 + used (framesIn f headers store)
 framesIn-size f headers store =
-    frames-size (framesIn f headers store) ∙ rw (frames-length (headersIn f headers) store, records-length 8 decodeHeader f headers)
+    length-frames (framesIn f headers store) ∙ rw (frames-length (headersIn f headers) store, records-length 8 decodeHeader f headers) (omega arith)
 
 -- ---- one frame
 header-layout : Layout 8 decodeHeader (λ h. encode 4 (h .start) ++ encode 4 (h .len)) (λ h. FieldsFit (4 ∷ 4 ∷ []) (h .start ∷ h .len ∷ []))
