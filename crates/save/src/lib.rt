@@ -22,7 +22,14 @@ use field::write_u64;
 use header::write_header;
 use index::refuses;
 use rules::AreaIndex;
+use rules::CONFIRMED;
+use rules::CONFIRMED_HEADER;
+use rules::HEADER;
+use rules::HINT;
+use rules::HINTS_HEADER;
 use rules::HintHeader;
+use rules::VERSION_CONFIRMED;
+use rules::VERSION_HINTS;
 use summing::sum_u32;
 ghost use mathlib.Core.Path.{_≡_};
 ghost use mathlib.Core.List.{_++_};
@@ -48,7 +55,7 @@ fn write_hint_section(out: &mut [u8], h: HintHeader, table: &[u8], sum: u64) -> 
 {
     let behind = write_hint_header(out, h, sum);
     let w = Written {
-        next: 24,
+        next: HINTS_HEADER,
         sum: behind,
     };
     put_hints(out, w, table, h.count).sum
@@ -62,7 +69,7 @@ fn write_confirmed_section(out: &mut [u8], n: u32, table: &[u8], sum: u64) -> u6
     write_u32(out, 4, 0);
     let counted = sum_u32(sum, n);
     let w = Written {
-        next: 8,
+        next: CONFIRMED_HEADER,
         sum: sum_u32(counted, 0),
     };
     put_confirmations(out, w, table, n).sum
@@ -74,7 +81,7 @@ fn put_hint_section(out: &mut [u8], w: Written, h: HintHeader, table: &[u8]) -> 
 {
     let at = w.next;
     let n = h.count as usize;
-    let to = at + (24 + n * 8);
+    let to = at + (HINTS_HEADER + n * HINT);
     let sum = write_hint_section(&mut out[at..to], h, table, w.sum);
     Written { next: to, sum }
 }
@@ -84,7 +91,7 @@ fn put_confirmed_section(out: &mut [u8], w: Written, n: u32, table: &[u8]) -> Wr
     ensures { λ r. ⌜ Summed (confirmedBytes n (now (table .entry))) (8 + 16 * n) (now (out .entry)) w r (now (out .exit)) ⌝ }
 {
     let at = w.next;
-    let to = at + (8 + n as usize * 16);
+    let to = at + (CONFIRMED_HEADER + n as usize * CONFIRMED);
     let sum = write_confirmed_section(&mut out[at..to], n, table, w.sum);
     Written { next: to, sum }
 }
@@ -117,11 +124,11 @@ fn put_hinting(out: &mut [u8], w: Written, x: AreaIndex, hints: &[u8], confirmed
     ensures { λ r. ⌜ Summed (hintSection (hintIndex x (now (hints .entry)) (now (confirmed .entry))) ++ confirmedSection (hintIndex x (now (hints .entry)) (now (confirmed .entry)))) (hintingSize x) (now (out .entry)) w r (now (out .exit)) ⌝ }
 {
     let version = version_of(x);
-    if version < 2 {
+    if version < VERSION_HINTS {
         return w;
     }
     let behind = put_hint_section(out, w, hint_header_of(x), hints);
-    if version < 3 {
+    if version < VERSION_CONFIRMED {
         return behind;
     }
     put_confirmed_section(out, behind, x.confirmed, confirmed)
@@ -143,7 +150,7 @@ fn write_body(
     ensures { λ r. ⌜ Summed (bodyOf (indexIn x (tables (now (checkpoints .entry)) (now (frames .entry)) (now (store .entry)) (now (parts .entry)) (now (malformed .entry)) (now (hints .entry)) (now (confirmed .entry))))) (length (bodyOf (indexIn x (tables (now (checkpoints .entry)) (now (frames .entry)) (now (store .entry)) (now (parts .entry)) (now (malformed .entry)) (now (hints .entry)) (now (confirmed .entry)))))) (now (out .entry)) nothingWritten r (now (out .exit)) ⌝ }
 {
     let sum = write_header(out, header_of(x));
-    let header = Written { next: 80, sum };
+    let header = Written { next: HEADER, sum };
     let scan = put_scan(out, header, x, checkpoints, frames, store, parts, malformed);
     put_hinting(out, scan, x, hints, confirmed)
 }

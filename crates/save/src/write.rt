@@ -1,5 +1,10 @@
 // The sections of a file, each written into its own stretch of a lent output, and summed.
 use crate::output::Written;
+use rules::CHECKPOINT;
+use rules::CONFIRMED;
+use rules::FRAME_HEADER;
+use rules::HELD;
+use rules::HINT;
 use rules::Hint;
 use summing::copy_first_summed;
 use summing::copy_part_summed;
@@ -25,7 +30,7 @@ fn write_checkpoints(out: &mut [u8], table: &[u8], n: usize, sum: u64) -> u64
     requires { ⌜ (n * 24 ≤ length (now table)) × (n * 24 ≤ length (now out)) ⌝ }
     ensures { λ r. ⌜ Filled (bytesOf encodeCheckpoint (checkpointsIn n (now (table .entry)))) (now (out .entry)) sum r (now (out .exit)) ⌝ }
 {
-    copy_first_summed(out, table, n * 24, sum)
+    copy_first_summed(out, table, n * CHECKPOINT, sum)
 }
 
 // Each kind is 0 or 1.
@@ -33,7 +38,7 @@ fn write_parts(out: &mut [u8], table: &[u8], n: usize, sum: u64) -> u64
     requires { ⌜ (n * 24 ≤ length (now table)) × (n * 24 ≤ length (now out)) × (kindsOk n (now table) ≡ true) ⌝ }
     ensures { λ r. ⌜ Filled (bytesOf encodeHeld (partsIn n (now (table .entry)))) (now (out .entry)) sum r (now (out .exit)) ⌝ }
 {
-    copy_first_summed(out, table, n * 24, sum)
+    copy_first_summed(out, table, n * HELD, sum)
 }
 
 fn write_malformed(out: &mut [u8], table: &[u8], n: usize, sum: u64) -> u64
@@ -71,7 +76,7 @@ fn write_confirmations(out: &mut [u8], table: &[u8], n: usize, sum: u64) -> u64
     requires { ⌜ (n * 16 ≤ length (now table)) × (n * 16 ≤ length (now out)) ⌝ }
     ensures { λ r. ⌜ Filled (bytesOf encodeConfirmation (confirmationsIn n (now (table .entry)))) (now (out .entry)) sum r (now (out .exit)) ⌝ }
 {
-    copy_first_summed(out, table, n * 16, sum)
+    copy_first_summed(out, table, n * CONFIRMED, sum)
 }
 
 // ---- the stretch of each section: from w on, up to what is answered
@@ -81,7 +86,7 @@ pub fn put_checkpoints(out: &mut [u8], w: Written, table: &[u8], count: u32) -> 
 {
     let at = w.next;
     let n = count as usize;
-    let to = at + n * 24;
+    let to = at + n * CHECKPOINT;
     let sum = write_checkpoints(&mut out[at..to], table, n, w.sum);
     Written { next: to, sum }
 }
@@ -92,7 +97,7 @@ pub fn put_parts(out: &mut [u8], w: Written, table: &[u8], count: u32) -> Writte
 {
     let at = w.next;
     let n = count as usize;
-    let to = at + n * 24;
+    let to = at + n * HELD;
     let sum = write_parts(&mut out[at..to], table, n, w.sum);
     Written { next: to, sum }
 }
@@ -114,7 +119,7 @@ pub fn put_hints(out: &mut [u8], w: Written, table: &[u8], count: u32) -> Writte
 {
     let at = w.next;
     let n = count as usize;
-    let to = at + n * 8;
+    let to = at + n * HINT;
     let sum = write_hints(&mut out[at..to], table, n, w.sum);
     Written { next: to, sum }
 }
@@ -125,7 +130,7 @@ pub fn put_confirmations(out: &mut [u8], w: Written, table: &[u8], count: u32) -
 {
     let at = w.next;
     let n = count as usize;
-    let to = at + n * 16;
+    let to = at + n * CONFIRMED;
     let sum = write_confirmations(&mut out[at..to], table, n, w.sum);
     Written { next: to, sum }
 }
@@ -152,8 +157,8 @@ fn put_frame(
 {
     let h = read_header(headers, k);
     let len = h.len as usize;
-    let before = copy_part_summed(out, at, headers, k * 8, 8, sum);
-    let behind = copy_part_summed(out, at + 8, store, from, len, before);
+    let before = copy_part_summed(out, at, headers, k * FRAME_HEADER, FRAME_HEADER, sum);
+    let behind = copy_part_summed(out, at + FRAME_HEADER, store, from, len, before);
     FrameEnd { len, sum: behind }
 }
 
@@ -167,7 +172,7 @@ fn write_frames(out: &mut [u8], headers: &[u8], store: &[u8], f: usize, sum: u64
     let mut k = 0;
     while k < f {
         let e = put_frame(out, at, headers, k, store, from, x);
-        at += 8 + e.len;
+        at += FRAME_HEADER + e.len;
         from += e.len;
         x = e.sum;
         k += 1;
@@ -189,7 +194,7 @@ pub fn put_frames(
 {
     let at = w.next;
     let f = count as usize;
-    let to = at + (f * 8 + bytes as usize);
+    let to = at + (f * FRAME_HEADER + bytes as usize);
     let sum = write_frames(&mut out[at..to], headers, store, f, w.sum);
     Written { next: to, sum }
 }
