@@ -1,3 +1,5 @@
+pub mod Answers
+pub mod Left
 pub mod Sections
 pub mod Tails
 pub mod Whole

@@ -13,29 +13,31 @@ use Rattle.rules.specs.Sections.{partOk}
 use Rattle.rules.specs.Load.{Read}
 use Rattle.tables.specs.Tables.{checkpointsIn, before}
 use Rattle.tables.specs.Files.{placeAt, framesRead}
+use Rattle.inspect.specs.declared.cursor.Cursor.{Cursor}
+use Rattle.inspect.specs.Behind.{behind}
 use Rattle.inspect.specs.declared.scan.OneFrame.{OneFrame}
 use Rattle.inspect.specs.declared.scan.OneFrame.the-variants as frame
 use Rattle.inspect.specs.declared.scan.OnePart.{OnePart}
 use Rattle.inspect.specs.declared.scan.OnePart.the-variants as part
 use Rattle.inspect.specs.declared.scan.Placed.{Placed}
 
--- the header of a frame that was read
-unfoldable pub oneFrame : Answer (Read Frame) → OneFrame
-oneFrame (Refused n) = frame.Refused n
-oneFrame (Accepted t) = frame.Header (record { start = t .value .start; len = length (t .value .bytes) })
+-- the header of a frame that was read of the body s
+unfoldable pub oneFrame : List ℕ → Answer (Read Frame) → OneFrame
+oneFrame s (Refused n) = frame.Refused n
+oneFrame s (Accepted t) = frame.Header (record { start = t .value .start; len = length (t .value .bytes) }) (behind s (t .rest))
 
 -- a part, and where its frame begins in frames
 abbrev pub placed : List ℕ → Held → Placed
 placed frames p = record { part = p; place = placeAt frames 0 (p .frame) }
 
--- a part that was read
-unfoldable pub onePart : List ℕ → Answer (Read Held) → OnePart
-onePart frames (Refused n) = part.Refused n
-onePart frames (Accepted t) = part.Part (placed frames (t .value))
+-- a part that was read of the body s
+unfoldable pub onePart : List ℕ → List ℕ → Answer (Read Held) → OnePart
+onePart s frames (Refused n) = part.Refused n
+onePart s frames (Accepted t) = part.Part (placed frames (t .value)) (behind s (t .rest))
 
--- 32 where a part's rule does not hold
-unfoldable pub placedIf : List ℕ → Held → Bool → OnePart
-placedIf frames p ok = cond ok (part.Part (placed frames p)) (part.Refused 32)
+-- a part and the cursor behind it; 32 where its rule does not hold
+unfoldable pub placedIf : List ℕ → Held → Cursor → Bool → OnePart
+placedIf frames p c ok = cond ok (part.Part (placed frames p) c) (part.Refused 32)
 
 -- the rule of the part p of a header's checkpoints and frames; last is the part before it, unless p begins the section
 abbrev pub partRule : Area → Header → List ℕ → List ℕ → Bool → Placed → Held → Bool

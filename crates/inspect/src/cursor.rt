@@ -1,12 +1,15 @@
 // The reading cursor of a file (source: Input): it goes in by value and comes back moved.
 use field::read_u32;
 use field::read_u64;
+use rules::Held;
 use rules::HintHeader;
+use tables::kind_of;
+use tables::signed;
 ghost use mathlib.Core.Path.{_≡_};
 ghost use Prim.Native.Nat.{_+_, _≤_, _<_};
 ghost use lib.Dec.{leb};
 ghost use lib.ListN.{length, take};
-ghost use Rattle.inspect.specs.Cursors.{to, wordAt, longAt, pairAt, headedAt};
+ghost use Rattle.inspect.specs.Cursors.{to, wordAt, longAt, pairAt, heldAt, headedAt};
 
 // The place in the body that is read next.
 pub struct Cursor {
@@ -28,6 +31,12 @@ pub enum Long {
 pub enum Pair {
     Refused(u32),
     Numbers(u32, u32, Cursor),
+}
+
+// The refusal, or a held part and the cursor behind it.
+pub enum OneHeld {
+    Refused(u32),
+    Part(Held, Cursor),
 }
 
 // The refusal, or the hint section's header and the cursor behind what was read.
@@ -95,6 +104,33 @@ impl Cursor {
             return Pair::Refused(20);
         };
         Pair::Numbers(first, second, d)
+    }
+
+    // A held part, number by number; 33 where its kind is above 1.
+    pub fn held(self, body: &[u8]) -> OneHeld
+        ensures { λ r. ⌜ r ≡ heldAt (now (body .entry)) (self .at) ⌝ }
+    {
+        let Pair::Numbers(at, frame, c) = self.pair(body) else {
+            return OneHeld::Refused(20);
+        };
+        let Pair::Numbers(len, number, d) = c.pair(body) else {
+            return OneHeld::Refused(20);
+        };
+        let Pair::Numbers(remaining, kind, e) = d.pair(body) else {
+            return OneHeld::Refused(20);
+        };
+        if 1 < kind {
+            return OneHeld::Refused(33);
+        }
+        let p = Held {
+            at,
+            frame,
+            len,
+            number,
+            kind: kind_of(kind),
+            remaining: signed(remaining),
+        };
+        OneHeld::Part(p, e)
     }
 
     // The header of the hint section, field by field.

@@ -9,12 +9,17 @@ use field::not;
 use field::or;
 use header::has_fingerprint;
 use rules::Area;
+use rules::CONFIRMED;
 use rules::DEFAULT_HINT_SPACING;
 use rules::DEFAULT_MAX_HINTS;
+use rules::HINT;
 use rules::Header;
 use rules::HintHeader;
 use rules::MAX_HINTS;
 use rules::MAX_SHORT_HINTS;
+use rules::VERSION_CONFIRMED;
+use rules::VERSION_HINTS;
+use rules::VERSION_MORE_HINTS;
 use sections::ask;
 use sections::records::check_confirmations;
 use sections::records::check_hints;
@@ -39,7 +44,7 @@ fn adds_to(h: Header, g: HintHeader) -> bool
     );
     or(
         has_fingerprint(h),
-        or(0 < g.count, or(not(usual), 3 <= h.version)),
+        or(0 < g.count, or(not(usual), VERSION_CONFIRMED <= h.version)),
     )
 }
 
@@ -47,7 +52,7 @@ fn adds_to(h: Header, g: HintHeader) -> bool
 fn most_ok(h: Header, most: u32) -> bool
     ensures { λ r. ⌜ r ≡ mostOk h most ⌝ }
 {
-    if h.version < 4 {
+    if h.version < VERSION_MORE_HINTS {
         return most <= MAX_SHORT_HINTS;
     }
     and(MAX_SHORT_HINTS < most, most <= MAX_HINTS)
@@ -68,7 +73,7 @@ fn may_have(h: Header, n: u32) -> bool
     ensures { λ r. ⌜ r ≡ mayConfirm h n ⌝ }
 {
     let stated = has_fingerprint(h);
-    if h.version < 4 {
+    if h.version < VERSION_MORE_HINTS {
         return and(stated, 0 < n);
     }
     or(stated, n == 0)
@@ -102,7 +107,7 @@ fn hints_ok(c: Cursor, body: &[u8], n: usize, area: Area) -> bool
     ensures { λ r. ⌜ r ≡ hintsOk area (hintsIn n (drop (c .at) (now (body .entry)))) ⌝ }
 {
     let at = c.at;
-    check_hints(cut(&body[at..], n * 8), n, area)
+    check_hints(cut(&body[at..], n * HINT), n, area)
 }
 
 fn confirmations_ok(c: Cursor, body: &[u8], n: usize, area: Area) -> bool
@@ -110,7 +115,7 @@ fn confirmations_ok(c: Cursor, body: &[u8], n: usize, area: Area) -> bool
     ensures { λ r. ⌜ r ≡ confirmationsOk area (confirmationsIn n (drop (c .at) (now (body .entry)))) ⌝ }
 {
     let at = c.at;
-    check_confirmations(cut(&body[at..], n * 16), n, area)
+    check_confirmations(cut(&body[at..], n * CONFIRMED), n, area)
 }
 
 // 28 or 36, or the header g and the cursor behind its hints.
@@ -118,14 +123,14 @@ fn hint_list(c: Cursor, body: &[u8], area: Area, h: Header, g: HintHeader) -> He
     ensures { λ r. ⌜ r ≡ headedOf (now (body .entry)) (hintsFrom area h g (leb (c .at + g .count * 8) (length (now (body .entry)))) (drop (c .at) (now (body .entry)))) ⌝ }
 {
     let n = g.count as usize;
-    let number = hint_number(h, g, c.holds(body, n * 8));
+    let number = hint_number(h, g, c.holds(body, n * HINT));
     if number != 0 {
         return Headed::Refused(number);
     }
     if !hints_ok(c, body, n, area) {
         return Headed::Refused(36);
     }
-    Headed::Header(g, c.past(n * 8))
+    Headed::Header(g, c.past(n * HINT))
 }
 
 // 20, 28 or 36, or the hint section's header and the cursor behind the section.
@@ -133,7 +138,7 @@ pub fn hint_section(c: Cursor, body: &[u8], area: Area, h: Header) -> Headed
     requires { ⌜ c .at ≤ length (now body) ⌝ }
     ensures { λ r. ⌜ r ≡ headedOf (now (body .entry)) (readHintSection area h (drop (c .at) (now (body .entry)))) ⌝ }
 {
-    if h.version < 2 {
+    if h.version < VERSION_HINTS {
         return Headed::Header(no_hint_header(), c);
     }
     let Headed::Header(g, d) = c.hint_header(body) else {
@@ -155,14 +160,14 @@ fn confirmed_list(
     ensures { λ r. ⌜ r ≡ countedOf (now (body .entry)) (confirmedFrom area h most n reserved (leb (c .at + n * 16) (length (now (body .entry)))) (drop (c .at) (now (body .entry)))) ⌝ }
 {
     let k = n as usize;
-    let number = confirmed_number(h, n, reserved, most, c.holds(body, k * 16));
+    let number = confirmed_number(h, n, reserved, most, c.holds(body, k * CONFIRMED));
     if number != 0 {
         return Word::Refused(number);
     }
     if !confirmations_ok(c, body, k, area) {
         return Word::Refused(37);
     }
-    Word::Number(n, c.past(k * 16))
+    Word::Number(n, c.past(k * CONFIRMED))
 }
 
 // 20 or 37, or the count of the confirmations and the cursor behind them.
@@ -170,7 +175,7 @@ pub fn confirmed_section(c: Cursor, body: &[u8], area: Area, h: Header, most: u3
     requires { ⌜ c .at ≤ length (now body) ⌝ }
     ensures { λ r. ⌜ r ≡ countedOf (now (body .entry)) (readConfirmedSection area h most (drop (c .at) (now (body .entry)))) ⌝ }
 {
-    if h.version < 3 {
+    if h.version < VERSION_CONFIRMED {
         return Word::Number(0, c);
     }
     let Pair::Numbers(n, reserved, d) = c.pair(body) else {

@@ -25,7 +25,10 @@ use header::questions::header_number;
 use header::read_header;
 use rules::Area;
 use rules::AreaIndex;
+use rules::CHECKPOINT;
+use rules::FRAME_HEADER;
 use rules::Fingerprint;
+use rules::HEADER;
 use rules::Header;
 use rules::HintHeader;
 use rules::ImageId;
@@ -34,6 +37,7 @@ use sections::frontier_of;
 use sections::last_checkpoint;
 use sections::part_records::reached;
 use sections::records::check_checkpoints;
+use tables::behind;
 ghost use mathlib.Core.Path.{_≡_};
 ghost use mathlib.Core.Bool.{true, cond};
 ghost use Prim.Native.Nat.{_+_, _*_, _≤_};
@@ -150,10 +154,9 @@ fn inspect_malformed(
     requires { ⌜ c .at ≤ length (now body) ⌝ }
     ensures { λ r. ⌜ r ≡ answered (fromMalformed area h used front (drop (c .at) (now (body .entry)))) ⌝ }
 {
-    let at = c.at;
-    match inspect_lsns(&body[at..], area, h, front) {
+    match inspect_lsns(c, body, area, h, front) {
         Taken::Refused(k) => Inspected::Refused(k),
-        Taken::Bytes(n) => inspect_hints(area, h, used, body, c.past(n)),
+        Taken::Behind(d) => inspect_hints(area, h, used, body, d),
     }
 }
 
@@ -191,11 +194,12 @@ fn inspect_held(
     requires { ⌜ (areaOk area ≡ true) × (Ready area h (now checkpoints) (now frames)) × (used ≡ usedBy h (now frames)) × (c .at ≤ length (now body)) ⌝ }
     ensures { λ r. ⌜ r ≡ answered (fromParts area h (checkpointsIn (h .checkpoints) (now (checkpoints .entry))) (framesRead (h .frames) (now (frames .entry))) (drop (c .at) (now (body .entry)))) ⌝ }
 {
-    let at = c.at;
-    let parts = &body[at..];
-    match inspect_parts(parts, area, h, checkpoints, frames) {
+    match inspect_parts(c, body, area, h, checkpoints, frames) {
         Taken::Refused(k) => Inspected::Refused(k),
-        Taken::Bytes(n) => inspect_end(area, h, used, checkpoints, parts, body, c.past(n)),
+        Taken::Behind(d) => {
+            let parts = behind(body, c.at);
+            inspect_end(area, h, used, checkpoints, parts, body, d)
+        }
     }
 }
 
@@ -204,13 +208,12 @@ fn inspect_stored(area: Area, h: Header, checkpoints: &[u8], body: &[u8], c: Cur
     requires { ⌜ (areaOk area ≡ true) × (h .checkpoints * 24 ≤ length (now checkpoints)) × (c .at ≤ length (now body)) ⌝ }
     ensures { λ r. ⌜ r ≡ answered (fromFrames area h (checkpointsIn (h .checkpoints) (now (checkpoints .entry))) (drop (c .at) (now (body .entry)))) ⌝ }
 {
-    let at = c.at;
-    let frames = &body[at..];
-    match inspect_frames(frames, area, h) {
+    match inspect_frames(c, body, area, h) {
         Taken::Refused(k) => Inspected::Refused(k),
-        Taken::Bytes(n) => {
-            let used = (n - h.frames as usize * 8) as u64;
-            inspect_held(area, h, used, checkpoints, frames, body, c.past(n))
+        Taken::Behind(d) => {
+            let frames = behind(body, c.at);
+            let used = (d.at - c.at - h.frames as usize * FRAME_HEADER) as u64;
+            inspect_held(area, h, used, checkpoints, frames, body, d)
         }
     }
 }
@@ -221,11 +224,13 @@ fn inspect_sections(area: Area, h: Header, body: &[u8]) -> Inspected
     ensures { λ r. ⌜ r ≡ answered (fromCheckpoints area h (drop 80 (now (body .entry)))) ⌝ }
 {
     let n = h.checkpoints as usize;
-    let checkpoints = cut(&body[80..], n * 24);
+    let checkpoints = cut(&body[HEADER..], n * CHECKPOINT);
     if !check_checkpoints(checkpoints, n, h.interval, 0) {
         return Inspected::Refused(31);
     }
-    let c = Cursor { at: 80 + n * 24 };
+    let c = Cursor {
+        at: HEADER + n * CHECKPOINT,
+    };
     inspect_stored(area, h, checkpoints, body, c)
 }
 
@@ -234,7 +239,7 @@ fn inspect_body(area: Area, body: &[u8], sum: u64) -> Inspected
     requires { ⌜ areaOk area ≡ true ⌝ }
     ensures { λ r. ⌜ r ≡ answered (fromBody area sum (now (body .entry))) ⌝ }
 {
-    if body.len() < 80 {
+    if body.len() < HEADER {
         return Inspected::Refused(21);
     }
     let h = read_header(body);
@@ -244,7 +249,7 @@ fn inspect_body(area: Area, body: &[u8], sum: u64) -> Inspected
     if fnv(body) != sum {
         return Inspected::Refused(22);
     }
-    let number = header_number(area, h, body.len() - 80);
+    let number = header_number(area, h, body.len() - HEADER);
     if number != 0 {
         return Inspected::Refused(number);
     }

@@ -1,7 +1,10 @@
-// The sections of a file whose bytes may end early: frames, parts and malformed LSNs. Each inspector is handed the part of the body that begins at
-// its section.
+// The sections of a file whose bytes may end early: frames, parts and malformed LSNs. Each inspector is handed the cursor where its section begins.
+use crate::cursor::Cursor;
+use crate::cursor::OneHeld;
+use crate::cursor::Pair;
 use field::read_u32;
 use rules::Area;
+use rules::FRAME_HEADER;
 use rules::Header;
 use rules::Held;
 use sections::part_records::here_ok;
@@ -12,12 +15,10 @@ use sections::records::header_ok;
 use tables::FrameHeader;
 use tables::behind;
 use tables::header_at;
-use tables::read_header;
-use tables::read_held;
 ghost use mathlib.Core.Path.{_≡_};
 ghost use mathlib.Core.Bool.{cond};
 ghost use Prim.Native.Nat.{_+_, _*_, _≤_, _<_};
-ghost use lib.ListN.{length};
+ghost use lib.ListN.{length, drop};
 ghost use Rattle.field.specs.Number.{numberAt};
 ghost use Rattle.rules.specs.Load.{readFrame, readPart, readFrames, readParts};
 ghost use Rattle.tables.specs.Tables.{checkpointsIn, filledTo, before};
@@ -25,16 +26,16 @@ ghost use Rattle.tables.specs.Files.{framesRead};
 ghost use Rattle.inspect.specs.Taken.{takenOf, readLsns};
 ghost use Rattle.inspect.specs.Needs.{oneFrame, onePart, placedIf, partRule, Ready, LastAt};
 
-// The refusal, or how many bytes a section has.
+// The refusal, or the cursor behind a section.
 pub enum Taken {
     Refused(u32),
-    Bytes(usize),
+    Behind(Cursor),
 }
 
-// The refusal, or the header of a frame.
+// The refusal, or the header of a frame and the cursor behind its bytes.
 pub enum OneFrame {
     Refused(u32),
-    Header(FrameHeader),
+    Header(FrameHeader, Cursor),
 }
 
 // A part, and where its frame begins in the section of frames.
@@ -43,53 +44,55 @@ pub struct Placed {
     pub place: usize,
 }
 
+// The refusal, or a part and the cursor behind it.
 pub enum OnePart {
     Refused(u32),
-    Part(Placed),
+    Part(Placed, Cursor),
 }
 
 // ---- frames
-// 20 or 32, or the header of the frame that b begins with; floor and used are of the frames before it.
-fn inspect_frame(b: &[u8], area: Area, budget: u64, floor: u64, used: u64) -> OneFrame
+// 20 or 32, or the header of the frame that is read next; floor and used are of the frames before it.
+fn inspect_frame(c: Cursor, body: &[u8], area: Area, budget: u64, floor: u64, used: u64) -> OneFrame
     requires { ⌜ used ≤ budget ⌝ }
-    ensures { λ r. ⌜ r ≡ oneFrame (readFrame area budget (filledTo floor used) (now (b .entry))) ⌝ }
+    ensures { λ r. ⌜ r ≡ oneFrame (now (body .entry)) (readFrame area budget (filledTo floor used) (drop (c .at) (now (body .entry)))) ⌝ }
 {
-    if b.len() < 8 {
+    let Pair::Numbers(start, len, d) = c.pair(body) else {
         return OneFrame::Refused(20);
-    }
-    let h = read_header(b, 0);
+    };
+    let h = FrameHeader { start, len };
     if !header_ok(area, budget, floor, used, h) {
         return OneFrame::Refused(32);
     }
-    if b.len() - 8 < h.len as usize {
+    if !d.holds(body, len as usize) {
         return OneFrame::Refused(20);
     }
-    OneFrame::Header(h)
+    OneFrame::Header(h, d.past(len as usize))
 }
 
-// 20 or 32, or the bytes of the frames that b begins with.
-pub fn inspect_frames(b: &[u8], area: Area, h: Header) -> Taken
-    ensures { λ r. ⌜ r ≡ takenOf (now (b .entry)) (readFrames area h (now (b .entry))) ⌝ }
+// 20 or 32, or the cursor behind the frames.
+pub fn inspect_frames(c: Cursor, body: &[u8], area: Area, h: Header) -> Taken
+    requires { ⌜ c .at ≤ length (now body) ⌝ }
+    ensures { λ r. ⌜ r ≡ takenOf (now (body .entry)) (readFrames area h (drop (c .at) (now (body .entry)))) ⌝ }
 {
     let f = h.frames as usize;
-    let mut here = 0;
+    let mut here = c;
     let mut floor = area.start;
     let mut used = 0;
     let mut j = 0;
     while j < f {
-        match inspect_frame(behind(b, here), area, h.budget, floor, used) {
+        match inspect_frame(here, body, area, h.budget, floor, used) {
             OneFrame::Refused(k) => {
                 return Taken::Refused(k);
             }
-            OneFrame::Header(g) => {
-                here = here + 8 + g.len as usize;
+            OneFrame::Header(g, d) => {
+                here = d;
                 floor = g.start as u64 + 1;
                 used += g.len as u64;
                 j += 1;
             }
         }
     }
-    Taken::Bytes(here)
+    Taken::Behind(here)
 }
 
 // ---- parts
@@ -99,12 +102,12 @@ fn place_by(frames: &[u8], place: usize, moves: bool) -> usize
     ensures { λ r. ⌜ r ≡ cond moves (place + 8 + numberAt 4 (now (frames .entry)) (place + 4)) place ⌝ }
 {
     if moves {
-        return place + 8 + read_u32(frames, place + 4) as usize;
+        return place + FRAME_HEADER + read_u32(frames, place + 4) as usize;
     }
     place
 }
 
-// 32, or p with the place of its frame; last is the part before it, unless p begins the section.
+// 32, or p with the place of its frame and the cursor c, which is behind p; last is the part before it, unless p begins the section.
 fn place_part(
     area: Area,
     h: Header,
@@ -113,9 +116,10 @@ fn place_part(
     begins: bool,
     last: Placed,
     p: Held,
+    c: Cursor,
 ) -> OnePart
     requires { ⌜ (Ready area h (now checkpoints) (now frames)) × (LastAt (now frames) begins last) ⌝ }
-    ensures { λ r. ⌜ r ≡ placedIf (now (frames .entry)) p (partRule area h (now (checkpoints .entry)) (now (frames .entry)) begins last p) ⌝ }
+    ensures { λ r. ⌜ r ≡ placedIf (now (frames .entry)) p c (partRule area h (now (checkpoints .entry)) (now (frames .entry)) begins last p) ⌝ }
 {
     let q = last.part;
     if !near_ok(h.frames as usize, begins, q, p) {
@@ -127,12 +131,13 @@ fn place_part(
     if !here_ok(area, h.interval, 0, checkpoints, n, p, f) {
         return OnePart::Refused(32);
     }
-    OnePart::Part(Placed { part: p, place })
+    OnePart::Part(Placed { part: p, place }, c)
 }
 
-// 20, 33 or 32, or the part that b begins with.
+// 20, 33 or 32, or the part that is read next.
 fn inspect_part(
-    b: &[u8],
+    c: Cursor,
+    body: &[u8],
     area: Area,
     h: Header,
     checkpoints: &[u8],
@@ -141,44 +146,46 @@ fn inspect_part(
     last: Placed,
 ) -> OnePart
     requires { ⌜ (Ready area h (now checkpoints) (now frames)) × (LastAt (now frames) begins last) ⌝ }
-    ensures { λ r. ⌜ r ≡ onePart (now (frames .entry)) (readPart area (h .interval) (checkpointsIn (h .checkpoints) (now (checkpoints .entry))) (framesRead (h .frames) (now (frames .entry))) (before begins (last .part)) (now (b .entry))) ⌝ }
+    ensures { λ r. ⌜ r ≡ onePart (now (body .entry)) (now (frames .entry)) (readPart area (h .interval) (checkpointsIn (h .checkpoints) (now (checkpoints .entry))) (framesRead (h .frames) (now (frames .entry))) (before begins (last .part)) (drop (c .at) (now (body .entry)))) ⌝ }
 {
-    if b.len() < 24 {
-        return OnePart::Refused(20);
+    match c.held(body) {
+        OneHeld::Refused(k) => OnePart::Refused(k),
+        OneHeld::Part(p, d) => place_part(area, h, checkpoints, frames, begins, last, p, d),
     }
-    if 1 < read_u32(b, 20) {
-        return OnePart::Refused(33);
-    }
-    let p = read_held(b, 0);
-    place_part(area, h, checkpoints, frames, begins, last, p)
 }
 
-// 20, 33 or 32, or the bytes of the parts that b begins with, of the checkpoints and the frames.
-pub fn inspect_parts(b: &[u8], area: Area, h: Header, checkpoints: &[u8], frames: &[u8]) -> Taken
-    requires { ⌜ Ready area h (now checkpoints) (now frames) ⌝ }
-    ensures { λ r. ⌜ r ≡ takenOf (now (b .entry)) (readParts area h (checkpointsIn (h .checkpoints) (now (checkpoints .entry))) (framesRead (h .frames) (now (frames .entry))) (now (b .entry))) ⌝ }
+// 20, 33 or 32, or the cursor behind the parts, of the checkpoints and the frames.
+pub fn inspect_parts(
+    c: Cursor,
+    body: &[u8],
+    area: Area,
+    h: Header,
+    checkpoints: &[u8],
+    frames: &[u8],
+) -> Taken
+    requires { ⌜ (Ready area h (now checkpoints) (now frames)) × (c .at ≤ length (now body)) ⌝ }
+    ensures { λ r. ⌜ r ≡ takenOf (now (body .entry)) (readParts area h (checkpointsIn (h .checkpoints) (now (checkpoints .entry))) (framesRead (h .frames) (now (frames .entry))) (drop (c .at) (now (body .entry)))) ⌝ }
 {
     let n = h.parts as usize;
     let mut last = Placed {
         part: no_part(),
         place: 0,
     };
-    let mut here = 0;
+    let mut here = c;
     let mut j = 0;
     while j < n {
-        let rest = behind(b, here);
-        match inspect_part(rest, area, h, checkpoints, frames, j == 0, last) {
+        match inspect_part(here, body, area, h, checkpoints, frames, j == 0, last) {
             OnePart::Refused(k) => {
                 return Taken::Refused(k);
             }
-            OnePart::Part(next) => {
+            OnePart::Part(next, d) => {
                 last = next;
-                here += 24;
+                here = d;
                 j += 1;
             }
         }
     }
-    Taken::Bytes(here)
+    Taken::Behind(here)
 }
 
 // ---- malformed LSNs
@@ -191,11 +198,13 @@ fn there(n: usize, left: usize, w: usize) -> usize
     if n < whole { n } else { whole }
 }
 
-// 20 or 35, or the bytes of the malformed LSNs that b begins with, below front.
-pub fn inspect_lsns(b: &[u8], area: Area, h: Header, front: u64) -> Taken
-    ensures { λ r. ⌜ r ≡ takenOf (now (b .entry)) (readLsns area h front (now (b .entry))) ⌝ }
+// 20 or 35, or the cursor behind the malformed LSNs, which are below front.
+pub fn inspect_lsns(c: Cursor, body: &[u8], area: Area, h: Header, front: u64) -> Taken
+    requires { ⌜ c .at ≤ length (now body) ⌝ }
+    ensures { λ r. ⌜ r ≡ takenOf (now (body .entry)) (readLsns area h front (drop (c .at) (now (body .entry)))) ⌝ }
 {
     let m = h.malformed as usize;
+    let b = behind(body, c.at);
     let some = there(m, b.len(), 4);
     if !check_lsns(b, some, area, front) {
         return Taken::Refused(35);
@@ -203,5 +212,5 @@ pub fn inspect_lsns(b: &[u8], area: Area, h: Header, front: u64) -> Taken
     if some < m {
         return Taken::Refused(20);
     }
-    Taken::Bytes(m * 4)
+    Taken::Behind(c.past(m * 4))
 }

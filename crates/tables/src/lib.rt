@@ -57,7 +57,7 @@ pub fn read_header(t: &[u8], j: usize) -> FrameHeader
     header_at(t, j * 8)
 }
 
-fn kind_of(v: u32) -> FrameKind
+pub fn kind_of(v: u32) -> FrameKind
     ensures { λ r. ⌜ r ≡ kindOf v ⌝ }
 {
     if v == 0 {
@@ -68,7 +68,7 @@ fn kind_of(v: u32) -> FrameKind
 }
 
 // The signed number that four bytes stand for.
-fn signed(v: u32) -> i32
+pub fn signed(v: u32) -> i32
     ensures { λ r. ⌜ r ≡ signed32 v ⌝ }
 {
     if v < 2147483648 {

@@ -7,11 +7,16 @@ use native.Mathlib.Nat.{add-zero}
 use native.Mathlib.Omega.{arith}
 use borrow.Author.Tests.{leb-true, leb-false, le-leb, lt-leb}
 use lib.Dec.{leb}
-use lib.ListN.{length, drop}
+use lib.IntN.{ℤ}
+use lib.ListN.{length, take, drop}
 use Rattle.field.specs.Number.{numberAt}
 use Rattle.field.proofs.Number.{number-drop}
+use Rattle.rules.specs.declared.FrameKind.{FrameKind}
+use Rattle.rules.specs.declared.Held.{Held}
 use Rattle.rules.specs.declared.HintHeader.{HintHeader}
+use Rattle.rules.specs.File.{decodeHeld, kindOf, signed32}
 use Rattle.rules.specs.Load.{decodeHintHeader}
+use Rattle.tables.proofs.Records.{held-made}
 use Rattle.inspect.specs.declared.cursor.Cursor.{Cursor}
 use Rattle.inspect.specs.declared.cursor.Word.{Word}
 use Rattle.inspect.specs.declared.cursor.Word.the-variants as word
@@ -19,9 +24,11 @@ use Rattle.inspect.specs.declared.cursor.Long.{Long}
 use Rattle.inspect.specs.declared.cursor.Long.the-variants as long
 use Rattle.inspect.specs.declared.cursor.Pair.{Pair}
 use Rattle.inspect.specs.declared.cursor.Pair.the-variants as pair
+use Rattle.inspect.specs.declared.cursor.OneHeld.{OneHeld}
+use Rattle.inspect.specs.declared.cursor.OneHeld.the-variants as held
 use Rattle.inspect.specs.declared.cursor.Headed.{Headed}
 use Rattle.inspect.specs.declared.cursor.Headed.the-variants as headed
-use Rattle.inspect.specs.Cursors.{to, wordAt, longAt, pairAt, headedAt}
+use Rattle.inspect.specs.Cursors.{to, wordAt, longAt, pairAt, heldAt, headedAt}
 
 chosen : {B : Type 0} (p : Bool) {x y z : B} → cond p x y ≡ z → (y ≡ z → ⊥) → (p ≡ true) × (x ≡ z)
 chosen true e n = (refl, e)
@@ -91,6 +98,49 @@ module _ (s : List ℕ) (at : ℕ) where
       let l : at + 8 ≤ length s = omega (arith, g2 .inside) in
       let m : at + 4 + 4 ≡ at + 8 = omega arith in
       rw (le-leb (at + 8) (length s) l, g1 .value, g2 .value, g2 .moved, m)
+
+  -- ---- a held part
+  pub held-none : length s < at + 24 → held.Refused 20 ≡ heldAt s at
+  unfolding heldAt
+  held-none h = rw (lt-leb (at + 24) (length s) h)
+
+  module _ {v u : ℕ} {e : Cursor} (g : GotPair s (at + 8 + 8) v u e) where
+    reaches : at + 24 ≤ length s
+    reaches = omega (arith, g .inside)
+
+    kind-at : u ≡ numberAt 4 s (at + 20)
+    kind-at = let m : at + 8 + 8 + 4 ≡ at + 20 = omega arith in rw (← m) (g .second)
+
+    pub held-kind : 1 < u → held.Refused 33 ≡ heldAt s at
+    unfolding heldAt
+    held-kind h = rw (le-leb (at + 24) (length s) reaches, ← kind-at, lt-leb u 1 h)
+
+    pub held-read : {v1 v2 v3 v4 : ℕ} {c d : Cursor} {kind : FrameKind} {remaining : ℤ} → GotPair s at v1 v2 c → GotPair s (at + 8) v3 v4 d → u ≤ 1 → kind ≡ kindOf u
+        → remaining ≡ signed32 v → held.Part (record { at = v1; frame = v2; len = v3; number = v4; kind = kind; remaining = remaining }) e ≡ heldAt s at
+    unfolding heldAt
+    held-read {v1} {v2} {v3} {v4} g1 g2 h i j =
+        let m : at + 8 + 8 + 8 ≡ at + 24 = omega arith in
+        let m12 : at + 8 + 4 ≡ at + 12 = omega arith in
+        let m16 : at + 8 + 8 ≡ at + 16 = omega arith in
+        let n12 : v4 ≡ numberAt 4 s (at + 12) = rw (← m12) (g2 .second) in
+        let n16 : v ≡ numberAt 4 s (at + 16) = rw (← m16) (g .first) in
+        let p = held-made s at (g1 .first) (g1 .second) (g2 .first) n12 kind-at i n16 j in
+        rw (le-leb (at + 24) (length s) reaches, ← kind-at, le-leb u 1 h, g .moved, m, ← p)
+
+  -- one that was read
+  pub record HeldGot (p : Held) (c : Cursor) : Type 0 where
+    pub value : p ≡ decodeHeld (take 24 (drop at s))
+    pub kind : leb (numberAt 4 s (at + 20)) 1 ≡ true
+    pub moved : c ≡ to (at + 24)
+    pub inside : at + 24 ≤ length s
+
+  pub held-got : {r : OneHeld} {p : Held} {c : Cursor} → r ≡ heldAt s at → r ≡ held.Part p c → HeldGot p c
+  unfolding heldAt
+  held-got {r} {p} {c} o e =
+      let y = chosen (leb (at + 24) (length s)) (sym o ∙ e) (λ q. let z : _≡_ {A = ℕ} 0 1 = cc in omega arith) in
+      let w = chosen (leb (numberAt 4 s (at + 20)) 1) (y .1) (λ q. let z : _≡_ {A = ℕ} 0 1 = cc in omega arith) in
+      let q : held.Part (decodeHeld (take 24 (drop at s))) (to (at + 24)) ≡ held.Part p c = w .1 in
+      record { value = cc; kind = w .0; moved = cc; inside = leb-true (at + 24) (length s) (y .0) }
 
   -- ---- the hint section's header
   pub headed-none : length s < at + 24 → headed.Refused 20 ≡ headedAt s at

@@ -11,11 +11,18 @@ unfolding fromEnd answered
 returns c = rw (← (c .before .end-number .ensures), after-no (c .before .end-number .result) _ (c .if1 .taken))
 
 frontier-of-requires : tie.Need-frontier-of-requires
-frontier-of-requires c κs = let o = ordered (c .before .before .before .before .before .before .args .area) (c .before .before .before .before .before .before .pre .0) in search needs
+frontier-of-requires c κs =
+    let start : tie.Start = search in
+    let o = ordered (start .args .area) (start .pre .0) in search needs
 
 returns-2 : tie.Need-returns-2
 unfolding fromEnd
-returns-2 c = rw (← (c .before .before .before .before .end-number .ensures), after-yes _ (c .before .before .before .if1 .left), records-length, ← (c .before .before .ending-of .ensures .1), ← (c .before .frontier-of .ensures)) (c .inspect-malformed .ensures)
+returns-2 c =
+    let after-end-number : tie.After-end-number = search in
+    let else1 : tie.Else1 = search in
+    let after-ending-of : tie.After-ending-of = search in
+    let after-frontier-of : tie.After-frontier-of = search in
+    rw (← (after-end-number .end-number .ensures), after-yes _ (else1 .if1 .left), records-length, ← (after-ending-of .ending-of .ensures .1), ← (after-frontier-of .frontier-of .ensures)) (c .inspect-malformed .ensures)
 
 pub inspect-end-spec : {M : Type 1} → statement M
 inspect-end-spec =

@@ -1,4 +1,4 @@
--- A loop that reads things in order from the bytes of its section: its start, a turn that reads one, one that refuses, and its end. Assumes nothing.
+-- A loop that reads things in order from a place of the body on: its start, a turn that reads one, one that refuses, and its end. Assumes nothing.
 use mathlib.Core.Path.{_≡_, refl, sym, ap, _∙_}
 use mathlib.Core.List.{List, [], _∷_}
 use Prim.Native.Nat.{ℕ, suc, _+_, _-_, _<_, _≤_}
@@ -7,21 +7,22 @@ use native.Mathlib.Omega.{arith}
 use lib.ListN.{length, drop, length-drop}
 use Rattle.rules.specs.Tests.{Answer, Refused, Accepted, bind}
 use Rattle.rules.specs.Load.{Read, read, readEach}
+use Rattle.inspect.specs.Cursors.{to}
 use Rattle.inspect.specs.declared.scan.Taken.{Taken}
 use Rattle.inspect.specs.declared.scan.Taken.the-variants as taken
 use Rattle.inspect.specs.Taken.{takenOf}
 
--- the loop has read j of n things, the first at bytes of b, and is in state s; the answer is to be x
+-- the loop has read j of n things, is at the place at of the body b and in state s; the answer is to be x
 pub record Reading {S A : Type 0} (r : S → List ℕ → Answer (Read A)) (next : S → A → S) (n : ℕ) (b : List ℕ) (x : Taken) (j at : ℕ) (s : S) : Type 0 where
   pub within : j ≤ n
   pub inside : at ≤ length b
   pub rest : takenOf b (readEach r next (n - j) s (drop at b)) ≡ x
 
-pub reading-start : {S A : Type 0} (r : S → List ℕ → Answer (Read A)) (next : S → A → S) (n : ℕ) (b : List ℕ) (s : S)
-    → Reading r next n b (takenOf b (readEach r next n s b)) 0 0 s
-reading-start r next n b s = record { within = omega arith; inside = omega arith; rest = rw sub-zero }
+pub reading-start : {S A : Type 0} (r : S → List ℕ → Answer (Read A)) (next : S → A → S) (n : ℕ) (b : List ℕ) (at : ℕ) (s : S) → at ≤ length b
+    → Reading r next n b (takenOf b (readEach r next n s (drop at b))) 0 at s
+reading-start r next n b at s l = record { within = omega arith; inside = l; rest = rw sub-zero }
 
--- one more in front takes no other bytes
+-- one more in front moves the cursor no further
 taken-more : {A : Type 0} (b : List ℕ) (v : A) (e : Answer (Read (List A))) → takenOf b (bind e (λ u. read (v ∷ u .value) (u .rest))) ≡ takenOf b e
 unfolding bind takenOf
 taken-more b v (Refused k) = refl
@@ -44,10 +45,10 @@ module _ {S A : Type 0} {r : S → List ℕ → Answer (Read A)} {next : S → A
   unfolding readEach bind takenOf
   reading-stop h e = rw (left h, e) at (k .rest)
 
-  pub reading-end : n ≤ j → taken.Bytes at ≡ x
+  pub reading-end : n ≤ j → taken.Behind (to at) ≡ x
   unfolding readEach takenOf
   reading-end h =
       let z : n - j ≡ 0 = omega arith in
       let l : at ≤ length b = k .inside in
       let q : length b - length (drop at b) ≡ at = simp length-drop (omega arith) in
-      ap taken.Bytes (sym q) ∙ (rw z at (k .rest))
+      ap (λ (i : ℕ). taken.Behind (to i)) (sym q) ∙ (rw z at (k .rest))

@@ -11,29 +11,37 @@ use Rattle.field.specs.Records.{records}
 use Rattle.rules.specs.Tests.{walk, Answer, Refused}
 use Rattle.rules.specs.Load.{Read, read, readEach, readRecord}
 use Rattle.tables.proofs.Reading.{read-all, read-short}
+use Rattle.inspect.specs.declared.cursor.Cursor.{Cursor}
 use Rattle.inspect.specs.declared.scan.Taken.the-variants as taken
+use Rattle.inspect.specs.Cursors.{to}
+use Rattle.inspect.specs.Behind.{behind}
 use Rattle.inspect.specs.Taken.{takenOf}
+use Rattle.inspect.proofs.Left.{behind-is}
 use native.Mathlib.Nat.{eq-or-lt-of-le}
 use mathlib.Core.Logic.{⊎-elim}
 
--- m of n records of w bytes are there; t is the answer of the walk over those
-module _ {S A : Type 0} (w : ℕ) (d : List ℕ → A) (ok : S → A → Bool) (next : S → A → S) (k : ℕ) (other : eqb k 0 ≡ false) (m n : ℕ) (s : S) (b : List ℕ)
-    (h : m ≤ n) (l : m * w ≤ length b) (g : m < n → length b < m * w + w) {t : Bool} (e : t ≡ walk ok next s (records w d m b)) where
-  pub taken-no : not t ≡ true → taken.Refused k ≡ takenOf b (readEach (readRecord w d ok k) next n s b)
+-- m of n records of w bytes are there in b, the body s from at on; t is the answer of the walk over those
+module _ {S A : Type 0} (w : ℕ) (f : List ℕ → A) (ok : S → A → Bool) (next : S → A → S) (k : ℕ) (other : eqb k 0 ≡ false) (m n : ℕ) (i : S) (s : List ℕ) (at : ℕ) (z : at ≤ length s)
+    {b : List ℕ} (c : b ≡ drop at s) (h : m ≤ n) (l : m * w ≤ length b) (g : m < n → length b < m * w + w) {t : Bool} (e : t ≡ walk ok next i (records w f m b)) where
+  pub taken-no : not t ≡ true → taken.Refused k ≡ takenOf s (readEach (readRecord w f ok k) next n i (drop at s))
   unfolding takenOf
-  taken-no z =
+  taken-no y =
       ⊎-elim
-      (λ (q : m ≡ n). rw (← q, read-all w d ok next k other m s b l, ← e, not-true t z))
-      (λ (q : m < n). rw (read-short w d ok next k other m n s b q l (g q), ← e, not-true t z))
+      (λ (q : m ≡ n). rw (← c, ← q, read-all w f ok next k other m i b l, ← e, not-true t y))
+      (λ (q : m < n). rw (← c, read-short w f ok next k other m n i b q l (g q), ← e, not-true t y))
       (eq-or-lt-of-le h)
 
-  pub taken-short : not t ≡ false → m < n → taken.Refused 20 ≡ takenOf b (readEach (readRecord w d ok k) next n s b)
+  pub taken-short : not t ≡ false → m < n → taken.Refused 20 ≡ takenOf s (readEach (readRecord w f ok k) next n i (drop at s))
   unfolding takenOf
-  taken-short z q = rw (read-short w d ok next k other m n s b q l (g q), ← e, not-false t z)
+  taken-short y q = rw (← c, read-short w f ok next k other m n i b q l (g q), ← e, not-false t y)
 
-  pub taken-all : not t ≡ false → n ≤ m → taken.Bytes (n * w) ≡ takenOf b (readEach (readRecord w d ok k) next n s b)
+  -- where all are there
+  pub taken-room : n ≤ m → at + n * w ≤ length s
+  taken-room q = let j : m ≡ n = omega arith in let r : m * w ≤ length s - at = rw (c, length-drop) at l in rw (← j) (omega arith)
+
+  pub taken-all : not t ≡ false → n ≤ m → {d : Cursor} → d ≡ to (at + n * w) → taken.Behind d ≡ takenOf s (readEach (readRecord w f ok k) next n i (drop at s))
   unfolding takenOf
-  taken-all z q =
-      let i : m ≡ n = omega arith in
-      let r : length b - length (drop (m * w) b) ≡ m * w = simp length-drop (omega arith) in
-      rw (← i, read-all w d ok next k other m s b l, ← e, not-false t z, r)
+  taken-all y q p =
+      let j : m ≡ n = omega arith in
+      let r : taken.Behind (to (at + n * w)) ≡ taken.Behind (behind s (drop (n * w) (drop at s))) = rw (← behind-is s at (n * w) (taken-room q)) in
+      rw p (r ∙ rw (← c, ← j, read-all w f ok next k other m i b l, ← e, not-false t y))

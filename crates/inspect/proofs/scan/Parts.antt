@@ -1,19 +1,17 @@
 -- A part of a file, and its frame there. Assumes nothing.
-use mathlib.Core.Path.{_≡_, refl, sym, ap, subst, _∙_}
+use mathlib.Core.Path.{_≡_, refl, sym, ap, _∙_}
 use mathlib.Core.Bool.{Bool, true, false, _&&_, _||_, not, cond}
 use mathlib.Core.List.{List}
 use mathlib.Core.Logic.{⊎-elim, _⊎_, inl, inr}
 use mathlib.Core.Option.{Option}
-use Prim.Native.Nat.{ℕ, _+_, _-_, _<_, _≤_}
+use Prim.Native.Nat.{ℕ, _+_, _<_, _≤_}
 use native.Mathlib.Nat.{add-zero}
 use native.Mathlib.Numerals.{add-one}
 use native.Mathlib.Omega.{arith}
-use borrow.Author.Tests.{leb-true, le-leb, lt-leb, ltb-true, eqb-true, eq-eqb, ne-eqb, not-true, not-false}
+use borrow.Author.Tests.{leb-true, leb-false, le-leb, lt-leb, ltb-true, eqb-true, eq-eqb, ne-eqb, not-true, not-false}
 use lib.Dec.{eqb, leb, ltb}
 use lib.ListN.{length, take, drop, length-drop}
-use lib.Seq.{drop-drop}
 use Rattle.field.specs.Number.{numberAt}
-use Rattle.field.specs.Records.{recordAt}
 use Rattle.field.proofs.Number.{number-drop, number-take}
 use Rattle.rules.specs.declared.Area.{Area}
 use Rattle.rules.specs.declared.Checkpoint.{Checkpoint}
@@ -24,13 +22,20 @@ use Rattle.rules.specs.Values.{Frame, frameAt, sameKind, noHeld}
 use Rattle.rules.specs.Sections.{follows, partOk}
 use Rattle.rules.specs.File.{decodeHeld}
 use Rattle.rules.specs.Load.{Read, read, readPart}
-use Rattle.rules.proofs.Tests.{and-left, and-right, asked→, accepted-eq}
+use Rattle.rules.proofs.Tests.{test, and-left, and-right, asked→, accepted-eq}
 use Rattle.tables.specs.declared.FrameHeader.{FrameHeader}
 use Rattle.tables.specs.Tables.{checkpointsIn, decodeHeader, before, partNear, partHere}
 use Rattle.tables.specs.Files.{placeAt, framesRead}
 use Rattle.tables.proofs.Tests.{follows-is}
 use Rattle.tables.proofs.Frames.{part-by}
 use Rattle.tables.proofs.Files.{place-inside, read-start, read-length, read-count}
+use Rattle.inspect.specs.declared.cursor.Cursor.{Cursor}
+use Rattle.inspect.specs.declared.cursor.OneHeld.{OneHeld}
+use Rattle.inspect.specs.declared.cursor.OneHeld.the-variants as held
+use Rattle.inspect.specs.Cursors.{to, heldAt}
+use Rattle.inspect.specs.Behind.{behind}
+use Rattle.inspect.proofs.Left.{read-eq, left-drop, left-more, left-at, behind-is, Wide, wide-leaves}
+use Rattle.inspect.proofs.cursor.Words.{held-got}
 use Rattle.inspect.specs.declared.scan.OnePart.{OnePart}
 use Rattle.inspect.specs.declared.scan.OnePart.the-variants as part
 use Rattle.inspect.specs.declared.scan.Placed.{Placed}
@@ -66,10 +71,10 @@ header-len b place e = rw (e, number-take 4 8 (drop place b) 4 (omega arith), nu
 
 module _ {a : Area} {h : Header} {checkpoints frames : List ℕ} (y : Ready a h checkpoints frames) {begins : Bool} {last : Placed} (t : LastAt frames begins last) (p : Held) where
   -- by the part before it alone
-  pub part-far : {u : Bool} → u ≡ partNear (h .frames) (before begins (last .part)) p → not u ≡ true
-      → part.Refused 32 ≡ placedIf frames p (partRule a h checkpoints frames begins last p)
+  pub part-far : {u : Bool} (c : Cursor) → u ≡ partNear (h .frames) (before begins (last .part)) p → not u ≡ true
+      → part.Refused 32 ≡ placedIf frames p c (partRule a h checkpoints frames begins last p)
   unfolding placedIf
-  part-far {u} e g =
+  part-far {u} c e g =
       let fs = framesRead (h .frames) frames in
       let n : partNear (h .frames) (before begins (last .part)) p ≡ false = sym e ∙ not-true u g in
       rw (
@@ -121,66 +126,80 @@ module _ {a : Area} {h : Header} {checkpoints frames : List ℕ} (y : Ready a h 
         (read-start (h .frames) (p .frame) frames 0 (n .below) ∙ s) (read-length (h .frames) (p .frame) frames 0 (n .below) (y .inside) ∙ l))
         ∙ rw (m, ← x)
 
-pub placed-no : (frames : List ℕ) (p : Held) {ok v : Bool} → ok ≡ v → not v ≡ true → part.Refused 32 ≡ placedIf frames p ok
+pub placed-no : (frames : List ℕ) (p : Held) (c : Cursor) {ok v : Bool} → ok ≡ v → not v ≡ true → part.Refused 32 ≡ placedIf frames p c ok
 unfolding placedIf
-placed-no frames p {ok} {v} e g = rw (e, not-true v g)
+placed-no frames p c {ok} {v} e g = rw (e, not-true v g)
 
-pub placed-yes : (frames : List ℕ) (p : Held) {ok v : Bool} {place : ℕ} → ok ≡ v → not v ≡ false → place ≡ placeAt frames 0 (p .frame)
-    → part.Part (record { part = p; place = place }) ≡ placedIf frames p ok
+pub placed-yes : (frames : List ℕ) (p : Held) (c : Cursor) {ok v : Bool} {place : ℕ} → ok ≡ v → not v ≡ false → place ≡ placeAt frames 0 (p .frame)
+    → part.Part (record { part = p; place = place }) c ≡ placedIf frames p c ok
 unfolding placedIf
-placed-yes frames p {ok} {v} e g q = rw (e, not-false v g, q)
+placed-yes frames p c {ok} {v} e g q = rw (e, not-false v g, q)
 
--- ---- one part
-module _ (a : Area) (k : ℕ) (cs : List Checkpoint) (fs : List Frame) (o : Option Held) (frames b : List ℕ) where
-  pub part-short : length b < 24 → part.Refused 20 ≡ onePart frames (readPart a k cs fs o b)
-  unfolding readPart after firstNo onePart
-  part-short l = rw (lt-leb 24 (length b) l)
+-- ---- one part, of the body s from at on
+module _ (a : Area) (k : ℕ) (cs : List Checkpoint) (fs : List Frame) (o : Option Held) (frames s : List ℕ) (at : ℕ) {r : OneHeld} (e : r ≡ heldAt s at) where
+  pub part-stopped : {n : ℕ} → r ≡ held.Refused n → part.Refused n ≡ onePart s frames (readPart a k cs fs o (drop at s))
+  unfolding heldAt readPart after firstNo onePart
+  part-stopped {n} g =
+      test (leb (at + 24) (length s))
+      (λ l.
+      let i : at + 24 ≤ length s = leb-true (at + 24) (length s) l in
+      let j : 24 ≤ length (drop at s) = simp length-drop (omega arith) in
+      test (leb (numberAt 4 s (at + 20)) 1)
+      (λ m. let q : held.Part (decodeHeld (take 24 (drop at s))) (to (at + 24)) ≡ held.Refused n = rw (l, m) at (sym e ∙ g) in let z : _≡_ {A = ℕ} 0 1 = cc in let f : ⊥ = omega arith in absurd f)
+      (λ m.
+      let q : held.Refused 33 ≡ held.Refused n = rw (l, m) at (sym e ∙ g) in
+      let w : n ≡ 33 = cc in
+      rw (le-leb 24 (length (drop at s)) j, number-drop 4 at s 20, m, w)))
+      (λ l.
+      let i : length s < at + 24 = leb-false (at + 24) (length s) l in
+      let j : length (drop at s) < 24 = simp length-drop (omega arith) in
+      let q : held.Refused 20 ≡ held.Refused n = rw l at (sym e ∙ g) in
+      let w : n ≡ 20 = cc in
+      rw (lt-leb 24 (length (drop at s)) j, w))
 
-  module _ (l : 24 ≤ length b) {v : ℕ} (e : v ≡ numberAt 4 b 20) where
-    pub part-kind : 1 < v → part.Refused 33 ≡ onePart frames (readPart a k cs fs o b)
-    unfolding readPart after firstNo onePart
-    part-kind g = let g' : 1 < numberAt 4 b 20 = rw (← e) g in rw (le-leb 24 (length b) l, lt-leb (numberAt 4 b 20) 1 g')
+  pub part-ruled : {p : Held} {c : Cursor} → r ≡ held.Part p c → {x : OnePart} → x ≡ placedIf frames p c (partOk a k 0 cs fs o p)
+      → x ≡ onePart s frames (readPart a k cs fs o (drop at s))
+  unfolding readPart firstNo placedIf after onePart
+  part-ruled {p} {c} g q =
+      let y = held-got s at e g in
+      let i : at + 24 ≤ length s = y .inside in
+      let j : 24 ≤ length (drop at s) = simp length-drop (omega arith) in
+      rw (le-leb 24 (length (drop at s)) j, number-drop 4 at s 20, y .kind, ← y .value) (q ∙ by (y .moved ∙ behind-is s at 24 i) (partOk a k 0 cs fs o p)) where
+        by : c ≡ behind s (drop 24 (drop at s)) → (ok : Bool) → placedIf frames p c ok ≡ onePart s frames (after (cond ok 0 32) (read p (drop 24 (drop at s))))
+        by m true = ap (part.Part (placed frames p)) m
+        by m false = refl
 
-    pub part-ruled : v ≤ 1 → {p : Held} {r : OnePart} → p ≡ recordAt 24 decodeHeld b 0 → r ≡ placedIf frames p (partOk a k 0 cs fs o p)
-        → r ≡ onePart frames (readPart a k cs fs o b)
-    unfolding readPart firstNo placedIf after onePart
-    part-ruled g {p} q s = let g' : numberAt 4 b 20 ≤ 1 = rw (← e) g in rw (le-leb 24 (length b) l, le-leb (numberAt 4 b 20) 1 g', ← q) (s ∙ by (partOk a k 0 cs fs o p)) where
-      by : (ok : Bool) → placedIf frames p ok ≡ onePart frames (after (cond ok 0 32) (read p (drop 24 b)))
-      by true = refl
-      by false = refl
+-- ---- a part that was read, at the place here of b, and the cursor c behind it
+pub wide-part : (a : Area) (k : ℕ) (cs : List Checkpoint) (fs : List Frame) → Wide (readPart a k cs fs) 24
+unfolding readPart
+wide-part a k cs fs =
+    record { wide = λ s b t e. let g = asked→ _ _ _ refl e in (leb-true _ _ (g .0 .0), ap (λ (z : Read Held). z .rest) (sym (accepted-eq _ _ (g .1)))) }
 
--- ---- a part that was read, at the place here of b
-pub record PartRead (a : Area) (k : ℕ) (cs : List Checkpoint) (fs : List Frame) (o : Option Held) (frames b : List ℕ) (here : ℕ) (next : Placed) : Type 0 where
-  pub is : readPart a k cs fs o (drop here b) ≡ read (next .part) (drop (here + 24) b)
-  pub inside : here + 24 ≤ length b
+pub record PartRead (a : Area) (k : ℕ) (cs : List Checkpoint) (fs : List Frame) (o : Option Held) (frames b : List ℕ) (here : ℕ) (next : Placed) (c : Cursor) : Type 0 where
+  pub is : readPart a k cs fs o (drop here b) ≡ read (next .part) (drop (c .at) b)
+  pub inside : c .at ≤ length b
   pub place : next .place ≡ placeAt frames 0 (next .part .frame)
 
-part-says : (a : Area) (k : ℕ) (cs : List Checkpoint) (fs : List Frame) (o : Option Held) (b : List ℕ) (t : Read Held) → readPart a k cs fs o b ≡ Accepted t
-    → (24 ≤ length b) × (t .rest ≡ drop 24 b)
-unfolding readPart
-part-says a k cs fs o b t e = let g = asked→ _ _ _ refl e in (leb-true _ _ (g .0 .0), ap (λ (z : Read Held). z .rest) (sym (accepted-eq _ _ (g .1))))
-
--- by the answer r about the bytes t from here on
-module _ (a : Area) (k : ℕ) (cs : List Checkpoint) (fs : List Frame) (o : Option Held) (frames b : List ℕ) (here : ℕ) {t : List ℕ} (e : t ≡ drop here b)
-    {r : OnePart} (i : r ≡ onePart frames (readPart a k cs fs o t)) where
+-- by the answer r about the bytes from here on
+module _ (a : Area) (k : ℕ) (cs : List Checkpoint) (fs : List Frame) (o : Option Held) (frames b : List ℕ) (here : ℕ) {r : OnePart}
+    (i : r ≡ onePart b frames (readPart a k cs fs o (drop here b))) where
   pub part-refused : {n : ℕ} → r ≡ part.Refused n → readPart a k cs fs o (drop here b) ≡ Refused n
   unfolding onePart
-  part-refused {n} g = rw (← e) (by (readPart a k cs fs o t) (sym g ∙ i)) where
-    by : (x : Answer (Read Held)) → part.Refused n ≡ onePart frames x → x ≡ Refused n
+  part-refused {n} g = by (readPart a k cs fs o (drop here b)) (sym g ∙ i) where
+    by : (x : Answer (Read Held)) → part.Refused n ≡ onePart b frames x → x ≡ Refused n
     by (Refused m) q = cc
     by (Accepted t) q = let z : _≡_ {A = ℕ} 0 1 = cc in let f : ⊥ = omega arith in absurd f
 
-  pub part-read : {next : Placed} → r ≡ part.Part next → PartRead a k cs fs o frames b here next
+  pub part-read : here ≤ length b → {next : Placed} {c : Cursor} → r ≡ part.Part next c → PartRead a k cs fs o frames b here next c
   unfolding onePart
-  part-read {next} g = by (readPart a k cs fs o (drop here b)) refl (sym g ∙ i ∙ rw e) where
-    by : (x : Answer (Read Held)) → readPart a k cs fs o (drop here b) ≡ x → part.Part next ≡ onePart frames x → PartRead a k cs fs o frames b here next
+  part-read l {next} {c} g = by (readPart a k cs fs o (drop here b)) refl (sym g ∙ i) where
+    by : (x : Answer (Read Held)) → readPart a k cs fs o (drop here b) ≡ x → part.Part next c ≡ onePart b frames x → PartRead a k cs fs o frames b here next c
     by (Refused m) p q = let z : _≡_ {A = ℕ} 0 1 = cc in let f : ⊥ = omega arith in absurd f
     by (Accepted v) p q =
-        let g = part-says a k cs fs o (drop here b) v p in
         let w : next ≡ placed frames (v .value) = cc in
-        let u : v .rest ≡ drop (here + 24) b = g .1 ∙ drop-drop 24 here b in
-        let l : 24 ≤ length b - here = rw length-drop at (g .0) in
-        record { is = p ∙ rw (w, ← u); inside = omega arith; place = rw w }
+        let m : c ≡ behind b (v .rest) = cc in
+        let y = left-at (left-more (left-drop here b l) (wide-leaves (wide-part a k cs fs) .leaves o (drop here b) v p)) m in
+        record { is = p ∙ ap Accepted (read-eq (ap (λ (z : Placed). z .part) (sym w)) (y .0)); inside = y .1; place = rw w }
 
 -- ---- the part before the next one
 pub last-none : (frames : List ℕ) {q : Held} → q ≡ noHeld → LastAt frames true (record { part = q; place = 0 })

@@ -7,10 +7,15 @@ use Rattle.inspect.proofs.hint_sections.confirmations_ok.Statement.{sta
 use Rattle.inspect.proofs.hint_sections.confirmations_ok.Tie as tie
 
 check-confirmations-requires : tie.Need-check-confirmations-requires
-check-confirmations-requires c κs = cut-length (c .before .before .before .args .c .at) _ (c .before .before .before .args .body .now) (c .before .before .before .pre) refl (c .cut .ensures)
+check-confirmations-requires c κs =
+    let start : tie.Start = search in
+    cut-length (start .args .c .at) _ (start .args .body .now) (start .pre) refl (c .cut .ensures)
 
 returns : tie.Need-returns
-returns c = (c .check-confirmations .ensures) ∙ ap (confirmationsOk (c .before .before .before .before .args .area)) (cut-records 16 decodeConfirmation _ (c .before .before .before .before .args .c .at) (c .before .before .before .before .args .body .now) refl (c .before .cut .ensures))
+returns c =
+    let start : tie.Start = search in
+    let after-cut : tie.After-cut = search in
+    (c .check-confirmations .ensures) ∙ ap (confirmationsOk (start .args .area)) (cut-records 16 decodeConfirmation _ (start .args .c .at) (start .args .body .now) refl (after-cut .cut .ensures))
 
 pub confirmations-ok-spec : {M : Type 1} → statement M
 confirmations-ok-spec =

@@ -5,13 +5,23 @@ use Rattle.inspect.proofs.hint_sections.hint_section.Statement.{stateme
 use Rattle.inspect.proofs.hint_sections.hint_section.Tie as tie
 
 returns : tie.Need-returns
-returns c = hints-none _ _ _ _ (c .before .before .before .before .pre) (c .before .if1 .taken) (c .no-hint-header .ensures)
+returns c =
+    let start : tie.Start = search in
+    let then1 : tie.Then1 = search in
+    hints-none _ _ _ _ (start .pre) (then1 .if1 .taken) (c .no-hint-header .ensures)
 
 returns-2 : tie.Need-returns-2
-returns-2 c = hints-short _ _ _ _ (c .before .before .before .if1 .left) (headed-short _ _ (c .before .before .hint-header .ensures) (c .enum-told .given .1))
+returns-2 c =
+    let else1 : tie.Else1 = search in
+    let after-hint-header : tie.After-hint-header = search in
+    hints-short _ _ _ _ (else1 .if1 .left) (headed-short _ _ (after-hint-header .hint-header .ensures) (c .enum-told .given .1))
 
 returns-3 : tie.Need-returns-3
-returns-3 c = hints-read _ _ _ _ (c .before .before .before .before .before .if1 .left) (headed-got _ _ (c .before .before .before .before .hint-header .ensures) (c .before .before .g .given .1)) (c .hint-list .ensures)
+returns-3 c =
+    let else1 : tie.Else1 = search in
+    let after-hint-header : tie.After-hint-header = search in
+    let after-g : tie.After-g = search in
+    hints-read _ _ _ _ (else1 .if1 .left) (headed-got _ _ (after-hint-header .hint-header .ensures) (after-g .g .given .1)) (c .hint-list .ensures)
 
 pub hint-section-spec : {M : Type 1} → statement M
 hint-section-spec =

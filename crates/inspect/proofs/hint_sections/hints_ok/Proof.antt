@@ -7,10 +7,15 @@ use Rattle.inspect.proofs.hint_sections.hints_ok.Statement.{statement}
 use Rattle.inspect.proofs.hint_sections.hints_ok.Tie as tie
 
 check-hints-requires : tie.Need-check-hints-requires
-check-hints-requires c κs = cut-length (c .before .before .before .args .c .at) _ (c .before .before .before .args .body .now) (c .before .before .before .pre) refl (c .cut .ensures)
+check-hints-requires c κs =
+    let start : tie.Start = search in
+    cut-length (start .args .c .at) _ (start .args .body .now) (start .pre) refl (c .cut .ensures)
 
 returns : tie.Need-returns
-returns c = (c .check-hints .ensures) ∙ ap (hintsOk (c .before .before .before .before .args .area)) (cut-records 8 decodeHint _ (c .before .before .before .before .args .c .at) (c .before .before .before .before .args .body .now) refl (c .before .cut .ensures))
+returns c =
+    let start : tie.Start = search in
+    let after-cut : tie.After-cut = search in
+    (c .check-hints .ensures) ∙ ap (hintsOk (start .args .area)) (cut-records 8 decodeHint _ (start .args .c .at) (start .args .body .now) refl (after-cut .cut .ensures))
 
 pub hints-ok-spec : {M : Type 1} → statement M
 hints-ok-spec =

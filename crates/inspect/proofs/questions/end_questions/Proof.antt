@@ -7,14 +7,19 @@ use Rattle.inspect.proofs.questions.end_questions.Statement.{statement}
 use Rattle.inspect.proofs.questions.end_questions.Tie as tie
 
 ending-ok-requires : tie.Need-ending-ok-requires
-ending-ok-requires c κs = let o = ordered (c .before .before .before .args .area) (c .before .before .before .pre) in search needs
+ending-ok-requires c κs =
+    let start : tie.Start = search in
+    let o = ordered (start .args .area) (start .pre) in search needs
 
 cast-ask-2 : tie.Need-cast-ask-2
 cast-ask-2 c = omega (arith, (c .struct-known2 .given))
 
 returns : tie.Need-returns
 unfolding endNumber
-returns c = λ cs ps e f. let p = c .before .before .before .counted .ensures cs e in let q = c .before .before .before .before .before .before .before .ending-ok .ensures cs e in asked-all _ refl (cc)
+returns c =
+    let after-counted : tie.After-counted = search in
+    let after-ending-ok : tie.After-ending-ok = search in
+    λ cs ps e f. let p = after-counted .counted .ensures cs e in let q = after-ending-ok .ending-ok .ensures cs e in asked-all _ refl (cc)
 
 pub end-questions-spec : {M : Type 1} → statement M
 end-questions-spec =

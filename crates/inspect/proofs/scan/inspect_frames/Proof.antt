@@ -1,4 +1,5 @@
 use native.Mathlib.Omega.{arith}
+use lib.ListN.{drop}
 use Prim.Native.Nat.{_≤_, _-_}
 use Rattle.rules.specs.Load.{readFrame, readFrames}
 use Rattle.tables.specs.Tables.{filledTo}
@@ -11,53 +12,47 @@ use Rattle.inspect.proofs.scan.inspect_frames.Statement.{statement}
 use Rattle.inspect.proofs.scan.inspect_frames.Tie as tie
 
 abbrev Inv-loop : tie.InvT-loop
-Inv-loop b area h f here₀ floor₀ used₀ j₀ here floor used j = Reading (readFrame area (h .budget)) frameNext f b (takenOf b (readFrames area h b)) j here (filledTo floor used) × (used ≤ h .budget)
+Inv-loop body area h f here₀ floor₀ used₀ j₀ here floor used j =
+    Reading (readFrame area (h .budget)) frameNext f body (takenOf body (readFrames area h (drop (here₀ .at) body))) j (here .at) (filledTo floor used)
+    × (used ≤ h .budget)
 
 abbrev μ-loop : tie.MeasureT-loop
-μ-loop b area h f here₀ floor₀ used₀ j₀ here floor used j = f - j
+μ-loop body area h f here₀ floor₀ used₀ j₀ here floor used j = f - j
 
 loop-holds : tie.Need-loop-holds Inv-loop μ-loop
-loop-holds c = (reading-start _ _ _ _ _, search needs)
+loop-holds c =
+    let start : tie.Start Inv-loop μ-loop = search in
+    (reading-start _ _ _ _ _ _ (start .pre), search needs)
 
 returns : tie.Need-returns Inv-loop μ-loop
 returns c =
     let after-k : tie.After-k Inv-loop μ-loop = search in
     let after-inspect-frame : tie.After-inspect-frame Inv-loop μ-loop = search in
-    let after-behind : tie.After-behind Inv-loop μ-loop = search in
     let in-loop : tie.In-loop Inv-loop μ-loop = search in
     let at-loop : tie.At-loop Inv-loop μ-loop = search in
     let start : tie.Start Inv-loop μ-loop = search in
     reading-stop (at-loop .loop .inv .0) (in-loop .loop-test .taken)
-    (frame-refused _ _ _ (start .args .b .now) (at-loop .loop .here) (after-behind .behind .ensures) (after-inspect-frame .inspect-frame .ensures)
-    (after-k .k .given .1))
+    (frame-refused _ _ _ (start .args .body .now) (at-loop .loop .here .at) (after-inspect-frame .inspect-frame .ensures) (after-k .k .given .1))
 
-abbrev turn-call : tie.After-known-told2 Inv-loop μ-loop → tie.Start Inv-loop μ-loop
+abbrev turn-call : tie.After-g Inv-loop μ-loop → tie.Start Inv-loop μ-loop
 turn-call c = search
 
-abbrev turn-loop : tie.After-known-told2 Inv-loop μ-loop → tie.At-loop Inv-loop μ-loop
+abbrev turn-loop : tie.After-g Inv-loop μ-loop → tie.At-loop Inv-loop μ-loop
 turn-loop c = search
 
 -- the frame that this turn read
-turn : (c : tie.After-known-told2 Inv-loop μ-loop) → FrameRead (turn-call c .args .area) (turn-call c .args .h .budget) (filledTo (turn-loop c .loop .floor) (turn-loop c .loop .used)) (turn-call c .args .b .now) (turn-loop c .loop .here) (c .before .g .given .0 .0)
+turn : (c : tie.After-g Inv-loop μ-loop)
+    → FrameRead (turn-call c .args .area) (turn-call c .args .h .budget) (filledTo (turn-loop c .loop .floor) (turn-loop c .loop .used)) (turn-call c .args .body .now)
+    (turn-loop c .loop .here .at) (c .g .given .0 .0) (c .g .given .0 .1 .0)
 turn c =
-    let after-g : tie.After-g Inv-loop μ-loop = search in
     let after-inspect-frame : tie.After-inspect-frame Inv-loop μ-loop = search in
-    let after-behind : tie.After-behind Inv-loop μ-loop = search in
-    frame-read _ _ _ _ _ (after-behind .behind .ensures) (after-inspect-frame .inspect-frame .ensures) (after-g .g .given .1)
-
-add-here : tie.Need-add-here Inv-loop μ-loop
-add-here c = let y = turn c in search needs
-
-add-here-2 : tie.Need-add-here-2 Inv-loop μ-loop
-add-here-2 c =
-    let after-known-told2 : tie.After-known-told2 Inv-loop μ-loop = search in
-    let y = turn after-known-told2 in search needs
+    frame-read _ _ _ _ _ (after-inspect-frame .inspect-frame .ensures) (turn-loop c .loop .inv .0 .inside) (c .g .given .1)
 
 add-used : tie.Need-add-used Inv-loop μ-loop
 add-used c =
-    let after-known-told2 : tie.After-known-told2 Inv-loop μ-loop = search in
+    let after-g : tie.After-g Inv-loop μ-loop = search in
     let after-struct-known : tie.After-struct-known Inv-loop μ-loop = search in
-    let y = turn after-known-told2 in record { fits = omega (arith, (after-struct-known .struct-known .given)) }
+    let y = turn after-g in record { fits = omega (arith, (after-struct-known .struct-known .given)) }
 
 add-j : tie.Need-add-j Inv-loop μ-loop
 add-j c =
@@ -67,10 +62,10 @@ add-j c =
 
 loop-again : tie.Need-loop-again Inv-loop μ-loop
 loop-again c =
-    let after-known-told2 : tie.After-known-told2 Inv-loop μ-loop = search in
+    let after-g : tie.After-g Inv-loop μ-loop = search in
     let in-loop : tie.In-loop Inv-loop μ-loop = search in
     let at-loop : tie.At-loop Inv-loop μ-loop = search in
-    let y = turn after-known-told2 in (reading-on (at-loop .loop .inv .0) (in-loop .loop-test .taken) (y .is) (y .inside) (y .next), y .fits)
+    let y = turn after-g in (reading-on (at-loop .loop .inv .0) (in-loop .loop-test .taken) (y .is) (y .inside) (y .next), y .fits)
 
 returns-2 : tie.Need-returns-2 Inv-loop μ-loop
 returns-2 c =
@@ -86,13 +81,9 @@ inspect-frames-spec =
     (λ c. search needs)
     loop-holds
     (λ c κs. search needs)
-    (λ c κs. search needs)
     (λ c. search needs)
     returns
     (λ c. search needs)
-    add-here
-    (λ c. search needs)
-    add-here-2
     (λ c. search needs)
     (λ c. search needs)
     (λ c. search needs)

@@ -1,8 +1,7 @@
 use native.Mathlib.Omega.{arith}
-use mathlib.Core.Path.{_≡_, ap}
-use mathlib.Core.Bool.{true}
 use Prim.Native.Nat.{_-_}
 use lib.Dec.{eqb}
+use lib.ListN.{drop}
 use Rattle.rules.specs.Load.{readPart, readParts}
 use Rattle.tables.specs.Tables.{checkpointsIn, before, partNext}
 use Rattle.tables.specs.Files.{framesRead}
@@ -16,49 +15,51 @@ use Rattle.inspect.proofs.scan.inspect_parts.Statement.{statement}
 use Rattle.inspect.proofs.scan.inspect_parts.Tie as tie
 
 abbrev Inv-loop : tie.InvT-loop
-Inv-loop b area h checkpoints frames n last₀ here₀ j₀ last here j = Reading (readPart area (h .interval) (checkpointsIn (h .checkpoints) checkpoints) (framesRead (h .frames) frames)) partNext n b (takenOf b (readParts area h (checkpointsIn (h .checkpoints) checkpoints) (framesRead (h .frames) frames) b)) j here (before (eqb j 0) (last .part)) × LastAt frames (eqb j 0) last
+Inv-loop body area h checkpoints frames n last₀ here₀ j₀ last here j =
+    Reading (readPart area (h .interval) (checkpointsIn (h .checkpoints) checkpoints) (framesRead (h .frames) frames)) partNext n body
+    (takenOf body (readParts area h (checkpointsIn (h .checkpoints) checkpoints) (framesRead (h .frames) frames) (drop (here₀ .at) body))) j (here .at)
+    (before (eqb j 0) (last .part))
+    × LastAt frames (eqb j 0) last
 
 abbrev μ-loop : tie.MeasureT-loop
-μ-loop b area h checkpoints frames n last₀ here₀ j₀ last here j = n - j
+μ-loop body area h checkpoints frames n last₀ here₀ j₀ last here j = n - j
 
 loop-holds : tie.Need-loop-holds Inv-loop μ-loop
 unfolding before
-loop-holds c = (reading-start _ _ _ _ _, last-none _ (c .no-part .ensures))
+loop-holds c =
+    let start : tie.Start Inv-loop μ-loop = search in
+    (reading-start _ _ _ _ _ _ (start .pre .1), last-none _ (c .no-part .ensures))
 
 inspect-part-requires : tie.Need-inspect-part-requires Inv-loop μ-loop
 inspect-part-requires c κs =
     let at-loop : tie.At-loop Inv-loop μ-loop = search in
     let start : tie.Start Inv-loop μ-loop = search in
-    ((start .pre), (at-loop .loop .inv .1))
+    (start .pre .0, at-loop .loop .inv .1)
 
 returns : tie.Need-returns Inv-loop μ-loop
 returns c =
     let after-k : tie.After-k Inv-loop μ-loop = search in
     let after-inspect-part : tie.After-inspect-part Inv-loop μ-loop = search in
-    let after-behind : tie.After-behind Inv-loop μ-loop = search in
     let in-loop : tie.In-loop Inv-loop μ-loop = search in
     let at-loop : tie.At-loop Inv-loop μ-loop = search in
     let start : tie.Start Inv-loop μ-loop = search in
     reading-stop (at-loop .loop .inv .0) (in-loop .loop-test .taken)
-    (part-refused _ _ _ _ _ _ (start .args .b .now) (at-loop .loop .here) (after-behind .behind .ensures) (after-inspect-part .inspect-part .ensures)
-    (after-k .k .given .1))
+    (part-refused _ _ _ _ _ _ (start .args .body .now) (at-loop .loop .here .at) (after-inspect-part .inspect-part .ensures) (after-k .k .given .1))
 
-abbrev turn-call : tie.After-known-told2 Inv-loop μ-loop → tie.Start Inv-loop μ-loop
+abbrev turn-call : tie.After-next Inv-loop μ-loop → tie.Start Inv-loop μ-loop
 turn-call c = search
 
-abbrev turn-loop : tie.After-known-told2 Inv-loop μ-loop → tie.At-loop Inv-loop μ-loop
+abbrev turn-loop : tie.After-next Inv-loop μ-loop → tie.At-loop Inv-loop μ-loop
 turn-loop c = search
 
 -- the part that this turn read
-turn : (c : tie.After-known-told2 Inv-loop μ-loop) → PartRead (turn-call c .args .area) (turn-call c .args .h .interval) (checkpointsIn (turn-call c .args .h .checkpoints) (turn-call c .args .checkpoints .now)) (framesRead (turn-call c .args .h .frames) (turn-call c .args .frames .now)) (before (eqb (turn-loop c .loop .j) 0) (turn-loop c .loop .last .part)) (turn-call c .args .frames .now) (turn-call c .args .b .now) (turn-loop c .loop .here) (c .before .next .given .0 .0)
+turn : (c : tie.After-next Inv-loop μ-loop)
+    → PartRead (turn-call c .args .area) (turn-call c .args .h .interval) (checkpointsIn (turn-call c .args .h .checkpoints) (turn-call c .args .checkpoints .now))
+    (framesRead (turn-call c .args .h .frames) (turn-call c .args .frames .now)) (before (eqb (turn-loop c .loop .j) 0) (turn-loop c .loop .last .part))
+    (turn-call c .args .frames .now) (turn-call c .args .body .now) (turn-loop c .loop .here .at) (c .next .given .0 .0) (c .next .given .0 .1 .0)
 turn c =
-    let after-next : tie.After-next Inv-loop μ-loop = search in
     let after-inspect-part : tie.After-inspect-part Inv-loop μ-loop = search in
-    let after-behind : tie.After-behind Inv-loop μ-loop = search in
-    part-read _ _ _ _ _ _ _ _ (after-behind .behind .ensures) (after-inspect-part .inspect-part .ensures) (after-next .next .given .1)
-
-add-here : tie.Need-add-here Inv-loop μ-loop
-add-here c = let y = turn c in search needs
+    part-read _ _ _ _ _ _ _ _ (after-inspect-part .inspect-part .ensures) (turn-loop c .loop .inv .0 .inside) (c .next .given .1)
 
 add-j : tie.Need-add-j Inv-loop μ-loop
 add-j c =
@@ -68,9 +69,10 @@ add-j c =
 
 loop-again : tie.Need-loop-again Inv-loop μ-loop
 loop-again c =
+    let after-next : tie.After-next Inv-loop μ-loop = search in
     let in-loop : tie.In-loop Inv-loop μ-loop = search in
     let at-loop : tie.At-loop Inv-loop μ-loop = search in
-    let y = turn c in (
+    let y = turn after-next in (
       reading-on (at-loop .loop .inv .0) (in-loop .loop-test .taken) (y .is) (y .inside) (before-next (at-loop .loop .j) _),
       last-next (at-loop .loop .j) (y .place),
     )
@@ -89,12 +91,10 @@ inspect-parts-spec =
     (λ c. search needs)
     (λ c κs. search needs)
     loop-holds
-    (λ c κs. search needs)
     inspect-part-requires
     (λ c. search needs)
     returns
     (λ c. search needs)
-    add-here
     add-j
     (λ c. search needs)
     loop-again

@@ -10,7 +10,7 @@ returns : tie.Need-returns
 returns c =
     let after-near-ok : tie.After-near-ok = search in
     let start : tie.Start = search in
-    part-far (start .pre .0) (start .pre .1) _ (after-near-ok .near-ok .ensures) (c .if1 .taken)
+    part-far (start .pre .0) (start .pre .1) _ _ (after-near-ok .near-ok .ensures) (c .if1 .taken)
 
 abbrev close-call : tie.Else1 → tie.Start
 close-call c = search
@@ -63,13 +63,13 @@ rule c =
 returns-2 : tie.Need-returns-2
 returns-2 c =
     let after-here-ok : tie.After-here-ok = search in
-    placed-no _ _ (rule after-here-ok) (c .if2 .taken)
+    placed-no _ _ _ (rule after-here-ok) (c .if2 .taken)
 
 returns-3 : tie.Need-returns-3
 returns-3 c =
     let after-here-ok : tie.After-here-ok = search in
     let after-place-by : tie.After-place-by = search in
-    placed-yes _ _ (rule after-here-ok) (c .if2 .left) (begins-at after-place-by)
+    placed-yes _ _ _ (rule after-here-ok) (c .if2 .left) (begins-at after-place-by)
 
 pub place-part-spec : {M : Type 1} → statement M
 place-part-spec =
