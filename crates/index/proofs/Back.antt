@@ -1,7 +1,7 @@
 -- Frames written into a header table and a store are read back; and so are the numbers of a list. Assumes nothing.
 use mathlib.Core.Path.{_≡_, refl, _∙_}
 use mathlib.Core.List.{List, [], _∷_, _++_, append-nil, append-assoc}
-use Prim.Native.Nat.{ℕ}
+use Prim.Native.Nat.{ℕ, _*_}
 use native.Mathlib.Omega.{arith}
 use lib.ListN.{length, getD, length-append}
 use lib.Seq.{take-at, drop-at}
@@ -20,6 +20,7 @@ use Rattle.rules.specs.declared.ImageId.{ImageId}
 use Rattle.rules.specs.declared.ImageId.the-variants.{Anonymous, Id}
 use Rattle.rules.specs.Values.{Frame}
 use Rattle.rules.specs.File.{encodeFrameHeader, decodeCheckpoint, decodeHeld, decodeLsn, decodeConfirmation}
+use Rattle.laws.proofs.Length.{length-each}
 use Rattle.tables.specs.declared.FrameHeader.{FrameHeader}
 use Rattle.tables.specs.Tables.{decodeKept, decodeHeader, headersIn, framesOf, stretch}
 use Rattle.tables.proofs.Frames.{stretch-within, frames-length}
@@ -47,6 +48,9 @@ header-layout =
 pub header-length : (f : Frame) → length (encodeFrameHeader f) ≡ 8
 unfolding encodeFrameHeader
 header-length f = header-layout .size (headerOf f)
+
+pub headers-length : (fs : List Frame) → length (bytesOf encodeFrameHeader fs) ≡ 8 * length fs
+headers-length fs = length-each encodeFrameHeader 8 header-length fs
 
 -- the bytes at the start of a store
 bytes-front : (b s : List ℕ) → stretch (length b) (b ++ s) ≡ b

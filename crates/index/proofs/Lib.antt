@@ -4,4 +4,5 @@ pub mod Questions
 pub mod Back
 pub mod Store
 pub mod Standing
+pub mod Left
 pub mod Lent
