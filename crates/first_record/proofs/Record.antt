@@ -1,12 +1,11 @@
 -- The first record of the bytes s, by the answers to its three tests.
-use mathlib.Core.Path.{_≡_, ap, _∙_}
+use mathlib.Core.Path.{_≡_}
 use mathlib.Core.List.{List}
 use Prim.Native.Nat.{ℕ, _+_, _*_, _<_, _≤_}
 use lib.ListN.{length, getD}
 use borrow.Author.Tests.{eq-eqb, ne-eqb, lt-ltb, le-ltb}
 use Rattle.rules.specs.FirstRecord.{firstRecord, frames, packets, timeAt}
 use Rattle.rules.specs.declared.Absence.the-variants.{NoFrame, Missing}
-use Rattle.rules.specs.declared.First.{First}
 use Rattle.rules.specs.declared.First.the-variants.{Number, Nothing}
 
 module _ (s : List ℕ) where

@@ -1,24 +1,22 @@
 -- Which plan and which hint a rule names. Assumes nothing.
 use mathlib.Core.Path.{_≡_, refl, sym, ap, _∙_}
-use mathlib.Core.Bool.{Bool, true, false, cond, _||_, true≢false}
+use mathlib.Core.Bool.{Bool, true, false, cond, true≢false}
 use mathlib.Core.List.{List, [], _∷_}
 use mathlib.Core.Option.{Option, none, some}
-use Prim.Native.Nat.{ℕ, _*_, _<_}
+use Prim.Native.Nat.{ℕ, _*_}
 use borrow.Author.Tests.{eqb-true, eq-eqb}
 use lib.Dec.{eqb, leb}
 use lib.ListN.{length}
-use Rattle.rules.specs.declared.Confirmation.{Confirmation}
 use Rattle.rules.specs.declared.EndState.{EndState}
 use Rattle.rules.specs.declared.Held.{Held}
-use Rattle.rules.specs.declared.Hint.{Hint}
 use Rattle.rules.specs.declared.Plan.{Plan}
 use Rattle.rules.specs.Tests.{orElse}
 use Rattle.rules.specs.Values.{Frame, Scan}
 use Rattle.rules.specs.Plan.{assemblyOf, planFrom, planOr, planned, lastNotAbove}
-use Rattle.rules.specs.Hints.{Density, Hinted, largestOf, hintPlace}
+use Rattle.rules.specs.Hints.{Density, largestOf, hintPlace}
 use Rattle.rules.proofs.Tests.{test}
 use Rattle.rules_jump.specs.Names.{heldRule, planRule, chosenBy, nearConfirmed, startRule, densityRule, localRule, namedEnd, endRule}
-use Rattle.rules_jump.specs.Statements.{ends, heldAt, ruleFrom, PlanNamed, Confirming, ConfirmedNamed, EndNamed}
+use Rattle.rules_jump.specs.Statements.{ends, heldAt, ruleFrom, PlanNamed, ConfirmedNamed, EndNamed}
 use Rattle.rules_jump.specs.declared.HintStart.{HintStart}
 use Rattle.rules_jump.specs.declared.HintStart.the-variants.{Confirmed, Nearest}
 use Rattle.rules_jump.specs.declared.HintEnd.{HintEnd}
