@@ -3,3 +3,4 @@ pub mod Held
 pub mod Steps
 pub mod Part
 pub mod Lies
+pub mod Halves

@@ -41,7 +41,7 @@ ready {x} {t} p =
       rising = rising (x .interval) (x .checkpoints) (t .checkpoints) (checkpoints-hold p);
     }
 
-last-some : (m : ℕ) → (m ≡ 0 → ⊥) → lastIn m ≡ some (m - 1)
+pub last-some : (m : ℕ) → (m ≡ 0 → ⊥) → lastIn m ≡ some (m - 1)
 unfolding lastIn
 last-some zero h = absurd (h refl)
 last-some (suc m) h = ap some (let q : m ≡ suc m - 1 = omega arith in q)
@@ -54,7 +54,8 @@ module _ (x : AreaIndex) (t : Tables) where
   unfolding resumeIn
   resume-is j p q r = rw (p, q, r)
 
-  module _ {m : ℕ} (f : ℕ) (e : lastIn m ≡ lastNotAbove f (checkpointsIn (x .checkpoints) (t .checkpoints)) (x .checkpoints)) where
+  module _ {m : ℕ} (f : ℕ) (e : lastIn m ≡ lastNotAbove f (checkpointsIn (x .checkpoints) (t .checkpoints))
+      (x .checkpoints)) where
     pub within-none : m ≡ 0 → variant.Start ≡ withinOf x t f
     unfolding withinOf planFrom lastIn
     within-none z = rw (← e, z)
@@ -77,11 +78,13 @@ module _ (x : AreaIndex) (t : Tables) where
     unfolding planOr endIn
     plan-past {e} q h = sym (plan-is ∙ rw (q, le-leb (e .threshold) f h))
 
-    pub plan-before : {e : EndState} {r : Plan} → x .ending ≡ Closed e → f < e .threshold → r ≡ withinOf x t f → r ≡ planOf x t f
+    pub plan-before : {e : EndState} {r : Plan} → x .ending ≡ Closed e → f < e .threshold → r ≡ withinOf x t f
+        → r ≡ planOf x t f
     unfolding planOr endIn
     plan-before {e} q h g = g ∙ sym (plan-is ∙ rw (q, lt-leb (e .threshold) f h))
 
-    pub answer-is : {n : ℕ} → n ≡ refusal x t → planIn x t f ≡ after n (after (firstNo []) (Accepted (planned (indexIn x t .scan) f)))
+    pub answer-is : {n : ℕ} → n ≡ refusal x t
+        → planIn x t f ≡ after n (after (firstNo []) (Accepted (planned (indexIn x t .scan) f)))
     unfolding planIn plan each
     answer-is e = kinded-index x t [] refl e _
 
@@ -89,6 +92,7 @@ module _ (x : AreaIndex) (t : Tables) where
     unfolding plannedOf after
     plan-no {n} e h = sym (answer-is e ∙ rw (ne-eqb n 0 h))
 
-    pub plan-yes : {n : ℕ} {p : Plan} → n ≡ refusal x t → n ≡ 0 → p ≡ planOf x t f → plannedOf (variants.Plan p) ≡ planIn x t f
+    pub plan-yes : {n : ℕ} {p : Plan} → n ≡ refusal x t → n ≡ 0 → p ≡ planOf x t f
+        → plannedOf (variants.Plan p) ≡ planIn x t f
     unfolding plannedOf planOf after firstNo
     plan-yes {n} e h g = sym (answer-is e ∙ rw (eq-eqb n 0 h, g))

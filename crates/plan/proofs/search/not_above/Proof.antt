@@ -1,4 +1,5 @@
-use Rattle.plan.proofs.search.Search.{Search, search-start, search-up, search-down, search-end}
+use Rattle.plan.proofs.Halves.{halves-start}
+use Rattle.plan.proofs.search.Search.{Search, search-up, search-down, search-end}
 use native.Mathlib.Omega.{arith}
 use Prim.Native.Nat.{_-_}
 use borrow.Author.Needs.{needs}
@@ -12,16 +13,28 @@ abbrev μ-loop : tie.MeasureT-loop
 μ-loop checkpoints n first lo₀ hi₀ lo hi = hi - lo
 
 loop-holds : tie.Need-loop-holds Inv-loop μ-loop
-loop-holds c = search-start _ _ _
+loop-holds c = halves-start
 
 loop-again : tie.Need-loop-again Inv-loop μ-loop
-loop-again c = search-up (c .before .before .before .before .loop .inv) (c .before .before .before .before .before .before .pre .1) (omega arith) (c .before .before .read-checkpoint .ensures) (omega arith)
+loop-again c =
+    let read : tie.After-read-checkpoint Inv-loop μ-loop = search in
+    let at-loop : tie.At-loop Inv-loop μ-loop = search in
+    let start : tie.Start Inv-loop μ-loop = search in
+    search-up (at-loop .loop .inv) (start .pre .1) (omega arith) (read .read-checkpoint .ensures) (omega arith)
 
 loop-again-2 : tie.Need-loop-again-2 Inv-loop μ-loop
-loop-again-2 c = search-down (c .before .before .before .before .loop .inv) (c .before .before .before .before .before .before .pre .1) (omega arith) (omega arith) (c .before .before .read-checkpoint .ensures) (omega arith)
+loop-again-2 c =
+    let read : tie.After-read-checkpoint Inv-loop μ-loop = search in
+    let at-loop : tie.At-loop Inv-loop μ-loop = search in
+    let start : tie.Start Inv-loop μ-loop = search in
+    search-down (at-loop .loop .inv) (start .pre .1) (omega arith) (read .read-checkpoint .ensures) (omega arith)
+    (omega arith)
 
 returns : tie.Need-returns Inv-loop μ-loop
-returns c = (search-end (c .before .loop .inv) (c .loop-test .left), (omega (arith, (c .before .loop .inv .within), (c .before .loop .inv .ordered))))
+returns c =
+    let inv = c .before .loop .inv in
+    let start : tie.Start Inv-loop μ-loop = search in
+    (search-end (start .args .checkpoints .now) inv (c .loop-test .left), omega (arith, inv .within, inv .ordered))
 
 pub not-above-spec : {M : Type 1} → statement M
 not-above-spec =
