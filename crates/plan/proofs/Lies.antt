@@ -34,3 +34,8 @@ module _ (store : List ℕ) (offset len : ℕ) where
     bytes-some n =
         let f : leb (offset + len) (length store) ≡ true = sym e ∙ not-false q n in
         let k : offset + len - offset ≡ len = omega arith in sym (rw (f, k))
+
+  -- what part_bytes returns where they lie there
+  pub lies-bytes : liesIn store offset len ≡ true → bytesAt store offset len ≡ take len (drop offset store)
+  unfolding bytesAt liesIn
+  lies-bytes e = rw e

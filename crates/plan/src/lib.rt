@@ -59,7 +59,9 @@ fn stored(frames: &[u8], f: usize, p: Held) -> Assembly
 // The part of checkpoint number j.
 fn assembly_of(frames: &[u8], f: usize, parts: &[u8], h: usize, j: u32) -> Assembly
     requires { ⌜ (f * 8 ≤ length (now frames)) × (h * 24 ≤ length (now parts)) ⌝ }
-    ensures { λ r. ⌜ ((store : List ℕ) → r ≡ assemblyOf (framesIn f (now (frames .entry)) store) (partsIn h (now (parts .entry))) j) ⌝ }
+    ensures { λ r. ⌜
+        ((store : List ℕ) → r ≡ assemblyOf (framesIn f (now (frames .entry)) store) (partsIn h (now (parts .entry))) j)
+        ⌝ }
 {
     let mut i = 0;
     while i < h {
@@ -74,7 +76,10 @@ fn assembly_of(frames: &[u8], f: usize, parts: &[u8], h: usize, j: u32) -> Assem
 
 fn resume(x: AreaIndex, j: u32, checkpoints: &[u8], frames: &[u8], parts: &[u8]) -> Plan
     requires { ⌜ Ready x (now checkpoints) (now frames) (now parts) ⌝ }
-    ensures { λ r. ⌜ ((store malformed hints confirmed : List ℕ) → r ≡ resumeIn x (tables (now (checkpoints .entry)) (now (frames .entry)) store (now (parts .entry)) malformed hints confirmed) j) ⌝ }
+    ensures { λ r. ⌜
+        ((store malformed hints confirmed : List ℕ)
+        → r ≡ resumeIn x (tables (now (checkpoints .entry)) (now (frames .entry)) store (now (parts .entry)) malformed
+        hints confirmed) j) ⌝ }
 {
     let area = x.area;
     let n = x.checkpoints as usize;
@@ -91,7 +96,10 @@ fn resume(x: AreaIndex, j: u32, checkpoints: &[u8], frames: &[u8], parts: &[u8])
 // The end state apart.
 fn plan_within(x: AreaIndex, first: u32, checkpoints: &[u8], frames: &[u8], parts: &[u8]) -> Plan
     requires { ⌜ Ready x (now checkpoints) (now frames) (now parts) ⌝ }
-    ensures { λ r. ⌜ ((store malformed hints confirmed : List ℕ) → r ≡ withinOf x (tables (now (checkpoints .entry)) (now (frames .entry)) store (now (parts .entry)) malformed hints confirmed) first) ⌝ }
+    ensures { λ r. ⌜
+        ((store malformed hints confirmed : List ℕ)
+        → r ≡ withinOf x (tables (now (checkpoints .entry)) (now (frames .entry)) store (now (parts .entry)) malformed
+        hints confirmed) first) ⌝ }
 {
     let n = x.checkpoints as usize;
     let count = not_above(checkpoints, n, first);
@@ -103,7 +111,10 @@ fn plan_within(x: AreaIndex, first: u32, checkpoints: &[u8], frames: &[u8], part
 
 fn plan_in(x: AreaIndex, first: u32, checkpoints: &[u8], frames: &[u8], parts: &[u8]) -> Plan
     requires { ⌜ Ready x (now checkpoints) (now frames) (now parts) ⌝ }
-    ensures { λ r. ⌜ ((store malformed hints confirmed : List ℕ) → r ≡ planOf x (tables (now (checkpoints .entry)) (now (frames .entry)) store (now (parts .entry)) malformed hints confirmed) first) ⌝ }
+    ensures { λ r. ⌜
+        ((store malformed hints confirmed : List ℕ)
+        → r ≡ planOf x (tables (now (checkpoints .entry)) (now (frames .entry)) store (now (parts .entry)) malformed
+        hints confirmed) first) ⌝ }
 {
     let ending = x.ending;
     match ending {
@@ -134,7 +145,9 @@ pub fn plan(
     hints: &[u8],
     confirmed: &[u8],
 ) -> Planned
-    ensures { λ r. ⌜ plannedOf r ≡ planIn x (tables (now (checkpoints .entry)) (now (frames .entry)) (now (store .entry)) (now (parts .entry)) (now (malformed .entry)) (now (hints .entry)) (now (confirmed .entry))) first ⌝ }
+    ensures { λ r. ⌜
+        plannedOf r ≡ planIn x (tables (now (checkpoints .entry)) (now (frames .entry)) (now (store .entry))
+        (now (parts .entry)) (now (malformed .entry)) (now (hints .entry)) (now (confirmed .entry))) first ⌝ }
 {
     let number = refuses(
         x,
@@ -154,15 +167,14 @@ pub fn plan(
 
 // ---- the second call
 // Do the bytes of a part lie in the store?
-pub fn part_lies(store: &[u8], offset: u64, len: u32) -> bool
+pub fn part_lies(store: &[u8], offset: u64, len: u64) -> bool
     ensures { λ r. ⌜ r ≡ liesIn (now (store .entry)) offset len ⌝ }
 {
-    let n = len as u64;
     let all = store.len() as u64;
-    if all < n {
+    if all < len {
         return false;
     }
-    if all - n < offset {
+    if all - len < offset {
         return false;
     }
     true
@@ -172,7 +184,7 @@ pub fn part_lies(store: &[u8], offset: u64, len: u32) -> bool
 pub fn part_bytes(store: &[u8], offset: u64, len: u32) -> &[u8]
     ensures { λ r. ⌜ now r ≡ bytesAt (now (store .entry)) offset len ⌝ }
 {
-    if !part_lies(store, offset, len) {
+    if !part_lies(store, offset, len as u64) {
         return &store[0..0];
     }
     let a = offset as usize;

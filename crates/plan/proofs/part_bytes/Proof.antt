@@ -1,5 +1,4 @@
 use Rattle.plan.proofs.Lies.{bytes-none, inside, bytes-some}
-use native.Mathlib.Omega.{arith}
 use borrow.Author.Needs.{needs}
 use Rattle.plan.proofs.part_bytes.Statement.{statement}
 use Rattle.plan.proofs.part_bytes.Tie as tie

@@ -1,6 +1,5 @@
 use Rattle.plan.proofs.Lies.{lies-not, lies}
 use native.Mathlib.Omega.{arith}
-use borrow.Author.Needs.{needs}
 use Rattle.plan.proofs.part_lies.Statement.{statement}
 use Rattle.plan.proofs.part_lies.Tie as tie
 
