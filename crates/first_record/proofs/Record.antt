@@ -23,6 +23,7 @@ module _ (s : List ℕ) where
       unfolding firstRecord
       short h = simp (ne-eqb _ _ some, ne-eqb _ _ framed, lt-ltb _ _ (rw hk at h))
 
-      pub whole : (t o : ℕ) → 1 + 2 * k + 3 ≤ length s → t ≡ timeAt s (1 + 2 * k) → o ≡ 1 + 2 * k → Number (record { number = t; offset = o }) ≡ firstRecord s
+      pub whole : (t o : ℕ) → 1 + 2 * k + 3 ≤ length s → t ≡ timeAt s (1 + 2 * k) → o ≡ 1 + 2 * k
+          → Number (record { number = t; offset = o }) ≡ firstRecord s
       unfolding firstRecord
       whole t o h e f = rw (ne-eqb _ _ some, ne-eqb _ _ framed, le-ltb _ _ (rw hk at h), e, f, hk)

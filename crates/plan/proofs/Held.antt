@@ -42,7 +42,8 @@ pub weight-next : {n : ℕ} {h : FrameHeader} (i : ℕ) (hs : List FrameHeader) 
     → n + h .len ≡ weight (take (i + 1) hs)
 weight-next i hs e g = sym (rw (add-one, weight-suc i hs, e, g))
 
-pub weight-offset : {n : ℕ} (i g : ℕ) (hs : List FrameHeader) (store : List ℕ) → i ≤ g → g ≤ i → n ≡ weight (take i hs) → n ≡ offsetOf (framesOf hs store) g
+pub weight-offset : {n : ℕ} (i g : ℕ) (hs : List FrameHeader) (store : List ℕ) → i ≤ g → g ≤ i → n ≡ weight (take i hs)
+    → n ≡ offsetOf (framesOf hs store) g
 weight-offset i g hs store a b e =
     let q : i ≡ g = omega arith in
     e ∙ ap (λ (k : ℕ). weight (take k hs)) q ∙ rw (take-frames g hs store) (frames-used (take g hs) [] store)
@@ -57,11 +58,14 @@ sought-start h t j = record { within = omega arith; rest = λ fs. refl }
 
 module _ {h : ℕ} {t : List ℕ} {j i : ℕ} (s : Sought h t j i) where
   at : {p : Held} → i < h → p ≡ recordAt 24 decodeHeld t i → (fs : List Frame)
-      → cond (eqb (p .at) j) (storedOf fs p) (assemblyOf fs (drop (i + 1) (partsIn h t)) j) ≡ assemblyOf fs (partsIn h t) j
+      → cond (eqb (p .at) j) (storedOf fs p) (assemblyOf fs (drop (i + 1) (partsIn h t)) j)
+      ≡ assemblyOf fs (partsIn h t) j
   unfolding assemblyOf
-  at {p} l e fs = rw e (sym (ap (λ (ps : List Held). assemblyOf fs ps j) (records-turn 24 decodeHeld h t i l)) ∙ s .rest fs)
+  at {p} l e fs =
+      rw e (sym (ap (λ (ps : List Held). assemblyOf fs ps j) (records-turn 24 decodeHeld h t i l)) ∙ s .rest fs)
 
-  pub sought-found : {p : Held} {r : Assembly} → i < h → p ≡ recordAt 24 decodeHeld t i → p .at ≡ j → (fs : List Frame) → r ≡ storedOf fs p
+  pub sought-found : {p : Held} {r : Assembly} → i < h → p ≡ recordAt 24 decodeHeld t i → p .at ≡ j → (fs : List Frame)
+      → r ≡ storedOf fs p
       → r ≡ assemblyOf fs (partsIn h t) j
   sought-found {p} l e q fs g = g ∙ rw (eq-eqb (p .at) j q) at (at l e fs)
 

@@ -44,13 +44,15 @@ unfolding assemblyOf
 found fs [] j h e = let z : _≡_ {A = ℕ} 0 1 = cc in let f : ⊥ = omega arith in absurd f
 found fs (p ∷ ps) j h e =
     test (eqb (p .at) j)
-    (λ q. let s : storedOf fs p ≡ Stored h = rw q at e in record { place = 0; within = omega arith; at = eqb-true (p .at) j q; is = sym s })
+    (λ q. let s : storedOf fs p ≡ Stored h = rw q at e in
+    record { place = 0; within = omega arith; at = eqb-true (p .at) j q; is = sym s })
     (λ q.
     let r = found fs ps j h (rw q at e) in
     record { place = suc (r .place); within = let l = r .within in omega arith; at = r .at; is = r .is })
 
 -- ---- what a plan says of its checkpoint's part
-from-some : (x : Scan) (o : Option ℕ) (r : Resume) → planFrom x o ≡ At r → r .assembly ≡ assemblyOf (x .frames) (x .parts) (r .number)
+from-some : (x : Scan) (o : Option ℕ) (r : Resume) → planFrom x o ≡ At r
+    → r .assembly ≡ assemblyOf (x .frames) (x .parts) (r .number)
 unfolding planFrom
 from-some x none r e = let z : _≡_ {A = ℕ} 0 1 = cc in let f : ⊥ = omega arith in absurd f
 from-some x (some j) r e =
@@ -62,9 +64,11 @@ or-some : (f : ℕ) (o : Option EndState) (p : Plan) (r : Resume) → planOr f o
 unfolding planOr
 or-some f none p r e = e
 or-some f (some s) p r e =
-    test (leb (s .threshold) f) (λ q. let w : End s ≡ At r = rw q at e in let z : _≡_ {A = ℕ} 0 1 = cc in let g : ⊥ = omega arith in absurd g) (λ q. rw q at e)
+    test (leb (s .threshold) f) (λ q. let w : End s ≡ At r = rw q at e in let z : _≡_ {A = ℕ} 0 1 = cc in
+    let g : ⊥ = omega arith in absurd g) (λ q. rw q at e)
 
-planned-part : (x : Scan) (f : ℕ) (r : Resume) → planned x f ≡ At r → r .assembly ≡ assemblyOf (x .frames) (x .parts) (r .number)
+planned-part : (x : Scan) (f : ℕ) (r : Resume) → planned x f ≡ At r
+    → r .assembly ≡ assemblyOf (x .frames) (x .parts) (r .number)
 unfolding planned
 planned-part x f r e = from-some x _ r (or-some f (x .ending) _ r e)
 
@@ -78,22 +82,27 @@ len-is fs p h e = cc
 bytes-same : {o o' l l' : ℕ} {b : List ℕ} (s : List ℕ) → o ≡ o' → l ≡ l' → bytesAt s o' l' ≡ b → bytesAt s o l ≡ b
 bytes-same s p q e = rw (p, q) e
 
-named : {x : AreaIndex} {t : Tables} {j : ℕ} {h : HeldPart} → Passes x t → assemblyOf (indexIn x t .scan .frames) (indexIn x t .scan .parts) j ≡ Stored h → Names x t j h
+named : {x : AreaIndex} {t : Tables} {j : ℕ} {h : HeldPart} → Passes x t
+    → assemblyOf (indexIn x t .scan .frames) (indexIn x t .scan .parts) j ≡ Stored h → Names x t j h
 unfolding partsOk
 named {x} {t} {j} {h} p e =
     let fs = indexIn x t .scan .frames in
     let ps = indexIn x t .scan .parts in
     let g = found fs ps j h e in
     let w = all→ _ (passes-parts p) .0 in
-    let k = part→ (x .area) (x .interval) 0 (indexIn x t .scan .checkpoints) fs _ (getD ps (g .place) noHeld) (walk-at _ _ noHeld none ps (g .place) w (g .within)) .0 in
+    let k = part→ (x .area) (x .interval) 0 (indexIn x t .scan .checkpoints) fs _ (getD ps (g .place) noHeld)
+    (walk-at _ _ noHeld none ps (g .place) w (g .within)) .0 in
     let b : bytesAt (t .store) (offsetOf fs (getD ps (g .place) noHeld .frame)) (getD ps (g .place) noHeld .len) ≡ _ =
-    ap (λ (s : List ℕ). bytesAt s (offsetOf fs (getD ps (g .place) noHeld .frame)) (getD ps (g .place) noHeld .len)) (sym (store-is p))
+    ap (λ (s : List ℕ). bytesAt s (offsetOf fs (getD ps (g .place) noHeld .frame)) (getD ps (g .place) noHeld .len))
+    (sym (store-is p))
     ∙ store-part fs (drop (used fs) (t .store)) (getD ps (g .place) noHeld) (k .frame) (k .len) in
     record {
       place = g .place;
       within = rw (records-length 24 decodeHeld (x .parts) (t .parts)) at (g .within);
       at = g .at;
-      bytes = bytes-same (t .store) (offset-is fs (getD ps (g .place) noHeld) h (g .is)) (len-is fs (getD ps (g .place) noHeld) h (g .is)) b;
+      bytes =
+          bytes-same (t .store) (offset-is fs (getD ps (g .place) noHeld) h (g .is))
+          (len-is fs (getD ps (g .place) noHeld) h (g .is)) b;
     }
 
 pub plan-names : PlanNames

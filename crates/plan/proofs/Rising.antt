@@ -21,14 +21,16 @@ grown : (k : ℕ) (s : Passed) (c : Checkpoint) → checkpointOk k s c ≡ true 
 unfolding checkpointOk
 grown k s c e = leb-true _ _ (test _ e 0)
 
-module _ (k : ℕ) (s : Passed) (c : Checkpoint) (cs : List Checkpoint) (e : (checkpointOk k s c && walk (checkpointOk k) passed (passed s c) cs) ≡ true) where
+module _ (k : ℕ) (s : Passed) (c : Checkpoint) (cs : List Checkpoint)
+    (e : (checkpointOk k s c && walk (checkpointOk k) passed (passed s c) cs) ≡ true) where
   head : s .threshold ≤ c .threshold
   head = grown k s c (first (checkpointOk k s c) (walk (checkpointOk k) passed (passed s c) cs) e)
 
   tail : walk (checkpointOk k) passed (passed s c) cs ≡ true
   tail = second (checkpointOk k s c) (walk (checkpointOk k) passed (passed s c) cs) e
 
-low : (k : ℕ) (s : Passed) (cs : List Checkpoint) → walk (checkpointOk k) passed s cs ≡ true → (i : ℕ) → i < length cs → s .threshold ≤ checkpointAt cs i .threshold
+low : (k : ℕ) (s : Passed) (cs : List Checkpoint) → walk (checkpointOk k) passed s cs ≡ true → (i : ℕ) → i < length cs
+    → s .threshold ≤ checkpointAt cs i .threshold
 unfolding walk
 low k s [] e i h = let z : ⊥ = omega arith in absurd z
 low k s (c ∷ cs) e zero h = head k s c cs e
@@ -51,5 +53,6 @@ rising k n t e = record {
   keys = λ i j h l.
       let l' : j < length (checkpointsIn n t) = rw records-length l in
       let i' : i < n = omega arith in
-      rw (← records-at 24 decodeCheckpoint n t i noCheckpoint i', ← records-at 24 decodeCheckpoint n t j noCheckpoint l) (order k (begun 0) (checkpointsIn n t) e i j h l');
+      rw (← records-at 24 decodeCheckpoint n t i noCheckpoint i', ← records-at 24 decodeCheckpoint n t j noCheckpoint l)
+      (order k (begun 0) (checkpointsIn n t) e i j h l');
 }

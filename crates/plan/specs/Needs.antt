@@ -8,8 +8,8 @@ use Rattle.rules.specs.declared.Assembly.the-variants.{Stored}
 use Rattle.rules.specs.declared.Held.{Held}
 use Rattle.rules.specs.declared.Plan.{Plan}
 use Rattle.rules.specs.Values.{Frame}
-use Rattle.rules.specs.Plan.{offsetOf, lastNotAbove, resume, planFrom, planned, plan}
-use Rattle.index.specs.Index.{Tables, tables, indexIn}
+use Rattle.rules.specs.Plan.{offsetOf, lastNotAbove, resume, planFrom, planned}
+use Rattle.index.specs.Index.{Tables, indexIn}
 use Rattle.plan.specs.Search.{Rising}
 
 -- what a plan reads of the tables
@@ -22,7 +22,15 @@ pub record Ready (x : AreaIndex) (cs fs ps : List ℕ) : Type 0 where
 
 -- a part as a plan names it
 abbrev pub storedOf : List Frame → Held → Assembly
-storedOf fs p = Stored (record { kind = p .kind; number = p .number; remaining = p .remaining; offset = offsetOf fs (p .frame); len = p .len })
+storedOf fs p =
+    Stored (record {
+      kind = p .kind;
+      number = p .number;
+      remaining = p .remaining;
+      offset = offsetOf fs (p .frame);
+      len
+          = p .len;
+    })
 
 -- ---- a plan in the tables
 unfoldable pub resumeIn : AreaIndex → Tables → ℕ → Plan

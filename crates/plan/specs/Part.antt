@@ -34,4 +34,6 @@ pub record Names (x : AreaIndex) (t : Tables) (j : ℕ) (h : HeldPart) : Type 0 
 
 -- an accepted plan names a part of its checkpoint
 abbrev pub PlanNames : Type 0
-PlanNames = (x : AreaIndex) (t : Tables) (f : ℕ) (r : Resume) (h : HeldPart) → planIn x t f ≡ Accepted (At r) → r .assembly ≡ Stored h → Names x t (r .number) h
+PlanNames =
+    (x : AreaIndex) (t : Tables) (f : ℕ) (r : Resume) (h : HeldPart) → planIn x t f ≡ Accepted (At r)
+    → r .assembly ≡ Stored h → Names x t (r .number) h

@@ -7,7 +7,8 @@ use Rattle.rules.specs.File.{decodeCheckpoint}
 
 -- the thresholds of n checkpoints do not fall
 pub record Rising (n : ℕ) (t : List ℕ) : Type 0 where
-  pub keys : (i k : ℕ) → i ≤ k → k < n → recordAt 24 decodeCheckpoint t i .threshold ≤ recordAt 24 decodeCheckpoint t k .threshold
+  pub keys : (i k : ℕ) → i ≤ k → k < n → recordAt 24 decodeCheckpoint t i .threshold ≤ recordAt 24 decodeCheckpoint t
+      k .threshold
 
 -- the last of n
 unfoldable pub lastIn : ℕ → Option ℕ

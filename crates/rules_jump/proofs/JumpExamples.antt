@@ -2,7 +2,8 @@
 use mathlib.Core.Path.{refl}
 use Rattle.rules.specs.Examples.{Hold}
 use Rattle.rules.proofs.Examples.{evaluated}
-use Rattle.rules_jump.specs.Names.{heldRule, planRule, chosenBy, startRule, densityRule, namedEnd, localRule, endRule, named, namedAt, namedHint, planRuleNumber, startRuleNumber, endRuleNumber}
+use Rattle.rules_jump.specs.Names.{heldRule, planRule, chosenBy, startRule, densityRule, namedEnd, localRule}
+use Rattle.rules_jump.specs.Names.{endRule, named, namedAt, namedHint, planRuleNumber, startRuleNumber, endRuleNumber}
 use Rattle.rules_jump.specs.JumpExamples.{ruledNumbers, namedNumbers, plans, namedHints}
 
 pub plans-hold : Hold plans

@@ -16,7 +16,8 @@ some-is e = cc
 
 -- ---- it passes its test
 module _ (p : ℕ → Bool) (hs : List Hint) where
-  larger-holds : (k : ℕ) (o : Option ℕ) (i : ℕ) → ((m : ℕ) → o ≡ some m → (m < k) × (p m ≡ true)) → p k ≡ true → some (largerOf hs o k) ≡ some i
+  larger-holds : (k : ℕ) (o : Option ℕ) (i : ℕ) → ((m : ℕ) → o ≡ some m → (m < k) × (p m ≡ true)) → p k ≡ true
+      → some (largerOf hs o k) ≡ some i
       → (i < suc k) × (p i ≡ true)
   unfolding largerOf
   larger-holds k none i h y e = let q : k ≡ i = cc in (omega arith, rw (← q) y)

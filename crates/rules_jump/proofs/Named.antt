@@ -19,9 +19,11 @@ use Rattle.rules_jump.specs.declared.HintEnd.the-variants as by
 equal-spans : (x s f s' f' : ℕ) → 0 < f → 0 < f' → s * f' ≡ s' * f → x * s / f ≡ x * s' / f'
 equal-spans x s f s' f' h h' e =
     let a : x * s * f' ≡ x * s' * f = mul-assoc x s f' ∙ ap (λ (y : ℕ). x * y) e ∙ sym (mul-assoc x s' f) in
-    sym (mul-div-mul-right {m = f'} (x * s) f h') ∙ ap₂ (λ (y z : ℕ). y / z) a (mul-comm f f') ∙ mul-div-mul-right {m = f} (x * s') f' h
+    sym (mul-div-mul-right {m = f'} (x * s) f h') ∙ ap₂ (λ (y z : ℕ). y / z) a (mul-comm f f')
+    ∙ mul-div-mul-right {m = f} (x * s') f' h
 
-same-end : (r : Hint) (end : ℕ) (d d' : Density) → 0 < d .frames → 0 < d' .frames → d .sectors * d' .frames ≡ d' .sectors * d .frames
+same-end : (r : Hint) (end : ℕ) (d d' : Density) → 0 < d .frames → 0 < d' .frames
+    → d .sectors * d' .frames ≡ d' .sectors * d .frames
     → upperEnd r end d ≡ upperEnd r end d'
 unfolding upperEnd
 same-end r end d d' h h' e = rw (equal-spans _ (d .sectors) (d .frames) (d' .sectors) (d' .frames) h h' e)

@@ -15,7 +15,8 @@ use Rattle.rules.specs.Values.{Frame, Scan}
 use Rattle.rules.specs.Plan.{assemblyOf, planFrom, planOr, planned, lastNotAbove}
 use Rattle.rules.specs.Hints.{Density, largestOf, hintPlace}
 use Rattle.rules.proofs.Tests.{test}
-use Rattle.rules_jump.specs.Names.{heldRule, planRule, chosenBy, nearConfirmed, startRule, densityRule, localRule, namedEnd, endRule}
+use Rattle.rules_jump.specs.Names.{heldRule, planRule, chosenBy, nearConfirmed, startRule, densityRule, localRule}
+use Rattle.rules_jump.specs.Names.{namedEnd, endRule}
 use Rattle.rules_jump.specs.Statements.{ends, heldAt, ruleFrom, PlanNamed, ConfirmedNamed, EndNamed}
 use Rattle.rules_jump.specs.declared.HintStart.{HintStart}
 use Rattle.rules_jump.specs.declared.HintStart.the-variants.{Confirmed, Nearest}
@@ -25,7 +26,8 @@ use Rattle.rules_jump.specs.declared.PlanRule.the-variants as rule
 use Rattle.rules_jump.proofs.Largest.{largest-holds, largest-some}
 
 -- ---- plan
-held-named : (fs : List Frame) (ps : List Held) (j : ℕ) → heldRule (assemblyOf fs ps j) ≡ cond (heldAt ps j) rule.HeldPart rule.Checkpoint
+held-named : (fs : List Frame) (ps : List Held) (j : ℕ)
+    → heldRule (assemblyOf fs ps j) ≡ cond (heldAt ps j) rule.HeldPart rule.Checkpoint
 unfolding heldRule assemblyOf heldAt
 held-named fs [] j = refl
 held-named fs (p ∷ ps) j = test (eqb (p .at) j) (λ t. rw t refl) (λ t. rw t (held-named fs ps j))
@@ -43,7 +45,8 @@ or-named t (some e) p = test (leb (e .threshold) t) (λ y. rw y refl) (λ y. rw 
 pub plan-named : PlanNamed
 unfolding planned
 plan-named x t =
-    or-named t (x .ending) _ ∙ ap (cond (ends t (x .ending)) rule.Ending) (from-named x (lastNotAbove t (x .checkpoints) (length (x .checkpoints))))
+    or-named t (x .ending) _ ∙ ap (cond (ends t (x .ending)) rule.Ending)
+    (from-named x (lastNotAbove t (x .checkpoints) (length (x .checkpoints))))
 
 -- ---- how a hint was chosen
 isConfirmed : HintStart → Bool
@@ -77,7 +80,13 @@ confirmed-named checked hs cs first =
         λ e. let r = named-some o e in let h = largest-holds p hs (length hs) (r .0) (r .1) in (r .0, h .0, h .1),
         λ w. let r = largest-some p hs (length hs) (w .0) (w .1) (w .2) in some-named o (r .0) (r .1),
       );
-      chosen = λ e. let r = named-some o e in (r .0, first-of o _ (r .0) (r .1), largest-holds p hs (length hs) (r .0) (r .1) .1);
+      chosen =
+          λ e. let r = named-some o e in (
+            r .0,
+            first-of o _ (r .0) (r .1),
+            largest-holds p hs (length hs) (r .0)
+                (r .1) .1,
+          );
     }
 
 -- ---- the upper end
@@ -110,6 +119,7 @@ end-tells false r e = e
 pub end-named : EndNamed
 unfolding isEnd endRule namedEnd localRule
 end-named a hs i end playtime h = (
-  λ e. eqb-true (h .upper) (a .end) (sym (end-tells (eqb (h .upper) (a .end)) _ (later-not (h .later) _ (density-not _ _))) ∙ ap isEnd e),
+  λ e. eqb-true (h .upper) (a .end) (sym (end-tells (eqb (h .upper) (a .end)) _
+      (later-not (h .later) _ (density-not _ _))) ∙ ap isEnd e),
   λ e. rw (eq-eqb (h .upper) (a .end) e) refl,
 )

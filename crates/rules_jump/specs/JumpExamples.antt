@@ -12,7 +12,8 @@ use Rattle.rules.specs.declared.Hint.{Hint}
 use Rattle.rules.specs.declared.Plan.{Plan}
 use Rattle.rules.specs.Values.{Index, Lengths}
 use Rattle.rules.specs.Plan.{plan}
-use Rattle.rules.specs.Examples.{ample, short, area, hintAt, confirmedAt, checkpoint, indexOf, three, holding, closed, hintedNumbers, planNumbers, numbersOf, Example, example}
+use Rattle.rules.specs.Examples.{ample, short, area, hintAt, confirmedAt, checkpoint, indexOf, three, holding, closed}
+use Rattle.rules.specs.Examples.{hintedNumbers, planNumbers, numbersOf, Example, example}
 use Rattle.rules.specs.HintExamples.{hinting}
 use Rattle.rules_jump.specs.Names.{planRule, planRuleNumber, startRuleNumber, endRuleNumber, NamedHint, namedHint}
 
@@ -56,16 +57,19 @@ naming hs = numbersOf namedNumbers (namedHint ample (hinting Unknown 2048 hs [])
 
 -- (100, 30) and (160, 40), with a fingerprint and a confirmation
 abbrev pub confirming : Fingerprint → Confirmation → List ℕ
-confirming f c = numbersOf namedNumbers (namedHint ample (hinting f 2048 (hintAt 100 30 ∷ hintAt 160 40 ∷ []) (c ∷ [])) 45 75 500)
+confirming f c =
+    numbersOf namedNumbers (namedHint ample (hinting f 2048 (hintAt 100 30 ∷ hintAt 160 40 ∷ []) (c ∷ [])) 45 75 500)
 
 -- ---- the tables
 -- "area start, checkpoint, checkpoint with held part, or end state"
 unfoldable pub plans : List Example
 plans =
     -- no checkpoint at or before the frame
-    example (planning ample (indexOf (area 1000 1250) 100 (checkpoint 5 0 0 ∷ []) none Unknown 2048 [] []) 4) (0 ∷ 0 ∷ 1 ∷ [])
+    example (planning ample (indexOf (area 1000 1250) 100 (checkpoint 5 0 0 ∷ []) none Unknown 2048 [] []) 4)
+    (0 ∷ 0 ∷ 1 ∷ [])
     -- checkpoint 0 lies at the area's start
-    ∷ example (planning ample (indexOf (area 1000 1250) 100 (checkpoint 5 0 0 ∷ []) none Unknown 2048 [] []) 5) (0 ∷ 1 ∷ 0 ∷ 2 ∷ [])
+    ∷ example (planning ample (indexOf (area 1000 1250) 100 (checkpoint 5 0 0 ∷ []) none Unknown 2048 [] []) 5)
+    (0 ∷ 1 ∷ 0 ∷ 2 ∷ [])
     ∷ example (planning ample three 75) (0 ∷ 1 ∷ 2 ∷ 2 ∷ [])
     ∷ example (planning ample (holding 33) 75) (0 ∷ 1 ∷ 1 ∷ 3 ∷ [])
     -- a part of 0 bytes is held
@@ -76,7 +80,8 @@ plans =
     -- a refused plan names nothing
     ∷ example (planning short three 75) (3 ∷ []) ∷ []
 
--- "confirmed or nearest, and whether its upper end came from a later hint, from local spacing or from the area's average"
+-- "confirmed or nearest, and whether its upper end came from a later hint, from local spacing or from the area's
+-- average"
 unfoldable pub namedHints : List Example
 namedHints =
     -- "the first listed here of equal ones it compares": equal densities
@@ -86,7 +91,8 @@ namedHints =
     -- "an upper end at the area's end is named so instead": by a later hint, and by the average
     ∷ example (naming (hintAt 100 10 ∷ hintAt 160 40 ∷ hintAt 999 80 ∷ [])) (0 ∷ 160 ∷ 40 ∷ 1000 ∷ 1 ∷ 2 ∷ 4 ∷ [])
     ∷ example (naming (hintAt 100 10 ∷ hintAt 160 40 ∷ hintAt 998 80 ∷ [])) (0 ∷ 160 ∷ 40 ∷ 999 ∷ 1 ∷ 2 ∷ 1 ∷ [])
-    ∷ example (numbersOf namedNumbers (namedHint ample (hinting Unknown 2048 (hintAt 160 40 ∷ []) []) 45 709 1000)) (0 ∷ 160 ∷ 40 ∷ 1000 ∷ 0 ∷ 2 ∷ 4 ∷ [])
+    ∷ example (numbersOf namedNumbers (namedHint ample (hinting Unknown 2048 (hintAt 160 40 ∷ []) []) 45 709 1000))
+    (0 ∷ 160 ∷ 40 ∷ 1000 ∷ 0 ∷ 2 ∷ 4 ∷ [])
     -- not above it: a saturated one is named by its density
     ∷ example
     (numbersOf namedNumbers

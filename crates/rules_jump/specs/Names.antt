@@ -15,7 +15,8 @@ use Rattle.rules.specs.declared.Plan.the-variants.{Start, At, End}
 use Rattle.rules.specs.Tests.{Answer, Accepted, after, ask, firstNo}
 use Rattle.rules.specs.Questions.{four}
 use Rattle.rules.specs.Values.{Index, Lengths, noHint, isChecked}
-use Rattle.rules.specs.Hints.{Density, Hinted, largestOf, near, confirmedAt, hintPlace, firstFrom, runFrom, local, average, hintedLocally, hintedLater}
+use Rattle.rules.specs.Hints.{Density, Hinted, largestOf, near, confirmedAt, hintPlace, firstFrom, runFrom, local}
+use Rattle.rules.specs.Hints.{average, hintedLocally, hintedLater}
 use Rattle.rules_jump.specs.declared.PlanRule.{PlanRule}
 use Rattle.rules_jump.specs.declared.PlanRule.the-variants as rule
 use Rattle.rules_jump.specs.declared.HintStart.{HintStart}
@@ -40,7 +41,8 @@ chosenBy (some i) = Confirmed
 
 -- is the hint at i near, and confirmed for first?
 abbrev pub nearConfirmed : Bool → List Hint → List Confirmation → ℕ → ℕ → Bool
-nearConfirmed checked hs cs first i = near first (getD hs i noHint) && (checked && confirmedAt cs (getD hs i noHint .lsn) first)
+nearConfirmed checked hs cs first i =
+    near first (getD hs i noHint) && (checked && confirmedAt cs (getD hs i noHint .lsn) first)
 
 -- confirmed where a near hint is confirmed for first, also where it is the nearest
 unfoldable pub startRule : Bool → List Hint → List Confirmation → ℕ → HintStart
@@ -76,7 +78,8 @@ named a hs end playtime s i h = record { hinted = h; start = s; end = endRule a 
 unfoldable pub namedAt : Area → List Hint → ℕ → ℕ → HintStart → Option ℕ → Option NamedHint
 namedAt a hs end playtime s none = none
 namedAt a hs end playtime s (some i) =
-    some (named a hs end playtime s i (hintedLater (firstFrom end (drop (suc i) hs)) end (getD hs i noHint) (hintedLocally a hs i end playtime)))
+    some (named a hs end playtime s i (hintedLater (firstFrom end (drop (suc i) hs)) end (getD hs i noHint)
+    (hintedLocally a hs i end playtime)))
 
 -- hint, with its names
 unfoldable pub namedHint : Lengths → Index → ℕ → ℕ → ℕ → Answer (Option NamedHint)

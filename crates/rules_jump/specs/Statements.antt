@@ -41,12 +41,14 @@ ruleFrom ps (some j) = cond (heldAt ps j) rule.HeldPart rule.Checkpoint
 abbrev pub PlanNamed : Type 0
 PlanNamed =
     (x : Scan) (t : ℕ) → planRule (planned x t)
-    ≡ cond (ends t (x .ending)) rule.Ending (ruleFrom (x .parts) (lastNotAbove t (x .checkpoints) (length (x .checkpoints))))
+    ≡ cond (ends t (x .ending)) rule.Ending (ruleFrom (x .parts)
+    (lastNotAbove t (x .checkpoints) (length (x .checkpoints))))
 
 -- ---- hint: how it was chosen
 -- confirmed is named exactly where a near hint is confirmed for first, and the answer's hint is such a one
 pub record Confirming (checked : Bool) (hs : List Hint) (cs : List Confirmation) (first : ℕ) : Type 0 where
-  pub named : (startRule checked hs cs first ≡ Confirmed) ↔ ((i : ℕ) × (i < length hs) × (nearConfirmed checked hs cs first i ≡ true))
+  pub named : (startRule checked hs cs first ≡ Confirmed) ↔
+      ((i : ℕ) × (i < length hs) × (nearConfirmed checked hs cs first i ≡ true))
   pub chosen : startRule checked hs cs first ≡ Confirmed
       → (i : ℕ) × (hintPlace checked hs cs first ≡ some i) × (nearConfirmed checked hs cs first i ≡ true)
 
@@ -54,7 +56,8 @@ abbrev pub ConfirmedNamed : Type 0
 ConfirmedNamed = (checked : Bool) (hs : List Hint) (cs : List Confirmation) (first : ℕ) → Confirming checked hs cs first
 
 -- ---- hint: its upper end
--- where local spacing is named, the upper end is that by local spacing, though the source may have taken an equal average
+-- where local spacing is named, the upper end is that by local spacing, though the source may have taken an equal
+-- average
 abbrev pub LocalNamed : Type 0
 LocalNamed =
     (r : Hint) (end : ℕ) (whole d : Density) → 0 < whole .frames → 0 < d .frames → densityRule whole (some d) ≡ by.Local
@@ -63,12 +66,14 @@ LocalNamed =
 -- where the area's average is named, it is that by the average
 abbrev pub AverageNamed : Type 0
 AverageNamed =
-    (r : Hint) (end : ℕ) (whole : Density) (o : Option Density) → densityRule whole o ≡ by.Average → upperEnd r end (denser whole o) ≡ upperEnd r end whole
+    (r : Hint) (end : ℕ) (whole : Density) (o : Option Density) → densityRule whole o ≡ by.Average
+    → upperEnd r end (denser whole o) ≡ upperEnd r end whole
 
 -- the area's end is named exactly where the upper end is there
 abbrev pub EndNamed : Type 0
 EndNamed =
-    (a : Area) (hs : List Hint) (i end playtime : ℕ) (h : Hinted) → (endRule a hs i end playtime h ≡ by.AreaEnd) ↔ (h .upper ≡ a .end)
+    (a : Area) (hs : List Hint) (i end playtime : ℕ) (h : Hinted)
+    → (endRule a hs i end playtime h ≡ by.AreaEnd) ↔ (h .upper ≡ a .end)
 
 -- ---- the values
 -- without its names a hint is the hint of document 01
@@ -78,4 +83,6 @@ unnamed (Accepted none) = Accepted none
 unnamed (Accepted (some h)) = Accepted (some (h .hinted))
 
 abbrev pub ValuesStay : Type 0
-ValuesStay = (l : Lengths) (x : Index) (first end playtime : ℕ) → unnamed (namedHint l x first end playtime) ≡ hint l x first end playtime
+ValuesStay =
+    (l : Lengths) (x : Index) (first end playtime : ℕ)
+    → unnamed (namedHint l x first end playtime) ≡ hint l x first end playtime

@@ -15,12 +15,14 @@ returns-2 c = frameless _ (c .before .before .before .if1 .left) (sym (c .before
 returns-3 : tie.Need-returns-3
 returns-3 c =
     let two = c .before .before in
-    short _ (two .before .before .before .if1 .left) (λ e. two .if2 .left (two .before .frames-of .ensures ∙ e)) _ (c .before .packets-of .ensures .0) (c .if3 .taken)
+    short _ (two .before .before .before .if1 .left) (λ e. two .if2 .left (two .before .frames-of .ensures ∙ e)) _
+    (c .before .packets-of .ensures .0) (c .if3 .taken)
 
 returns-4 : tie.Need-returns-4
 returns-4 c =
     let two = c .before .before .before in
-    whole _ (two .before .before .before .if1 .left) (λ e. two .if2 .left (two .before .frames-of .ensures ∙ e)) _ (c .before .before .packets-of .ensures .0) _ _ (c .before .if3 .left) (c .time-at .ensures) (omega arith)
+    whole _ (two .before .before .before .if1 .left) (λ e. two .if2 .left (two .before .frames-of .ensures ∙ e)) _
+    (c .before .before .packets-of .ensures .0) _ _ (c .before .if3 .left) (c .time-at .ensures) (omega arith)
 
 pub first-record-spec : {M : Type 1} → statement M
 first-record-spec =

@@ -14,10 +14,18 @@ loop-holds : tie.Need-loop-holds Inv-loop μ-loop
 loop-holds c = sought-start _ _ _
 
 returns : tie.Need-returns Inv-loop μ-loop
-returns c = λ store. sought-found (c .before .before .before .before .before .loop .inv) (c .before .before .before .before .loop-test .taken) (c .before .before .before .read-held .ensures) (c .before .if1 .taken) _ ((c .stored .ensures) store)
+returns c =
+    let then1 : tie.Then1 Inv-loop μ-loop = search in
+    let after-read-held : tie.After-read-held Inv-loop μ-loop = search in
+    let in-loop : tie.In-loop Inv-loop μ-loop = search in
+    let at-loop : tie.At-loop Inv-loop μ-loop = search in
+    λ store. sought-found (at-loop .loop .inv) (in-loop .loop-test .taken) (after-read-held .read-held .ensures)
+    (then1 .if1 .taken) _ ((c .stored .ensures) store)
 
 loop-again : tie.Need-loop-again Inv-loop μ-loop
-loop-again c = sought-on (c .before .before .before .before .loop .inv) (c .before .before .before .loop-test .taken) (c .before .before .read-held .ensures) (c .if1 .left)
+loop-again c =
+    sought-on (c .before .before .before .before .loop .inv) (c .before .before .before .loop-test .taken)
+    (c .before .before .read-held .ensures) (c .if1 .left)
 
 returns-2 : tie.Need-returns-2 Inv-loop μ-loop
 returns-2 c = λ store. sought-none (c .before .loop .inv) (c .loop-test .left) _

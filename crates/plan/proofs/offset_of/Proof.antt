@@ -25,7 +25,15 @@ add-sum : tie.Need-add-sum Inv-loop μ-loop
 add-sum c = record { fits = omega (arith, (c .before .before .before .loop .inv .2)) }
 
 loop-again : tie.Need-loop-again Inv-loop μ-loop
-loop-again c = (search needs, weight-next (c .before .before .before .loop .i) (headersIn (c .before .before .before .before .before .args .f) (c .before .before .before .before .before .args .frames .now)) (c .before .before .before .loop .inv .1) (c .before .get-header .ensures), omega (arith, (c .before .before .before .loop .inv .2)))
+loop-again c =
+    let after-get-header : tie.After-get-header Inv-loop μ-loop = search in
+    let at-loop : tie.At-loop Inv-loop μ-loop = search in
+    let start : tie.Start Inv-loop μ-loop = search in (
+      search needs,
+      weight-next (at-loop .loop .i) (headersIn (start .args .f) (start .args .frames .now))
+          (at-loop .loop .inv .1) (after-get-header .get-header .ensures),
+      omega (arith, (at-loop .loop .inv .2)),
+    )
 
 returns : tie.Need-returns Inv-loop μ-loop
 returns c = λ store. weight-offset _ _ _ store (c .before .loop .inv .0) (c .loop-test .left) (c .before .loop .inv .1)

@@ -12,7 +12,8 @@ plan-in-requires : tie.Need-plan-in-requires
 plan-in-requires c κs = ready (passes _ _ (sym (c .before .refuses .ensures) ∙ (c .if1 .left)))
 
 returns-2 : tie.Need-returns-2
-returns-2 c = plan-yes _ _ _ (c .before .before .refuses .ensures) (c .before .if1 .left) ((c .plan-in .ensures) _ _ _ _)
+returns-2 c =
+    plan-yes _ _ _ (c .before .before .refuses .ensures) (c .before .if1 .left) ((c .plan-in .ensures) _ _ _ _)
 
 pub plan-spec : {M : Type 1} → statement M
 plan-spec = tie.close (tie.spec (λ c κs. search needs) returns plan-in-requires returns-2)

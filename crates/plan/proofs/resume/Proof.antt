@@ -4,7 +4,9 @@ use Rattle.plan.proofs.resume.Statement.{statement}
 use Rattle.plan.proofs.resume.Tie as tie
 
 returns : tie.Need-returns
-returns c = λ store malformed hints confirmed. resume-is _ _ _ (c .before .before .lsn-at .ensures) (c .before .get-checkpoint .ensures) ((c .assembly-of .ensures) store)
+returns c =
+    λ store malformed hints confirmed. resume-is _ _ _ (c .before .before .lsn-at .ensures)
+    (c .before .get-checkpoint .ensures) ((c .assembly-of .ensures) store)
 
 pub resume-spec : {M : Type 1} → statement M
 resume-spec =
