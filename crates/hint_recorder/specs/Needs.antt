@@ -37,4 +37,5 @@ flushedRecord r = record { spacing = r .spacing; last = r .last; tail = none; li
 
 -- a record listed, under the bound, or made the tail
 abbrev pub hintSeen : values.HintRecorder → Hint → values.HintRecorder
-hintSeen r h = cond (spaced (r .last) (r .spacing) (h .number) && ltb (length (r .list)) maxList) (listed r h) (tailed r h)
+hintSeen r h =
+    cond (spaced (r .last) (r .spacing) (h .number) && ltb (length (r .list)) maxList) (listed r h) (tailed r h)

@@ -35,7 +35,8 @@ tailIn tail.Empty = none
 tailIn (tail.Hint h) = some h
 
 abbrev pub recorderIn : HintRecorder → List ℕ → values.HintRecorder
-recorderIn r t = record { spacing = r .spacing; last = lastIn (r .last); tail = tailIn (r .tail); list = hintsIn (r .count) t }
+recorderIn r t =
+    record { spacing = r .spacing; last = lastIn (r .last); tail = tailIn (r .tail); list = hintsIn (r .count) t }
 
 -- ---- the numbers of a value
 unfoldable pub lastFrom : Option ℕ → LastListed
@@ -47,7 +48,8 @@ tailFrom none = tail.Empty
 tailFrom (some h) = tail.Hint h
 
 abbrev pub numbersFrom : values.HintRecorder → HintRecorder
-numbersFrom r = record { spacing = r .spacing; last = lastFrom (r .last); tail = tailFrom (r .tail); count = length (r .list) }
+numbersFrom r =
+    record { spacing = r .spacing; last = lastFrom (r .last); tail = tailFrom (r .tail); count = length (r .list) }
 
 -- ---- answers, and the list's table afterwards
 pub record Out : Type 0 where
@@ -73,7 +75,8 @@ sawOut r t = record { answer = r; list = t }
 unfoldable pub sawOf : List ℕ → Answer rules.SeenSector → SawOut
 sawOf t (Refused n) = sawOut (saw.Refused n) t
 sawOf t (Accepted s) =
-    sawOut (saw.Sector (record { first = s .first; recorder = numbersFrom (s .recorder) })) (over (bytesOf encodeHint (s .recorder .list)) t)
+    sawOut (saw.Sector (record { first = s .first; recorder = numbersFrom (s .recorder) }))
+    (over (bytesOf encodeHint (s .recorder .list)) t)
 
 unfoldable pub seeIn : HintRecorder → List ℕ → ℕ → List ℕ → SawOut
 seeIn r t lsn sector = sawOf t (see (length t / 8) (recorderIn r t) lsn sector)

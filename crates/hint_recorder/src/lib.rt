@@ -9,6 +9,7 @@ use field::and;
 use first_record::first_record;
 use rules::AreaIndex;
 use rules::First;
+use rules::HINT;
 use rules::Hint;
 use rules::HintRecorder;
 use rules::LastListed;
@@ -62,7 +63,7 @@ pub enum Created {
 fn refuses(r: HintRecorder, list: &[u8]) -> u32
     ensures { λ n. ⌜ n ≡ refusalOf r (now (list .entry)) ⌝ }
 {
-    if list.len() / 8 < MAX_LIST as usize {
+    if list.len() / HINT < MAX_LIST as usize {
         return 3;
     }
     if MAX_LIST < r.count {
@@ -98,7 +99,9 @@ impl Step {
     // The first record of a sector seen: listed, or the tail.
     fn seen(self, lsn: u64, first: First, list: &mut [u8]) -> Step
         requires { ⌜ Roomy (self .recorder) (now list) ⌝ }
-        ensures { λ r. ⌜ Steps (r .recorder) (seenRecord (recorderIn (self .recorder) (now (list .entry))) lsn first) (now (list .entry)) (now (list .exit)) ⌝ }
+        ensures { λ r. ⌜
+            Steps (r .recorder) (seenRecord (recorderIn (self .recorder) (now (list .entry))) lsn first)
+            (now (list .entry)) (now (list .exit)) ⌝ }
     {
         let First::Number(t) = first else {
             return self;
@@ -135,7 +138,8 @@ pub fn see(r: HintRecorder, lsn: u64, sector: &[u8], list: &mut [u8]) -> Saw
 // The tail listed, under the same bound, and cleared.
 fn flushed(r: HintRecorder, list: &mut [u8]) -> HintRecorder
     requires { ⌜ Roomy r (now list) ⌝ }
-    ensures { λ q. ⌜ Steps q (flushedRecord (recorderIn r (now (list .entry)))) (now (list .entry)) (now (list .exit)) ⌝ }
+    ensures { λ q. ⌜
+        Steps q (flushedRecord (recorderIn r (now (list .entry)))) (now (list .entry)) (now (list .exit)) ⌝ }
 {
     let last = r.last;
     let tail = r.tail;
@@ -184,7 +188,9 @@ pub fn hint_recorder(
     hints: &[u8],
     confirmed: &[u8],
 ) -> Created
-    ensures { λ r. ⌜ r ≡ hintRecorderIn x (tables (now (checkpoints .entry)) (now (frames .entry)) (now (store .entry)) (now (parts .entry)) (now (malformed .entry)) (now (hints .entry)) (now (confirmed .entry))) ⌝ }
+    ensures { λ r. ⌜
+        r ≡ hintRecorderIn x (tables (now (checkpoints .entry)) (now (frames .entry)) (now (store .entry))
+        (now (parts .entry)) (now (malformed .entry)) (now (hints .entry)) (now (confirmed .entry))) ⌝ }
 {
     let number = index::refuses(
         x,

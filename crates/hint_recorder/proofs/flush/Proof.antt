@@ -22,7 +22,8 @@ returns-2 c =
     let else1 : tie.Else1 = search in
     let after-refuses : tie.After-refuses = search in
     let start : tie.Start = search in
-    let a = start .args in flush-yes (a .r) (a .list .now) (after-refuses .refuses .ensures) (else1 .if1 .left) (after-flushed .flushed .ensures)
+    let a = start .args in flush-yes (a .r) (a .list .now) (after-refuses .refuses .ensures) (else1 .if1 .left)
+    (after-flushed .flushed .ensures)
 
 pub flush-spec : {M : Type 1} → statement M
 flush-spec =

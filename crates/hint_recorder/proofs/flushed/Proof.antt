@@ -10,7 +10,8 @@ returns c =
     let table : tie.After-slice-known = search in
     let start : tie.Start = search in
     let a = start .args in
-    flushed-none (a .r) (a .list .now) (start .pre) (λ i. table .slice-known .given i .fits) (empty .enum-told .given .1) (c .cleared .ensures)
+    flushed-none (a .r) (a .list .now) (start .pre) (λ i. table .slice-known .given i .fits)
+    (empty .enum-told .given .1) (c .cleared .ensures)
 
 returns-2 : tie.Need-returns-2
 returns-2 c =
@@ -20,7 +21,8 @@ returns-2 c =
     let table : tie.After-slice-known = search in
     let start : tie.Start = search in
     let a = start .args in
-    flushed-full (a .r) (a .list .now) (start .pre) (λ i. table .slice-known .given i .fits) (tail .tail .given .1) (room .has-room .ensures) (then1 .if1 .taken) (c .cleared2 .ensures)
+    flushed-full (a .r) (a .list .now) (start .pre) (λ i. table .slice-known .given i .fits) (tail .tail .given .1)
+    (room .has-room .ensures) (then1 .if1 .taken) (c .cleared2 .ensures)
 
 write-given-requires : tie.Need-write-given-requires
 write-given-requires c κs =
@@ -38,7 +40,8 @@ returns-3 c =
     let table : tie.After-slice-known = search in
     let start : tie.Start = search in
     let a = start .args in
-    flushed-listed (a .r) (a .list .now) (start .pre) (λ i. table .slice-known .given i .fits) (tail .tail .given .1) (room .has-room .ensures) (else1 .if1 .left) (wrote .write-given .ensures) (c .cleared3 .ensures)
+    flushed-listed (a .r) (a .list .now) (start .pre) (λ i. table .slice-known .given i .fits) (tail .tail .given .1)
+    (room .has-room .ensures) (else1 .if1 .left) (wrote .write-given .ensures) (c .cleared3 .ensures)
 
 pub flushed-spec : {M : Type 1} → statement M
 flushed-spec =

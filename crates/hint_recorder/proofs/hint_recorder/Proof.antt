@@ -10,7 +10,8 @@ returns c =
     let start : tie.Start = search in
     let a = start .args in
     created-no (a .x)
-    (tables (a .checkpoints .now) (a .frames .now) (a .store .now) (a .parts .now) (a .malformed .now) (a .hints .now) (a .confirmed .now))
+    (tables (a .checkpoints .now) (a .frames .now) (a .store .now) (a .parts .now) (a .malformed .now) (a .hints .now)
+    (a .confirmed .now))
     (after-refuses .refuses .ensures) (c .if1 .taken)
 
 returns-2 : tie.Need-returns-2
@@ -20,7 +21,8 @@ returns-2 c =
     let start : tie.Start = search in
     let a = start .args in
     created-unspaced (a .x)
-    (tables (a .checkpoints .now) (a .frames .now) (a .store .now) (a .parts .now) (a .malformed .now) (a .hints .now) (a .confirmed .now))
+    (tables (a .checkpoints .now) (a .frames .now) (a .store .now) (a .parts .now) (a .malformed .now) (a .hints .now)
+    (a .confirmed .now))
     (after-refuses .refuses .ensures) (else1 .if1 .left) (c .if2 .taken)
 
 returns-3 : tie.Need-returns-3
@@ -31,7 +33,8 @@ returns-3 c =
     let start : tie.Start = search in
     let a = start .args in
     created-none (a .x)
-    (tables (a .checkpoints .now) (a .frames .now) (a .store .now) (a .parts .now) (a .malformed .now) (a .hints .now) (a .confirmed .now))
+    (tables (a .checkpoints .now) (a .frames .now) (a .store .now) (a .parts .now) (a .malformed .now) (a .hints .now)
+    (a .confirmed .now))
     (after-refuses .refuses .ensures) (else1 .if1 .left) (else2 .if2 .left) (c .if3 .taken)
 
 returns-4 : tie.Need-returns-4
@@ -42,7 +45,8 @@ returns-4 c =
     let start : tie.Start = search in
     let a = start .args in
     created-yes (a .x)
-    (tables (a .checkpoints .now) (a .frames .now) (a .store .now) (a .parts .now) (a .malformed .now) (a .hints .now) (a .confirmed .now))
+    (tables (a .checkpoints .now) (a .frames .now) (a .store .now) (a .parts .now) (a .malformed .now) (a .hints .now)
+    (a .confirmed .now))
     (after-refuses .refuses .ensures) (else1 .if1 .left) (else2 .if2 .left) (c .if3 .left)
 
 pub hint-recorder-spec : {M : Type 1} → statement M

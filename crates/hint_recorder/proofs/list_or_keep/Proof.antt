@@ -13,7 +13,13 @@ write-given-requires c κs =
     let table : tie.After-slice-known = search in
     let start : tie.Start = search in
     let a = start .args in
-    omega (arith, start .pre .room, room-left (a .r) (a .list .now) (start .pre) (λ i. table .slice-known .given i .fits) (a .h) (far .is-spaced .ensures) (rw (room .has-room .ensures) at (both .and .ensures)) (then1 .if1 .taken))
+    omega (
+      arith,
+      start .pre .room,
+      room-left (a .r) (a .list .now) (start .pre)
+          (λ i. table .slice-known .given i .fits) (a .h) (far .is-spaced .ensures)
+          (rw (room .has-room .ensures) at (both .and .ensures)) (then1 .if1 .taken),
+    )
 
 returns : tie.Need-returns
 returns c =
@@ -25,7 +31,9 @@ returns c =
     let table : tie.After-slice-known = search in
     let start : tie.Start = search in
     let a = start .args in
-    hint-listed (a .r) (a .list .now) (start .pre) (λ i. table .slice-known .given i .fits) (a .h) (far .is-spaced .ensures) (rw (room .has-room .ensures) at (both .and .ensures)) (then1 .if1 .taken) (wrote .write-given .ensures) (c .cleared .ensures)
+    hint-listed (a .r) (a .list .now) (start .pre) (λ i. table .slice-known .given i .fits) (a .h)
+    (far .is-spaced .ensures) (rw (room .has-room .ensures) at (both .and .ensures)) (then1 .if1 .taken)
+    (wrote .write-given .ensures) (c .cleared .ensures)
 
 returns-2 : tie.Need-returns-2
 returns-2 c =
@@ -35,7 +43,8 @@ returns-2 c =
     let table : tie.After-slice-known = search in
     let start : tie.Start = search in
     let a = start .args in
-    hint-tailed (a .r) (a .list .now) (start .pre) (λ i. table .slice-known .given i .fits) (a .h) (far .is-spaced .ensures) (rw (room .has-room .ensures) at (both .and .ensures)) (c .if1 .left)
+    hint-tailed (a .r) (a .list .now) (start .pre) (λ i. table .slice-known .given i .fits) (a .h)
+    (far .is-spaced .ensures) (rw (room .has-room .ensures) at (both .and .ensures)) (c .if1 .left)
 
 pub list-or-keep-spec : {M : Type 1} → statement M
 list-or-keep-spec =

@@ -7,10 +7,14 @@ returns : tie.Need-returns
 returns c = let a = c .before .args in short-list (a .r) (a .list .now) (c .if1 .taken)
 
 returns-2 : tie.Need-returns-2
-returns-2 c = let a = c .before .before .before .args in long-count (a .r) (a .list .now) (c .before .before .if1 .left) (c .if2 .taken)
+returns-2 c =
+    let a = c .before .before .before .args in
+    long-count (a .r) (a .list .now) (c .before .before .if1 .left) (c .if2 .taken)
 
 returns-3 : tie.Need-returns-3
-returns-3 c = let a = c .before .before .before .args in asked-both (a .r) (a .list .now) (c .before .before .if1 .left) (c .if2 .left)
+returns-3 c =
+    let a = c .before .before .before .args in
+    asked-both (a .r) (a .list .now) (c .before .before .if1 .left) (c .if2 .left)
 
 pub refuses-spec : {M : Type 1} → statement M
 refuses-spec = tie.close (tie.spec (λ c. search needs) returns returns-2 returns-3)

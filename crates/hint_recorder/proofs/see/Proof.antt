@@ -7,7 +7,8 @@ returns : tie.Need-returns
 returns c =
     let after-refuses : tie.After-refuses = search in
     let start : tie.Start = search in
-    let a = start .args in see-no (a .r) (a .list .now) (after-refuses .refuses .ensures) (a .lsn) (a .sector .now) (c .if1 .taken)
+    let a = start .args in see-no (a .r) (a .list .now) (after-refuses .refuses .ensures) (a .lsn) (a .sector .now)
+    (c .if1 .taken)
 
 seen-requires : tie.Need-seen-requires
 seen-requires c κs =

@@ -12,6 +12,7 @@ pub never-spaced : {l : LastListed} (spacing t : ℕ) → l ≡ Never → true �
 unfolding spaced lastIn
 never-spaced spacing t e = rw e
 
-pub is-spaced : {l : LastListed} {n m : ℕ} {b : Bool} (spacing t : ℕ) → l ≡ Number n → m ≡ min (n + spacing) 4294967295 → b ≡ (leb m t || ltb t n) → b ≡ spaced (lastIn l) spacing t
+pub is-spaced : {l : LastListed} {n m : ℕ} {b : Bool} (spacing t : ℕ) → l ≡ Number n → m ≡ min (n + spacing) 4294967295
+    → b ≡ (leb m t || ltb t n) → b ≡ spaced (lastIn l) spacing t
 unfolding spaced lastIn
 is-spaced spacing t e q f = rw (e, ← q) f

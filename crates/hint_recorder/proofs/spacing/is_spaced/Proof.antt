@@ -7,7 +7,12 @@ returns : tie.Need-returns
 returns c = let a = c .before .before .args in never-spaced (a .spacing) (a .t) (c .enum-told .given .1)
 
 returns-2 : tie.Need-returns-2
-returns-2 c = let a = c .before .before .before .before .before .args in is-spaced (a .spacing) (a .t) (c .before .before .before .last .given .1) (c .before .min-u64 .ensures) (c .or .ensures)
+returns-2 c =
+    let after-min-u64 : tie.After-min-u64 = search in
+    let after-last : tie.After-last = search in
+    let start : tie.Start = search in
+    let a = start .args in
+    is-spaced (a .spacing) (a .t) (after-last .last .given .1) (after-min-u64 .min-u64 .ensures) (c .or .ensures)
 
 pub is-spaced-spec : {M : Type 1} → statement M
 is-spaced-spec =
