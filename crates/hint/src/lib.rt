@@ -37,7 +37,8 @@ pub struct NamedHint {
     pub end: HintEnd,
 }
 
-// The upper end through the first of the hints from place i on that is numbered end or more, if at most 64 frames past it; 0 where there is none.
+// The upper end through the first of the hints from place i on that is numbered end or more, if at most 64 frames
+// past it; 0 where there is none.
 fn later_end(hints: &[u8], n: usize, i: usize, end: u32) -> u64
     requires { ⌜ (n * 8 ≤ length (now hints)) × (i ≤ n) ⌝ }
     ensures { λ r. ⌜ r ≡ laterEnd end (firstFrom end (drop i (keptIn n (now (hints .entry))))) ⌝ }
@@ -77,7 +78,9 @@ fn hinted_from(
     start: HintStart,
 ) -> NamedHint
     requires { ⌜ (n * 8 ≤ length (now hints)) × (i < n) × (area .start ≤ area .end) × (area .end ≤ 4294967295) ⌝ }
-    ensures { λ r. ⌜ namedOf r ≡ named area (keptIn n (now (hints .entry))) end playtime start i (hintedFrom area (keptIn n (now (hints .entry))) i end playtime) ⌝ }
+    ensures { λ r. ⌜
+        namedOf r ≡ named area (keptIn n (now (hints .entry))) end playtime start i
+        (hintedFrom area (keptIn n (now (hints .entry))) i end playtime) ⌝ }
 {
     let h = read_hint(hints, i);
     let upper = later_end(hints, n, i + 1, end);
@@ -148,7 +151,10 @@ pub fn hint(
     hints: &[u8],
     confirmed: &[u8],
 ) -> HintAnswer
-    ensures { λ r. ⌜ answerOf r ≡ hintIn x (tables (now (checkpoints .entry)) (now (frames .entry)) (now (store .entry)) (now (parts .entry)) (now (malformed .entry)) (now (hints .entry)) (now (confirmed .entry))) first end playtime ⌝ }
+    ensures { λ r. ⌜
+        answerOf r ≡ hintIn x (tables (now (checkpoints .entry)) (now (frames .entry)) (now (store .entry))
+        (now (parts .entry)) (now (malformed .entry)) (now (hints .entry)) (now (confirmed .entry))) first end playtime
+        ⌝ }
 {
     let number = refuses(
         x,

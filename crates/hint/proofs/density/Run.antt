@@ -16,7 +16,8 @@ runLast t end last [] = last
 runLast t end last (h ∷ hs) = cond (ltb t (h .number) && ltb (h .number) end) (runLast t end h hs) last
 
 -- it is that of the rules
-last-from : (t end : ℕ) (h : Hint) (o : Option Hint) (hs : List Hint) → runLast t end (orHint h o) hs ≡ orHint h (runFrom t end o hs)
+last-from : (t end : ℕ) (h : Hint) (o : Option Hint) (hs : List Hint)
+    → runLast t end (orHint h o) hs ≡ orHint h (runFrom t end o hs)
 unfolding runLast runFrom orHint
 last-from t end h o [] = refl
 last-from t end h o (x ∷ hs) =
@@ -27,14 +28,15 @@ unfolding orHint
 last-is t end h hs = last-from t end h none hs
 
 -- ---- a turn
-module _ (t end : ℕ) (last s : Hint) {q : Bool} (e : q ≡ (ltb t (s .number) && ltb (s .number) end)) (hs : List Hint) where
-  pub run-stop : not q ≡ true → runLast t end last (s ∷ hs) ≡ last
-  unfolding runLast
-  run-stop n = rw (← e, not-true q n)
+module _ (t end : ℕ) (last s : Hint) {q : Bool} (e : q ≡ (ltb t (s .number) && ltb (s .number) end)) (hs : List Hint)
+  where
+    pub run-stop : not q ≡ true → runLast t end last (s ∷ hs) ≡ last
+    unfolding runLast
+    run-stop n = rw (← e, not-true q n)
 
-  pub run-on : not q ≡ false → runLast t end last (s ∷ hs) ≡ runLast t end s hs
-  unfolding runLast
-  run-on n = rw (← e, not-false q n)
+    pub run-on : not q ≡ false → runLast t end last (s ∷ hs) ≡ runLast t end s hs
+    unfolding runLast
+    run-on n = rw (← e, not-false q n)
 
 pub run-end : (t end : ℕ) (last : Hint) → last ≡ runLast t end last []
 unfolding runLast

@@ -13,7 +13,8 @@ use Rattle.hint.proofs.later_end.Tie as tie
 
 abbrev Inv-loop : tie.InvT-loop
 Inv-loop hints n i end j₀ j =
-    Rest 8 decodeKept n hints (λ hs. laterEnd end (firstFrom end hs)) (laterEnd end (firstFrom end (drop i (keptIn n hints)))) j
+    Rest 8 decodeKept n hints (λ hs. laterEnd end (firstFrom end hs))
+    (laterEnd end (firstFrom end (drop i (keptIn n hints)))) j
 
 abbrev μ-loop : tie.MeasureT-loop
 μ-loop hints n i end j₀ j = n - j
@@ -26,14 +27,16 @@ returns c =
     let loop : tie.At-loop Inv-loop μ-loop = search in
     let inside : tie.In-loop Inv-loop μ-loop = search in
     let s : tie.After-read-hint Inv-loop μ-loop = search in
-    rest-stop (loop .loop .inv) (inside .loop-test .taken) (s .read-hint .ensures) (λ hs. later-near _ _ hs (omega arith) (omega arith))
+    rest-stop (loop .loop .inv) (inside .loop-test .taken) (s .read-hint .ensures)
+    (λ hs. later-near _ _ hs (omega arith) (omega arith))
 
 returns-2 : tie.Need-returns-2 Inv-loop μ-loop
 returns-2 c =
     let loop : tie.At-loop Inv-loop μ-loop = search in
     let inside : tie.In-loop Inv-loop μ-loop = search in
     let s : tie.After-read-hint Inv-loop μ-loop = search in
-    rest-stop (loop .loop .inv) (inside .loop-test .taken) (s .read-hint .ensures) (λ hs. later-far _ _ hs (omega arith) (omega arith))
+    rest-stop (loop .loop .inv) (inside .loop-test .taken) (s .read-hint .ensures)
+    (λ hs. later-far _ _ hs (omega arith) (omega arith))
 
 loop-again : tie.Need-loop-again Inv-loop μ-loop
 loop-again c =

@@ -10,7 +10,8 @@ use Rattle.hint.proofs.density.run_last.Tie as tie
 
 abbrev Inv-loop : tie.InvT-loop
 Inv-loop hints n i h end last₀ j₀ last j =
-    Rest 8 decodeKept n hints (λ hs. runLast (h .number) end last hs) (runLast (h .number) end h (drop i (keptIn n hints))) j
+    Rest 8 decodeKept n hints (λ hs. runLast (h .number) end last hs)
+    (runLast (h .number) end h (drop i (keptIn n hints))) j
 
 abbrev μ-loop : tie.MeasureT-loop
 μ-loop hints n i h end last₀ j₀ last j = n - j
@@ -24,7 +25,8 @@ returns c =
     let inside : tie.In-loop Inv-loop μ-loop = search in
     let s : tie.After-read-hint Inv-loop μ-loop = search in
     let q : tie.After-and Inv-loop μ-loop = search in
-    rest-stop (loop .loop .inv) (inside .loop-test .taken) (s .read-hint .ensures) (λ hs. run-stop _ _ _ _ (q .and .ensures) hs (c .if1 .taken)) ∙ last-is _ _ _ _
+    rest-stop (loop .loop .inv) (inside .loop-test .taken) (s .read-hint .ensures)
+    (λ hs. run-stop _ _ _ _ (q .and .ensures) hs (c .if1 .taken)) ∙ last-is _ _ _ _
 
 loop-again : tie.Need-loop-again Inv-loop μ-loop
 loop-again c =
@@ -32,7 +34,8 @@ loop-again c =
     let inside : tie.In-loop Inv-loop μ-loop = search in
     let s : tie.After-read-hint Inv-loop μ-loop = search in
     let q : tie.After-and Inv-loop μ-loop = search in
-    rest-on (loop .loop .inv) _ (inside .loop-test .taken) (s .read-hint .ensures) (λ hs. run-on _ _ _ _ (q .and .ensures) hs (c .if1 .left))
+    rest-on (loop .loop .inv) _ (inside .loop-test .taken) (s .read-hint .ensures)
+    (λ hs. run-on _ _ _ _ (q .and .ensures) hs (c .if1 .left))
 
 returns-2 : tie.Need-returns-2 Inv-loop μ-loop
 returns-2 c =

@@ -1,5 +1,5 @@
 use Prim.Native.Nat.{_-_, _≤_}
-use mathlib.Core.Path.{_≡_, ap, _∙_}
+use mathlib.Core.Path.{_≡_}
 use native.Mathlib.Omega.{arith}
 use Rattle.plan.specs.Search.{lastIn}
 use Rattle.tables.specs.Tables.{confirmationsIn, keptIn}
@@ -10,7 +10,8 @@ use Rattle.hint.proofs.nearest.largest.Statement.{statement}
 use Rattle.hint.proofs.nearest.largest.Tie as tie
 
 abbrev Inv-loop : tie.InvT-loop
-Inv-loop hints n confirmed m checked any first best₀ j₀ best j = (j ≤ n) × (best ≤ j) × (lastIn best ≡ largestIn checked any (keptIn n hints) (confirmationsIn m confirmed) first j)
+Inv-loop hints n confirmed m checked any first best₀ j₀ best j =
+    (j ≤ n) × (best ≤ j) × (lastIn best ≡ largestIn checked any (keptIn n hints) (confirmationsIn m confirmed) first j)
 
 abbrev μ-loop : tie.MeasureT-loop
 μ-loop hints n confirmed m checked any first best₀ j₀ best j = n - j
@@ -34,7 +35,13 @@ loop-less : tie.Need-loop-less Inv-loop μ-loop
 loop-less c = search needs
 
 loop-again : tie.Need-loop-again Inv-loop μ-loop
-loop-again c = (omega arith, (c .larger-of .ensures .1), largest-next _ _ _ _ _ _ _ (c .before .before .before .loop-test .taken) (c .before .before .before .before .loop .inv .2) (c .before .before .read-hint .ensures) (c .before .candidate .ensures) (c .larger-of .ensures .0))
+loop-again c = (
+  omega arith,
+  (c .larger-of .ensures .1),
+  largest-next _ _ _ _ _ _ _ (c .before .before .before .loop-test .taken)
+      (c .before .before .before .before .loop .inv .2) (c .before .before .read-hint .ensures)
+      (c .before .candidate .ensures) (c .larger-of .ensures .0),
+)
 
 returns : tie.Need-returns Inv-loop μ-loop
 returns c = largest-end _ _ _ _ _ (c .before .loop .inv .0) (c .loop-test .left) (c .before .loop .inv .2)

@@ -8,10 +8,11 @@ use Rattle.hint.proofs.nearest.near.Tie as tie
 returns : tie.Need-returns
 returns c =
     let wrapped : tie.After-wrapping-sub-u32 = search in
-    let left : tie.After-less = search in
+    let left : tie.After-saturating-sub = search in
     let start : tie.Start = search in
     let a = start .args in
-    near-is (a .first) (a .h) (left .less .ensures) (wrapped .wrapping-sub-u32 .ensures) (omega arith) (omega arith) refl
+    near-is (a .first) (a .h) (left .saturating-sub .ensures) (wrapped .wrapping-sub-u32 .ensures) (omega arith)
+    (omega arith) refl
 
 pub near-spec : {M : Type 1} → statement M
 near-spec = tie.close (tie.spec (λ c κs. search needs) (λ c κs. search needs) (λ c. search needs) returns)
