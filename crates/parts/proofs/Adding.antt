@@ -1,15 +1,13 @@
 -- The parts of another list, added one after another. Assumes nothing.
 use mathlib.Core.Path.{_≡_, refl, sym, ap, _∙_}
-use mathlib.Core.Bool.{Bool, true, false, cond, not}
+use mathlib.Core.Bool.{Bool, true, false, not}
 use mathlib.Core.List.{List, [], _∷_, _++_}
 use Prim.Native.Nat.{ℕ, zero, suc, _+_, _-_, _*_, _<_, _≤_}
-use native.Mathlib.Nat.{zero-add}
 use native.Mathlib.Omega.{arith}
-use borrow.Author.Tests.{ltb-true, ltb-false, lt-ltb, le-ltb, le-leb}
+use borrow.Author.Tests.{le-leb}
 use lib.Dec.{ltb}
 use lib.IntN.{ℤ}
-use lib.ListN.{length, take, drop, length-drop, drop-of-length-le, take-append-drop}
-use lib.Seq.{length-take-le}
+use lib.ListN.{length, take, drop, drop-of-length-le, take-append-drop}
 use Rattle.field.specs.Number.{numberAt}
 use Rattle.field.specs.Records.{records, recordAt, Bytes}
 use Rattle.field.proofs.Bytes.{bytes-take, bytes-drop, bytes-part}
@@ -19,24 +17,24 @@ use Rattle.field.proofs.Format as format
 use Rattle.field.proofs.Format.{Each, each-at, records-fit}
 use Rattle.rules.specs.declared.Held as declared
 use Rattle.rules.specs.Values.{Frame, noFrame, frameAt, partBytes, used}
-use Rattle.rules.specs.PartRule.{Stored, Piece, piece, addPart, addParts}
+use Rattle.rules.specs.PartRule.{Stored, Piece, addPart, addParts}
 use Rattle.rules.specs.Plan.{offsetOf, bytesAt}
 use Rattle.rules.specs.File.{decodeHeld}
 use Rattle.rules.proofs.Tests.{test}
-use Rattle.laws.proofs.scans.PartRule.{addParts-skip, addParts-add}
+use Rattle.laws.proofs.scans.PartRule.{addParts-none, addParts-skip, addParts-add}
 use Rattle.laws.proofs.Layouts.{HeldFits, signed-forth}
 use Rattle.tables.specs.declared.FrameHeader.{FrameHeader}
 use Rattle.tables.specs.Tables.{decodeHeader, headersIn, headerAt, frameOf, framesOf, framesIn, partsIn}
 use Rattle.tables.proofs.Frames.{stretch-length, frame-start, frames-used}
 use Rattle.tables.proofs.Walk.{records-turn}
-use Rattle.index.specs.Index.{kindsOk, storeOf}
+use Rattle.index.specs.Index.{storeOf}
 use Rattle.index.proofs.Back.{HeaderFits, FrameFits, header-layout}
 use Rattle.plan.proofs.Held.{weight-next, weight-offset}
 use Rattle.index.proofs.Lent.{store-back}
 use Rattle.index.proofs.Store.{store-part}
 use Rattle.parts.specs.declared.Counts.{Counts}
 use Rattle.parts.specs.declared.Source.{Source}
-use Rattle.parts.specs.Parts.{PartTables, partTables, storedIn, countsOf, storedOver, Held, held, heldFrom}
+use Rattle.parts.specs.Parts.{PartTables, storedIn, countsOf, storedOver, Held, held, heldFrom}
 use Rattle.parts.specs.Needs.{Ready, Room, wanted, InOrder, Lent, offsetTo, heldPiece, addedBy}
 use Rattle.parts.proofs.Frames.{count}
 use Rattle.parts.proofs.Stored.{stays}
@@ -53,15 +51,22 @@ held-fits b h = record {
 parts-fit : (h : ℕ) (t : List ℕ) → Bytes t → Each HeldFits (partsIn h t)
 unfolding records
 parts-fit zero t b = format.none
-parts-fit (suc h) t b = format.one (held-fits (take 24 t) (bytes-take t 24 b)) (parts-fit h (drop 24 t) (bytes-drop t 24 b))
+parts-fit (suc h) t b =
+    format.one (held-fits (take 24 t) (bytes-take t 24 b)) (parts-fit h (drop 24 t) (bytes-drop t 24 b))
 
 frames-fit : {hs : List FrameHeader} (store : List ℕ) → Each HeaderFits hs → Each FrameFits (framesOf hs store)
 unfolding framesOf
 frames-fit store format.none = format.none
-frames-fit store (format.one {x = g} p ps) = format.one {x = frameOf g store} (p .0, (rw stretch-length (p .1 .0), tt)) (frames-fit (drop (g .len) store) ps)
+frames-fit store (format.one {x = g} p ps) =
+    format.one {x = frameOf g store} (p .0, (rw stretch-length (p .1 .0), tt)) (frames-fit (drop (g .len) store) ps)
 
 pub fits-in : (f h : ℕ) (t : PartTables) → Bytes (t .frames) → Bytes (t .parts) → Fits (storedIn f h t)
-fits-in f h t bf bp = record { frames = frames-fit (t .store) (records-fit header-layout f (t .frames) bf); parts = parts-fit h (t .parts) bp }
+fits-in f h t bf bp =
+    record {
+      frames = frames-fit (t .store) (records-fit header-layout f (t .frames) bf);
+      parts = parts-fit h (t .parts)
+          bp;
+    }
 
 -- ---- where a frame's bytes lie
 used-at : (fs : List Frame) (i : ℕ) → i < length fs → used (take i fs) + length (frameAt fs i .bytes) ≤ used fs
@@ -80,9 +85,12 @@ module _ (f : ℕ) (headers store : List ℕ) (room : used (framesIn f headers s
   offset-is : (g : ℕ) → offsetTo f headers g ≡ offsetOf (framesIn f headers store) g
   offset-is g = weight-offset g g (headersIn f headers) store (omega arith) (omega arith) refl
 
-  module _ (p : declared.Held) {off : ℕ} (is : off ≡ offsetTo f headers (p .frame)) (l : p .frame < length (framesIn f headers store)) (b : p .len ≤ length (frameAt (framesIn f headers store) (p .frame) .bytes)) where
+  module _ (p : declared.Held) {off : ℕ} (is : off ≡ offsetTo f headers (p .frame))
+      (l : p .frame < length (framesIn f headers store))
+      (b : p .len ≤ length (frameAt (framesIn f headers store) (p .frame) .bytes)) where
     pub bytes-inside : off + p .len ≤ length store
-    bytes-inside = let e = is ∙ offset-is (p .frame) in let u = used-at (framesIn f headers store) (p .frame) l in omega arith
+    bytes-inside =
+        let e = is ∙ offset-is (p .frame) in let u = used-at (framesIn f headers store) (p .frame) l in omega arith
 
     pub bytes-there : take (p .len) (drop off store) ≡ partBytes (framesIn f headers store) p
     unfolding bytesAt
@@ -90,10 +98,12 @@ module _ (f : ℕ) (headers store : List ℕ) (room : used (framesIn f headers s
         let e = is ∙ offset-is (p .frame) in
         let q = store-part (framesIn f headers store) (drop (used (framesIn f headers store)) store) p l b in
         let i : offsetOf (framesIn f headers store) (p .frame) + p .len ≤ length store = rw e at bytes-inside in
-        rw e (rw (← store-split, le-leb (offsetOf (framesIn f headers store) (p .frame) + p .len) (length store) i) at q)
+        rw e (rw (← store-split, le-leb (offsetOf (framesIn f headers store) (p .frame) + p .len) (length store) i)
+        at q)
 
 -- from one frame to the next
-pub source-next : {off : ℕ} {x : FrameHeader} (f : ℕ) (headers : List ℕ) (i g : ℕ) → off ≡ offsetTo f headers i → x ≡ headerAt (headersIn f headers) i → i ≤ g → g ≤ i + 1 → (g ≡ i → ⊥)
+pub source-next : {off : ℕ} {x : FrameHeader} (f : ℕ) (headers : List ℕ) (i g : ℕ) → off ≡ offsetTo f headers i
+    → x ≡ headerAt (headersIn f headers) i → i ≤ g → g ≤ i + 1 → (g ≡ i → ⊥)
     → off + x .len ≡ offsetTo f headers g
 source-next f headers i g e h a b z = let q : g ≡ i + 1 = omega arith in weight-next i (headersIn f headers) e h ∙ rw q
 
@@ -103,15 +113,24 @@ module _ (budget : ℕ) (c : Counts) (p : Piece) (t : PartTables) where
   unfolding addedBy
   added-no e = rw e
 
-  added-yes : {go : Bool} → go ≡ true → heldFrom (addPart budget (storedIn (c .frames) (c .parts) t) p) t ≡ addedBy budget go c p t
+  added-yes : {go : Bool} → go ≡ true → heldFrom (addPart budget (storedIn (c .frames) (c .parts) t) p) t
+      ≡ addedBy budget go c p t
   unfolding addedBy
   added-yes e = rw e
 
 -- its bytes are cut from the other store
-pub added-part : {x : Held} {z : ℤ} {go : Bool} (budget : ℕ) (c : Counts) (t : PartTables) (p : declared.Held) (at start from e : ℕ) (other : List ℕ) → z ≡ p .remaining → e ≡ from + p .len
+pub added-part : {x : Held} {z : ℤ} {go : Bool} (budget : ℕ) (c : Counts) (t : PartTables) (p : declared.Held)
+    (at start from e : ℕ) (other : List ℕ) → z ≡ p .remaining → e ≡ from + p .len
     → go ≡ true
     → x ≡ heldFrom (addPart budget (storedIn (c .frames) (c .parts) t)
-    (record { at = at; start = start; bytes = take (e - from) (drop from other); number = p .number; kind = p .kind; remaining = z })) t
+    (record {
+      at = at;
+      start = start;
+      bytes = take (e - from) (drop from other);
+      number = p .number;
+      kind = p .kind;
+      remaining = z;
+    })) t
     → x ≡ addedBy budget go c (heldPiece p at start (take (p .len) (drop from other))) t
 added-part budget c t p at start from e other r q l h =
     let k : e - from ≡ p .len = omega arith in
@@ -172,13 +191,22 @@ module _ (budget f h : ℕ) (o t0 : PartTables) (choice : Choice budget (framesI
   -- one at least
   space-one : {w : ℕ} {c : Counts} {t : PartTables} → Room (suc w) budget c t → Room 1 budget c t
   space-one r = let f' = r .frames in let p' = r .parts in let e = r .few in
-      record { ready = r .ready; kinds = r .kinds; frames = omega arith; parts = omega arith; few = (omega arith, omega arith) }
+      record {
+        ready = r .ready;
+        kinds = r .kinds;
+        frames = omega arith;
+        parts = omega arith;
+        few =
+            (omega arith, omega arith);
+      }
 
   -- as `add_one` counts: the tables are those of c
   counted : {c : Counts} {t : PartTables} → Ready budget c t → c ≡ countsOf (storedIn (c .frames) (c .parts) t)
-  counted {c} {t} r = rw (count (c .frames) (t .frames) (t .store), records-length 24 decodeHeld (c .parts) (t .parts), ← r .bytes)
+  counted {c} {t} r =
+      rw (count (c .frames) (t .frames) (t .store), records-length 24 decodeHeld (c .parts) (t .parts), ← r .bytes)
 
-  pub adding-start : {c : Counts} → Lent f h o → Room (choice .many parts) budget c t0 → Bytes (t0 .frames) → Bytes (t0 .parts)
+  pub adding-start : {c : Counts} → Lent f h o → Room (choice .many parts) budget c t0 → Bytes (t0 .frames)
+      → Bytes (t0 .parts)
       → Adding (choice .all parts (storedIn (c .frames) (c .parts) t0)) 0 (record { frame = 0; offset = 0 }) c t0
   unfolding framesOf used
   adding-start {c} l r bf bp = record {
@@ -191,7 +219,8 @@ module _ (budget f h : ℕ) (o t0 : PartTables) (choice : Choice budget (framesI
     rest = refl;
   }
 
-  module _ (l : Lent f h o) {given : Stored} {j : ℕ} {at : Source} {c : Counts} {t : PartTables} (k : Adding given j at c t) where
+  module _ (l : Lent f h o) {given : Stored} {j : ℕ} {at : Source} {c : Counts} {t : PartTables}
+      (k : Adding given j at c t) where
     pub adding-end : h ≤ j → held c t ≡ heldFrom given t0
     adding-end g =
         let e : drop j parts ≡ [] = drop-of-length-le parts {i = j} (rw records-length g) in
@@ -212,7 +241,8 @@ module _ (budget f h : ℕ) (o t0 : PartTables) (choice : Choice budget (framesI
       pub in-order : InOrder (at .frame) others (p ∷ drop (j + 1) parts)
       in-order = rw turn at (k .order)
 
-      pub source-ready : (at .offset ≡ offsetTo f (o .frames) (at .frame)) × (at .frame ≤ p .frame) × (p .frame ≤ at .frame + 1) × (p .frame < f) × (f * 8 ≤ length (o .frames))
+      pub source-ready : (at .offset ≡ offsetTo f (o .frames) (at .frame)) × (at .frame ≤ p .frame)
+          × (p .frame ≤ at .frame + 1) × (p .frame < f) × (f * 8 ≤ length (o .frames))
           × (at .offset ≤ length (o .store))
       source-ready =
           let q = in-order in
@@ -221,31 +251,37 @@ module _ (budget f h : ℕ) (o t0 : PartTables) (choice : Choice budget (framesI
           let e = k .source ∙ offset-is f (o .frames) (o .store) (l .store) (at .frame) in
           (k .source, q .0, q .1, rw (count f (o .frames) (o .store)) at (q .2), l .frames, omega arith)
 
-      module _ {at' : Source} (there : (at' .frame ≡ p .frame) × (at' .offset ≡ offsetTo f (o .frames) (p .frame))) {g : FrameHeader} (header : g ≡ recordAt 8 decodeHeader (o .frames) (p .frame))
+      module _ {at' : Source} (there : (at' .frame ≡ p .frame) × (at' .offset ≡ offsetTo f (o .frames) (p .frame)))
+          {g : FrameHeader} (header : g ≡ recordAt 8 decodeHeader (o .frames) (p .frame))
           {go : Bool} (goes : go ≡ choice .wants p) where
         pub one-ready : (go ≡ true → Room 1 budget c t) × (at' .offset + p .len ≤ length (o .store))
         one-ready = (
-          (λ z. let e : choice .many (drop j parts) ≡ suc (choice .many (drop (j + 1) parts)) = wanted-yes (sym goes ∙ z) in space-one (rw e at (k .room))),
+          (λ z. let e : choice .many (drop j parts)
+              ≡ suc (choice .many (drop (j + 1) parts)) = wanted-yes (sym goes ∙ z) in space-one (rw e at (k .room))),
           (let q = in-order in bytes-inside f (o .frames) (o .store) (l .store) p (there .1) (q .2) (q .3)),
         )
 
-        piece-is : heldPiece p (choice .number (p .at)) (g .start) (take (p .len) (drop (at' .offset) (o .store))) ≡ numbered (choice .number) others p
+        piece-is : heldPiece p (choice .number (p .at)) (g .start) (take (p .len) (drop (at' .offset) (o .store)))
+            ≡ numbered (choice .number) others p
         piece-is =
             let q = in-order in
             let u : p .frame < f = rw (count f (o .frames) (o .store)) at (q .2) in
             let e : frameAt others (p .frame) .start ≡ g .start =
-            frame-start (headersIn f (o .frames)) (o .store) (p .frame) ∙ rw (records-at 8 decodeHeader f (o .frames) (p .frame) (record { start = 0; len = 0 }) u, header) in
+            frame-start (headersIn f (o .frames)) (o .store) (p .frame)
+            ∙ rw (records-at 8 decodeHeader f (o .frames) (p .frame) (record { start = 0; len = 0 }) u, header) in
             rw (e, bytes-there f (o .frames) (o .store) (l .store) p (there .1) (q .2) (q .3))
 
         typed : Bytes (o .frames) → Bytes (o .parts) → Typed (numbered (choice .number) others p)
         typed bf bp =
             let x : HeldFits p = rw is (held-fits _ (bytes-part (o .parts) (j * 24) 24 bp)) in
-            let y = each-at (p .frame) noFrame (frames-fit (o .store) (records-fit header-layout f (o .frames) bf)) (omega arith, (omega arith, tt)) in
+            let y = each-at (p .frame) noFrame (frames-fit (o .store) (records-fit header-layout f (o .frames) bf))
+            (omega arith, (omega arith, tt)) in
             let a = x .numbers .0 in let b = choice .low (p .at) in
             record { at = omega arith; start = y .0; number = x .numbers .1 .1 .1 .0; remaining = x .signed }
 
         module _ {c' : Counts} {t' : PartTables}
-            (added : held c' t' ≡ addedBy budget go c (heldPiece p (choice .number (p .at)) (g .start) (take (p .len) (drop (at' .offset) (o .store)))) t) where
+            (added : held c' t' ≡ addedBy budget go c
+            (heldPiece p (choice .number (p .at)) (g .start) (take (p .len) (drop (at' .offset) (o .store)))) t) where
           skipped : choice .wants p ≡ false → Adding given (j + 1) at' c' t'
           unfolding addedBy
           skipped z =
@@ -271,10 +307,12 @@ module _ (budget f h : ℕ) (o t0 : PartTables) (choice : Choice budget (framesI
               let ec : c' ≡ countsOf s' = ap (λ (x : Held). x .counts) e in
               let et : t' ≡ storedOver s' t = ap (λ (x : Held). x .tables) e in
               let r : Room (suc (choice .many (drop (j + 1) parts))) budget c t = rw (wanted-yes z) at (k .room) in
-              let cf = count (c .frames) (t .frames) (t .store) in let cp = records-length 24 decodeHeld (c .parts) (t .parts) in
+              let cf = count (c .frames) (t .frames) (t .store) in
+              let cp = records-length 24 decodeHeld (c .parts) (t .parts) in
               let rb = r .ready .bytes in let rf = r .ready .fits in let few = r .few in
               let st : Step budget s s' =
-              step-part budget s (numbered (choice .number) others p) (rw cf (omega arith)) (omega arith) (rw (cf, cp) (r .ready .some)) (k .fits) (typed bf bp) in
+              step-part budget s (numbered (choice .number) others p) (rw cf (omega arith)) (omega arith)
+              (rw (cf, cp) (r .ready .some)) (k .fits) (typed bf bp) in
               let here = stands-there st t in
               rw (ec, et) (record {
                 within = omega arith;
@@ -282,7 +320,9 @@ module _ (budget f h : ℕ) (o t0 : PartTables) (choice : Choice budget (framesI
                 order = rw (there .0) (in-order .4);
                 room = next-room st t (counted (r .ready)) r;
                 fits = rw here (st .fits);
-                front = ap (λ (x : Stored). storedOver x t0) here ∙ sym (stored-again st t0) ∙ ap (storedOver s') (k .front);
+                front =
+                    ap (λ (x : Stored). storedOver x t0) here ∙ sym (stored-again st t0)
+                    ∙ ap (storedOver s') (k .front);
                 rest = rw here (sym (choice .yes p (drop (j + 1) parts) s z) ∙ (rw turn at (k .rest)));
               })
 
@@ -299,10 +339,6 @@ module _ (n : ℕ) (p : declared.Held) (ps : List declared.Held) where
   unfolding wanted
   wanted-same e = rw (not-false (ltb (p .at) n) e)
 
-pub added-none : (budget : ℕ) (fs : List Frame) (n : ℕ) (h : Stored) → addParts budget fs n [] h ≡ h
-unfolding addParts
-added-none budget fs n h = refl
-
 abbrev pub later-parts : (budget n : ℕ) (fs : List Frame) → Choice budget fs
 later-parts budget n fs = record {
   wants = λ p. not (ltb (p .at) n);
@@ -312,7 +348,7 @@ later-parts budget n fs = record {
   many-yes = wanted-more n;
   many-no = wanted-same n;
   all = addParts budget fs n;
-  none = added-none budget fs n;
+  none = addParts-none budget fs n;
   yes = λ p ps h e. addParts-add budget fs n p ps h (not-true (ltb (p .at) n) e);
   no = λ p ps h e. addParts-skip budget fs n p ps h (not-false (ltb (p .at) n) e);
 }

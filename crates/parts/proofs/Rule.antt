@@ -1,22 +1,22 @@
 -- The part rule by what the tables say: the last frame's header, the last part, and the store. Assumes nothing.
-use mathlib.Core.Path.{_≡_, refl, sym, ap, _∙_}
-use mathlib.Core.Bool.{Bool, true, false, _&&_, _||_, and-true, cond}
-use mathlib.Core.List.{List, [], _∷_}
-use Prim.Native.Nat.{ℕ, _+_, _-_, _*_, _<_, _≤_}
+use mathlib.Core.Path.{_≡_, sym, _∙_}
+use mathlib.Core.Bool.{Bool, true, false, _||_, and-true}
+use mathlib.Core.List.{List}
+use Prim.Native.Nat.{ℕ, _+_, _-_, _<_, _≤_}
 use native.Mathlib.Omega.{arith}
-use borrow.Author.Tests.{le-leb, lt-leb, eqb-false, ne-eqb}
+use borrow.Author.Tests.{le-leb, lt-leb, eqb-false}
 use lib.Dec.{eqb, leb, ltb}
-use lib.ListN.{length, take, drop}
+use lib.ListN.{length}
 use Rattle.field.specs.Records.{recordAt}
 use Rattle.field.proofs.Records.{records-length, records-at}
 use Rattle.rules.specs.declared.Held.{Held}
-use Rattle.rules.specs.Tests.{all, agrees, lastOr}
+use Rattle.rules.specs.Tests.{all, lastOr}
 use Rattle.rules.specs.Values.{noHeld, maxFrame, used}
-use Rattle.rules.specs.PartRule.{Stored, Piece, lastFrame, lastPart, opens, joins, growth, stores}
+use Rattle.rules.specs.PartRule.{Stored, Piece, opens, joins, growth, stores}
 use Rattle.rules.specs.File.{decodeHeld}
 use Rattle.rules.proofs.Tests.{and-assoc, or-none}
 use Rattle.tables.specs.declared.FrameHeader.{FrameHeader}
-use Rattle.tables.specs.Tables.{framesIn, partsIn}
+use Rattle.tables.specs.Tables.{partsIn}
 use Rattle.tables.proofs.Tests.{leb-left}
 use Rattle.parts.specs.declared.Counts.{Counts}
 use Rattle.parts.specs.Parts.{PartTables, storedIn}
@@ -24,13 +24,17 @@ use Rattle.parts.specs.Needs.{Ready, joinsIn}
 use Rattle.parts.proofs.Frames.{lastHeader, last-start, last-length, last-used, last-bytes}
 
 -- the last part
-pub last-part : {q : Held} (h : ℕ) (t : List ℕ) → 1 ≤ h → q ≡ recordAt 24 decodeHeld t (h - 1) → q ≡ lastOr noHeld (partsIn h t)
+pub last-part : {q : Held} (h : ℕ) (t : List ℕ) → 1 ≤ h → q ≡ recordAt 24 decodeHeld t (h - 1)
+    → q ≡ lastOr noHeld (partsIn h t)
 unfolding lastOr
-last-part h t l e = e ∙ rw (records-length 24 decodeHeld h t) (sym (records-at 24 decodeHeld h t (h - 1) noHeld (omega arith)))
+last-part h t l e =
+    e ∙ rw (records-length 24 decodeHeld h t) (sym (records-at 24 decodeHeld h t (h - 1) noHeld (omega arith)))
 
-module _ {budget : ℕ} {c : Counts} {t : PartTables} (r : Ready budget c t) {last : FrameHeader} (is : last ≡ lastHeader (c .frames) (t .frames)) where
+module _ {budget : ℕ} {c : Counts} {t : PartTables} (r : Ready budget c t) {last : FrameHeader}
+    (is : last ≡ lastHeader (c .frames) (t .frames)) where
   -- the last frame's bytes are in the store
-  pub last-inside : {new : Bool} (start : ℕ) → new ≡ (eqb (c .parts) 0 || ltb (last .start) start) → new ≡ false → (1 ≤ c .parts) × (last .len ≤ c .used)
+  pub last-inside : {new : Bool} (start : ℕ) → new ≡ (eqb (c .parts) 0 || ltb (last .start) start) → new ≡ false
+      → (1 ≤ c .parts) × (last .len ≤ c .used)
   last-inside {new} start e o =
       let w = eqb-false (c .parts) 0 (or-none (eqb (c .parts) 0) (ltb (last .start) start) (sym e ∙ o) .0) in
       let some : 1 ≤ c .parts = omega arith in
@@ -44,7 +48,13 @@ module _ {budget : ℕ} {c : Counts} {t : PartTables} (r : Ready budget c t) {la
 
     pub opens-is : new ≡ opens stored p
     unfolding opens
-    opens-is = new-is ∙ rw (is, records-length 24 decodeHeld (c .parts) (t .parts), last-start (c .frames) (t .frames) (t .store))
+    opens-is =
+        new-is ∙ rw (
+          is,
+          records-length 24 decodeHeld (c .parts) (t .parts),
+          last-start (c .frames) (t .frames)
+              (t .store),
+        )
 
     -- more than a frame may have
     pub long-out : maxFrame < length (p .bytes) → false ≡ stores budget stored p
@@ -56,7 +66,13 @@ module _ {budget : ℕ} {c : Counts} {t : PartTables} (r : Ready budget c t) {la
       pub opens-in : new ≡ true → leb (length (p .bytes)) (budget - c .used) ≡ stores budget stored p
       unfolding stores growth all
       opens-in o =
-          rw (leb-left (c .used) (length (p .bytes)) budget (r .fits), le-leb (length (p .bytes)) maxFrame short, sym opens-is ∙ o, ← r .bytes) (simp and-true)
+          rw (
+            leb-left (c .used) (length (p .bytes)) budget (r .fits),
+            le-leb (length (p .bytes)) maxFrame short,
+            sym
+                opens-is ∙ o,
+            ← r .bytes,
+          ) (simp and-true)
 
       module _ (o : new ≡ false) where
         grows : growth stored p ≡ length (p .bytes) - last .len
@@ -68,13 +84,24 @@ module _ {budget : ℕ} {c : Counts} {t : PartTables} (r : Ready budget c t) {la
         unfolding stores all
         full-out l =
             let f = r .fits in
-            rw (le-leb (length (p .bytes)) maxFrame short, grows, ← r .bytes, lt-leb (c .used + (length (p .bytes) - last .len)) budget (omega arith))
+            rw (
+              le-leb (length (p .bytes)) maxFrame short,
+              grows,
+              ← r .bytes,
+              lt-leb
+                  (c .used + (length (p .bytes) - last .len)) budget (omega arith),
+            )
 
         joins-is : joinsIn c last (lastOr noHeld (partsIn (c .parts) (t .parts))) (t .store) p ≡ joins stored p
         unfolding joinsIn joins all
         joins-is =
             let s = r .store in let f = r .fits in let some = r .some (last-inside (p .start) new-is o .0) in
-            rw (is, last-start (c .frames) (t .frames) (t .store), last-bytes (c .frames) (t .frames) (t .store) some (c .used) (r .bytes) (omega arith))
+            rw (
+              is,
+              last-start (c .frames) (t .frames) (t .store),
+              last-bytes (c .frames) (t .frames) (t .store) some
+                  (c .used) (r .bytes) (omega arith),
+            )
             (simp (and-true, and-assoc))
 
         -- in the last frame
@@ -83,4 +110,12 @@ module _ {budget : ℕ} {c : Counts} {t : PartTables} (r : Ready budget c t) {la
         unfolding stores all
         joins-in l =
             let f = r .fits in
-            rw (joins-is, le-leb (length (p .bytes)) maxFrame short, grows, ← r .bytes, le-leb (c .used + (length (p .bytes) - last .len)) budget (omega arith), sym opens-is ∙ o) (simp and-true)
+            rw (
+              joins-is,
+              le-leb (length (p .bytes)) maxFrame short,
+              grows,
+              ← r .bytes,
+              le-leb
+                  (c .used + (length (p .bytes) - last .len)) budget (omega arith),
+              sym opens-is ∙ o,
+            ) (simp and-true)

@@ -36,7 +36,8 @@ pub record Room (n budget : ℕ) (c : Counts) (t : PartTables) : Type 0 where
   pub parts : (c .parts + n) * 24 ≤ length (t .parts)
   pub few : (c .frames + n < 4294967296) × (c .parts + n < 4294967296)
 
--- joins of the part rule, by the last frame's header and the last part; the last frame's bytes end where the store is used up
+-- joins of the part rule, by the last frame's header and the last part; the last frame's bytes end where the store is
+-- used up
 unfoldable pub joinsIn : Counts → FrameHeader → declared.Held → List ℕ → Piece → Bool
 joinsIn c last q store p =
     eqb (last .start) (p .start)
@@ -46,14 +47,16 @@ joinsIn c last q store p =
 -- where a part of n bytes goes, if the last of f frames has l: into a frame of its own, or into the last
 unfoldable pub placedIn : ℕ → Bool → ℕ → ℕ → Placed
 placedIn f new l n =
-    cond new (record { frame = f; from = 0; len = n; frames = f + 1 }) (record { frame = f - 1; from = min l n; len = l + (n - l); frames = f })
+    cond new (record { frame = f; from = 0; len = n; frames = f + 1 })
+    (record { frame = f - 1; from = min l n; len = l + (n - l); frames = f })
 
 -- what is written for a part that goes to a place
 unfoldable pub putIn : Counts → Placed → Piece → PartTables → Held
 putIn c to p t =
     let more = drop (to .from) (p .bytes) in
     held (record { frames = to .frames; parts = c .parts + 1; used = c .used + length more })
-    (partTables (sets (t .frames) (to .frame * 8) (encode 4 (p .start) ++ encode 4 (to .len))) (sets (t .store) (c .used) more)
+    (partTables (sets (t .frames) (to .frame * 8) (encode 4 (p .start) ++ encode 4 (to .len)))
+    (sets (t .store) (c .used) more)
     (sets (t .parts) (c .parts * 24) (encodeHeld (partOf p (to .frame)))))
 
 -- and what that needs of the tables, for n bytes
@@ -75,7 +78,8 @@ wanted n (p ∷ ps) = cond (ltb (p .at) n) (wanted n ps) (suc (wanted n ps))
 abbrev pub InOrder : ℕ → List Frame → List declared.Held → Type 0
 InOrder g fs [] = Unit {0}
 InOrder g fs (p ∷ ps) =
-    (g ≤ p .frame) × (p .frame ≤ g + 1) × (p .frame < length fs) × (p .len ≤ length (frameAt fs (p .frame) .bytes)) × InOrder (p .frame) fs ps
+    (g ≤ p .frame) × (p .frame ≤ g + 1) × (p .frame < length fs) × (p .len ≤ length (frameAt fs (p .frame) .bytes))
+    × InOrder (p .frame) fs ps
 
 -- the tables of the other list have f frames and h parts, in order
 pub record Lent (f h : ℕ) (t : PartTables) : Type 0 where
@@ -90,7 +94,8 @@ offsetTo f headers g = used (framesOf (take g (headersIn f headers)) [])
 
 -- a part of another list, for checkpoint number at, with its frame's start and its bytes
 abbrev pub heldPiece : declared.Held → ℕ → ℕ → List ℕ → Piece
-heldPiece p at start b = record { at = at; start = start; bytes = b; number = p .number; kind = p .kind; remaining = p .remaining }
+heldPiece p at start b =
+    record { at = at; start = start; bytes = b; number = p .number; kind = p .kind; remaining = p .remaining }
 
 -- a part is added where go holds
 unfoldable pub addedBy : ℕ → Bool → Counts → Piece → PartTables → Held

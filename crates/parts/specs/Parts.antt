@@ -27,7 +27,8 @@ storedIn f h t = record { frames = framesIn f (t .frames) (t .store); parts = pa
 
 -- a part as it is handed over, with its bytes
 abbrev pub pieceIn : Piece → List ℕ → rule.Piece
-pieceIn p b = record { at = p .at; start = p .start; bytes = b; number = p .number; kind = p .kind; remaining = p .remaining }
+pieceIn p b =
+    record { at = p .at; start = p .start; bytes = b; number = p .number; kind = p .kind; remaining = p .remaining }
 
 -- ---- put back
 abbrev pub countsOf : Stored → Counts

@@ -18,17 +18,14 @@ use tables::part_records::write_held;
 use tables::read_header;
 use tables::read_held;
 ghost use mathlib.Core.Path.{_≡_};
-ghost use mathlib.Core.Bool.{Bool, true, false, _||_, _&&_};
-ghost use mathlib.Core.List.{List, _++_};
+ghost use mathlib.Core.Bool.{true, false, _||_};
+ghost use mathlib.Core.List.{List};
 ghost use Prim.Native.Nat.{ℕ, _+_, _-_, _*_, _≤_, _<_};
-ghost use lib.Dec.{eqb, leb, ltb};
+ghost use lib.Dec.{eqb, ltb};
 ghost use lib.ListN.{length, take, drop};
-ghost use lib.Seq.{sets};
-ghost use Rattle.field.specs.Number.{encode};
 ghost use Rattle.rules.specs.Tests.{agrees, lastOr};
 ghost use Rattle.rules.specs.Values.{maxFrame, noHeld, used};
 ghost use Rattle.rules.specs.PartRule.{stores, addPart, addParts};
-ghost use Rattle.rules.specs.File.{unsigned32, kindNumber, encodeHeld};
 ghost use Rattle.tables.specs.Tables.{headersIn, headerAt, framesIn, partsIn};
 ghost use Rattle.parts.specs.Parts.{partTables, storedIn, pieceIn, held, heldFrom};
 ghost use Rattle.parts.specs.Needs.{Ready, Room, joinsIn, placedIn, Puts, putIn, Lent, offsetTo, wanted, heldPiece, addedBy};
@@ -49,7 +46,8 @@ pub struct Piece {
     pub remaining: i32,
 }
 
-// Where a part goes: the frame, how many of its bytes the frame holds, and the frame's length and the count of frames afterwards.
+// Where a part goes: the frame, how many of its bytes the frame holds, and the frame's length and the count of frames
+// afterwards.
 pub struct Placed {
     pub frame: u32,
     pub from: usize,
@@ -95,8 +93,12 @@ fn bytes_agree(store: &[u8], used: usize, len: usize, bytes: &[u8]) -> bool
 
 // Does the part go into the last frame, whose header is last?
 fn joins(c: Counts, last: FrameHeader, p: Piece, bytes: &[u8], store: &[u8], parts: &[u8]) -> bool
-    requires { ⌜ (1 ≤ c .parts) × (c .parts * 24 ≤ length (now parts)) × (last .len ≤ c .used) × (c .used ≤ length (now store)) ⌝ }
-    ensures { λ r. ⌜ r ≡ joinsIn c last (lastOr noHeld (partsIn (c .parts) (now (parts .entry)))) (now (store .entry)) (pieceIn p (now (bytes .entry))) ⌝ }
+    requires { ⌜
+        (1 ≤ c .parts) × (c .parts * 24 ≤ length (now parts)) × (last .len ≤ c .used)
+        × (c .used ≤ length (now store)) ⌝ }
+    ensures { λ r. ⌜
+        r ≡ joinsIn c last (lastOr noHeld (partsIn (c .parts) (now (parts .entry)))) (now (store .entry))
+        (pieceIn p (now (bytes .entry))) ⌝ }
 {
     let h = c.parts as usize;
     let q = read_held(parts, h - 1);
@@ -117,7 +119,9 @@ pub fn stores(
     parts: &[u8],
 ) -> bool
     requires { ⌜ Ready budget c (partTables (now frames) (now store) (now parts)) ⌝ }
-    ensures { λ r. ⌜ r ≡ stores budget (storedIn (c .frames) (c .parts) (partTables (now (frames .entry)) (now (store .entry)) (now (parts .entry)))) (pieceIn p (now (bytes .entry))) ⌝ }
+    ensures { λ r. ⌜
+        r ≡ stores budget (storedIn (c .frames) (c .parts)
+        (partTables (now (frames .entry)) (now (store .entry)) (now (parts .entry)))) (pieceIn p (now (bytes .entry))) ⌝ }
 {
     let n = bytes.len() as u64;
     let free = budget - c.used;
@@ -176,7 +180,10 @@ fn put_part(
     parts: &mut [u8],
 ) -> Counts
     requires { ⌜ Puts c to (length (now bytes)) (partTables (now frames) (now store) (now parts)) ⌝ }
-    ensures { λ r. ⌜ held r (partTables (now (frames .exit)) (now (store .exit)) (now (parts .exit))) ≡ putIn c to (pieceIn p (now (bytes .entry))) (partTables (now (frames .entry)) (now (store .entry)) (now (parts .entry))) ⌝ }
+    ensures { λ r. ⌜
+        held r (partTables (now (frames .exit)) (now (store .exit)) (now (parts .exit)))
+        ≡ putIn c to (pieceIn p (now (bytes .entry)))
+        (partTables (now (frames .entry)) (now (store .entry)) (now (parts .entry))) ⌝ }
 {
     let n = bytes.len();
     let more = n - to.from;
@@ -211,7 +218,11 @@ pub fn add_part(
     parts: &mut [u8],
 ) -> Counts
     requires { ⌜ Room 1 budget c (partTables (now frames) (now store) (now parts)) ⌝ }
-    ensures { λ r. ⌜ held r (partTables (now (frames .exit)) (now (store .exit)) (now (parts .exit))) ≡ heldFrom (addPart budget (storedIn (c .frames) (c .parts) (partTables (now (frames .entry)) (now (store .entry)) (now (parts .entry)))) (pieceIn p (now (bytes .entry)))) (partTables (now (frames .entry)) (now (store .entry)) (now (parts .entry))) ⌝ }
+    ensures { λ r. ⌜
+        held r (partTables (now (frames .exit)) (now (store .exit)) (now (parts .exit)))
+        ≡ heldFrom (addPart budget (storedIn (c .frames) (c .parts)
+        (partTables (now (frames .entry)) (now (store .entry)) (now (parts .entry)))) (pieceIn p (now (bytes .entry))))
+        (partTables (now (frames .entry)) (now (store .entry)) (now (parts .entry))) ⌝ }
 {
     if !stores(budget, c, p, bytes, frames, store, parts) {
         return c;
@@ -225,7 +236,9 @@ pub fn add_part(
 // ---- parts of another list
 // From the frame of s to frame number g, which is the same or the next.
 pub fn source_at(frames: &[u8], f: usize, s: Source, g: u32) -> Source
-    requires { ⌜ (s .offset ≡ offsetTo f (now frames) (s .frame)) × (s .frame ≤ g) × (g ≤ s .frame + 1) × (g < f) × (f * 8 ≤ length (now frames)) × (s .offset < 9223372036854775808) ⌝ }
+    requires { ⌜
+        (s .offset ≡ offsetTo f (now frames) (s .frame)) × (s .frame ≤ g) × (g ≤ s .frame + 1) × (g < f)
+        × (f * 8 ≤ length (now frames)) × (s .offset < 9223372036854775808) ⌝ }
     ensures { λ r. ⌜ (r .frame ≡ g) × (r .offset ≡ offsetTo f (now (frames .entry)) g) ⌝ }
 {
     if g == s.frame {
@@ -238,7 +251,8 @@ pub fn source_at(frames: &[u8], f: usize, s: Source, g: u32) -> Source
     }
 }
 
-// Where go holds, part p of another list for checkpoint number at; its frame starts at start and has its bytes in other from the place from on.
+// Where go holds, part p of another list for checkpoint number at; its frame starts at start and has its bytes in
+// other from the place from on.
 pub fn add_one(
     budget: u64,
     go: bool,
@@ -252,8 +266,13 @@ pub fn add_one(
     store: &mut [u8],
     parts: &mut [u8],
 ) -> Counts
-    requires { ⌜ (go ≡ true → Room 1 budget c (partTables (now frames) (now store) (now parts))) × (from + p .len ≤ length (now other)) ⌝ }
-    ensures { λ r. ⌜ held r (partTables (now (frames .exit)) (now (store .exit)) (now (parts .exit))) ≡ addedBy budget go c (heldPiece p at start (take (p .len) (drop from (now (other .entry))))) (partTables (now (frames .entry)) (now (store .entry)) (now (parts .entry))) ⌝ }
+    requires { ⌜
+        (go ≡ true → Room 1 budget c (partTables (now frames) (now store) (now parts)))
+        × (from + p .len ≤ length (now other)) ⌝ }
+    ensures { λ r. ⌜
+        held r (partTables (now (frames .exit)) (now (store .exit)) (now (parts .exit)))
+        ≡ addedBy budget go c (heldPiece p at start (take (p .len) (drop from (now (other .entry)))))
+        (partTables (now (frames .entry)) (now (store .entry)) (now (parts .entry))) ⌝ }
 {
     if !go {
         return c;
@@ -270,7 +289,8 @@ pub fn add_one(
     add_part(budget, c, piece, &other[from..e], frames, store, parts)
 }
 
-// Of the h parts of another list (theirs, with the frames of headers and their bytes in other) those for checkpoint number n or later, in their order.
+// Of the h parts of another list (theirs, with the frames of headers and their bytes in other) those for checkpoint
+// number n or later, in their order.
 pub fn add_parts(
     budget: u64,
     n: u32,
@@ -284,8 +304,15 @@ pub fn add_parts(
     store: &mut [u8],
     parts: &mut [u8],
 ) -> Counts
-    requires { ⌜ Lent f h (partTables (now headers) (now other) (now theirs)) × Room (wanted n (partsIn h (now theirs))) budget c (partTables (now frames) (now store) (now parts)) ⌝ }
-    ensures { λ r. ⌜ held r (partTables (now (frames .exit)) (now (store .exit)) (now (parts .exit))) ≡ heldFrom (addParts budget (framesIn f (now (headers .entry)) (now (other .entry))) n (partsIn h (now (theirs .entry))) (storedIn (c .frames) (c .parts) (partTables (now (frames .entry)) (now (store .entry)) (now (parts .entry))))) (partTables (now (frames .entry)) (now (store .entry)) (now (parts .entry))) ⌝ }
+    requires { ⌜
+        Lent f h (partTables (now headers) (now other) (now theirs))
+        × Room (wanted n (partsIn h (now theirs))) budget c (partTables (now frames) (now store) (now parts)) ⌝ }
+    ensures { λ r. ⌜
+        held r (partTables (now (frames .exit)) (now (store .exit)) (now (parts .exit)))
+        ≡ heldFrom (addParts budget (framesIn f (now (headers .entry)) (now (other .entry))) n
+        (partsIn h (now (theirs .entry))) (storedIn (c .frames) (c .parts)
+        (partTables (now (frames .entry)) (now (store .entry)) (now (parts .entry)))))
+        (partTables (now (frames .entry)) (now (store .entry)) (now (parts .entry))) ⌝ }
 {
     let mut held = c;
     let mut at = Source {

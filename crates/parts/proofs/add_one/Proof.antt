@@ -30,7 +30,8 @@ returns-2 c =
     let added : tie.After-add-part = search in
     let wanted = wanted-before added in
     let start = begin wanted in
-    added-part _ _ _ (start .args .p) _ _ _ _ _ (toZ-ofZ w32 _ (sized start)) refl (not-false _ (wanted .if1 .left)) (added .add-part .ensures)
+    added-part _ _ _ (start .args .p) _ _ _ _ _ (toZ-ofZ w32 _ (sized start)) refl (not-false _ (wanted .if1 .left))
+    (added .add-part .ensures)
 
 pub add-one-spec : {M : Type 1} → statement M
 add-one-spec =

@@ -12,8 +12,10 @@ returns c =
     let after-slice-known3 : tie.After-slice-known3 = search in
     let after-slice-known : tie.After-slice-known = search in
     let start : tie.Start = search in
-    passed-over (start .pre) (λ i. after-slice-known .slice-known .given i .fits) (λ i. after-slice-known3 .slice-known3 .given i .fits)
-    (pieceIn (start .args .p) (start .args .bytes .now)) (sym (after-stores .stores .ensures) ∙ not-true _ (c .if1 .taken))
+    passed-over (start .pre) (λ i. after-slice-known .slice-known .given i .fits)
+    (λ i. after-slice-known3 .slice-known3 .given i .fits)
+    (pieceIn (start .args .p) (start .args .bytes .now))
+    (sym (after-stores .stores .ensures) ∙ not-true _ (c .if1 .taken))
 
 place-requires : tie.Need-place-requires
 place-requires c κs =
@@ -23,8 +25,10 @@ place-requires c κs =
     let after-slice-known3 : tie.After-slice-known3 = search in
     let after-slice-known : tie.After-slice-known = search in
     let start : tie.Start = search in
-    place-ready (start .pre) (λ i. after-slice-known .slice-known .given i .fits) (λ i. after-slice-known3 .slice-known3 .given i .fits)
-    (pieceIn (start .args .p) (start .args .bytes .now)) (sym (after-stores .stores .ensures) ∙ not-false _ (else1 .if1 .left))
+    place-ready (start .pre) (λ i. after-slice-known .slice-known .given i .fits)
+    (λ i. after-slice-known3 .slice-known3 .given i .fits)
+    (pieceIn (start .args .p) (start .args .bytes .now))
+    (sym (after-stores .stores .ensures) ∙ not-false _ (else1 .if1 .left))
     (after-last-header .last-header .ensures) (c .opens .ensures)
 
 put-part-requires : tie.Need-put-part-requires
@@ -37,8 +41,10 @@ put-part-requires c κs =
     let after-slice-known3 : tie.After-slice-known3 = search in
     let after-slice-known : tie.After-slice-known = search in
     let start : tie.Start = search in
-    puts-ready (start .pre) (λ i. after-slice-known .slice-known .given i .fits) (λ i. after-slice-known3 .slice-known3 .given i .fits)
-    (pieceIn (start .args .p) (start .args .bytes .now)) (sym (after-stores .stores .ensures) ∙ not-false _ (else1 .if1 .left))
+    puts-ready (start .pre) (λ i. after-slice-known .slice-known .given i .fits)
+    (λ i. after-slice-known3 .slice-known3 .given i .fits)
+    (pieceIn (start .args .p) (start .args .bytes .now))
+    (sym (after-stores .stores .ensures) ∙ not-false _ (else1 .if1 .left))
     (after-last-header .last-header .ensures) (after-opens .opens .ensures) (after-place .place .ensures)
 
 returns-2 : tie.Need-returns-2
@@ -53,8 +59,10 @@ returns-2 c =
     let after-slice-known : tie.After-slice-known = search in
     let start : tie.Start = search in
     after-put-part .put-part .ensures
-    ∙ stored-put (start .pre) (λ i. after-slice-known .slice-known .given i .fits) (λ i. after-slice-known3 .slice-known3 .given i .fits)
-    (pieceIn (start .args .p) (start .args .bytes .now)) (sym (after-stores .stores .ensures) ∙ not-false _ (else1 .if1 .left))
+    ∙ stored-put (start .pre) (λ i. after-slice-known .slice-known .given i .fits)
+    (λ i. after-slice-known3 .slice-known3 .given i .fits)
+    (pieceIn (start .args .p) (start .args .bytes .now))
+    (sym (after-stores .stores .ensures) ∙ not-false _ (else1 .if1 .left))
     (after-last-header .last-header .ensures) (after-opens .opens .ensures) (after-place .place .ensures)
 
 pub add-part-spec : {M : Type 1} → statement M

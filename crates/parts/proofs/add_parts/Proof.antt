@@ -6,15 +6,18 @@ use lib.ListN.{length}
 use Rattle.rules.specs.PartRule.{addParts}
 use Rattle.tables.specs.Tables.{framesIn, partsIn}
 use Rattle.parts.specs.Parts.{partTables, storedIn}
-use Rattle.parts.proofs.Adding.{later-parts, Adding, adding-start, source-ready, one-ready, adding-on, adding-end}
+use Rattle.parts.proofs.Adding.{later-parts, Adding, adding-start, source-ready, one-ready, adding-on}
+use Rattle.parts.proofs.Adding.{adding-end}
 use borrow.Author.Needs.{needs}
 use Rattle.parts.proofs.add_parts.Statement.{statement}
 use Rattle.parts.proofs.add_parts.Tie as tie
 
 abbrev Inv-loop : tie.InvT-loop
 Inv-loop budget n f h headers other theirs frames₀ store₀ parts₀ held₀ at₀ j₀ frames store parts held at j =
-    Adding budget f h (partTables headers other theirs) (partTables frames₀ store₀ parts₀) (later-parts budget n (framesIn f headers other))
-    (addParts budget (framesIn f headers other) n (partsIn h theirs) (storedIn (held₀ .frames) (held₀ .parts) (partTables frames₀ store₀ parts₀))) j at held
+    Adding budget f h (partTables headers other theirs) (partTables frames₀ store₀ parts₀)
+    (later-parts budget n (framesIn f headers other))
+    (addParts budget (framesIn f headers other) n (partsIn h theirs)
+    (storedIn (held₀ .frames) (held₀ .parts) (partTables frames₀ store₀ parts₀))) j at held
     (partTables frames store parts)
     × (length frames ≡ length frames₀) × (length store ≡ length store₀) × (length parts ≡ length parts₀)
 
@@ -42,7 +45,8 @@ source-at-requires c κs =
     let in-loop : tie.In-loop Inv-loop μ-loop = search in
     let at-loop : tie.At-loop Inv-loop μ-loop = search in
     let start : tie.Start Inv-loop μ-loop = search in
-    source-ready _ _ _ _ _ _ (start .pre .0) (at-loop .loop .inv .0) (in-loop .loop-test .taken) (c .read-held .ensures)) in
+    source-ready _ _ _ _ _ _ (start .pre .0) (at-loop .loop .inv .0) (in-loop .loop-test .taken)
+    (c .read-held .ensures)) in
     (s .0, s .1, s .2, s .3, s .4, (let z = s .5 in omega arith))
 
 read-header-requires : tie.Need-read-header-requires Inv-loop μ-loop
@@ -51,7 +55,8 @@ read-header-requires c κs =
     let in-loop : tie.In-loop Inv-loop μ-loop = search in
     let at-loop : tie.At-loop Inv-loop μ-loop = search in
     let start = begin at-loop in
-    let s = source-ready _ _ _ _ _ _ (start .pre .0) (at-loop .loop .inv .0) (in-loop .loop-test .taken) (after-read-held .read-held .ensures) in
+    let s = source-ready _ _ _ _ _ _ (start .pre .0) (at-loop .loop .inv .0) (in-loop .loop-test .taken)
+    (after-read-held .read-held .ensures) in
     let a = s .3 in let b = s .4 in omega arith
 
 add-one-requires : tie.Need-add-one-requires Inv-loop μ-loop
@@ -63,8 +68,10 @@ add-one-requires c κs =
     let at-loop : tie.At-loop Inv-loop μ-loop = search in
     let start = begin at-loop in
     let asked : tie.After-passed-over Inv-loop μ-loop = search in
-    one-ready _ _ _ _ _ _ (start .pre .0) (at-loop .loop .inv .0) (in-loop .loop-test .taken) (after-read-held .read-held .ensures)
-    (after-source-at .source-at .ensures) (after-read-header .read-header .ensures) (ap not (asked .passed-over .ensures))
+    one-ready _ _ _ _ _ _ (start .pre .0) (at-loop .loop .inv .0) (in-loop .loop-test .taken)
+    (after-read-held .read-held .ensures)
+    (after-source-at .source-at .ensures) (after-read-header .read-header .ensures)
+    (ap not (asked .passed-over .ensures))
 
 add-j : tie.Need-add-j Inv-loop μ-loop
 add-j c =
@@ -85,9 +92,12 @@ loop-again c = (
       let after-shared-slice-known3 : tie.After-shared-slice-known3 Inv-loop μ-loop = search in
       let after-shared-slice-known : tie.After-shared-slice-known Inv-loop μ-loop = search in
       let start = begin at-loop in
-      adding-on _ _ _ _ _ _ (start .pre .0) (at-loop .loop .inv .0) (in-loop .loop-test .taken) (after-read-held .read-held .ensures)
-      (after-source-at .source-at .ensures) (after-read-header .read-header .ensures) (ap not (asked .passed-over .ensures)) (after-add-one .add-one .ensures)
-      (λ i. after-shared-slice-known .shared-slice-known .given i .fits) (λ i. after-shared-slice-known3 .shared-slice-known3 .given i .fits),
+      adding-on _ _ _ _ _ _ (start .pre .0) (at-loop .loop .inv .0) (in-loop .loop-test .taken)
+      (after-read-held .read-held .ensures)
+      (after-source-at .source-at .ensures) (after-read-header .read-header .ensures)
+      (ap not (asked .passed-over .ensures)) (after-add-one .add-one .ensures)
+      (λ i. after-shared-slice-known .shared-slice-known .given i .fits)
+      (λ i. after-shared-slice-known3 .shared-slice-known3 .given i .fits),
   search needs,
   search needs,
   search needs,

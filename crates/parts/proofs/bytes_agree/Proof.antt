@@ -5,7 +5,11 @@ use Rattle.parts.proofs.bytes_agree.Statement.{statement}
 use Rattle.parts.proofs.bytes_agree.Tie as tie
 
 returns : tie.Need-returns
-returns c = c .same .ensures ∙ agree-by _ _ _ _ _ _ _ (c .before .before .before .before .before .before .pre .0) (c .before .before .before .before .before .before .pre .1) (c .before .before .before .min-u64 .ensures) refl refl
+returns c =
+    let after-min-u64 : tie.After-min-u64 = search in
+    let start : tie.Start = search in
+    c .same .ensures ∙ agree-by _ _ _ _ _ _ _ (start .pre .0) (start .pre .1) (after-min-u64 .min-u64 .ensures) refl
+    refl
 
 pub bytes-agree-spec : {M : Type 1} → statement M
 bytes-agree-spec =

@@ -21,4 +21,5 @@ returns-3 c = placed-shorter _ _ _ (c .before .if1 .left) (c .if2 .left)
 
 pub place-spec : {M : Type 1} → statement M
 place-spec =
-    tie.close (tie.spec (λ c. search needs) (λ c. search needs) returns sub-t9 (λ c. search needs) returns-2 sub-t12 returns-3)
+    tie.close (tie.spec (λ c. search needs) (λ c. search needs) returns sub-t9 (λ c. search needs) returns-2 sub-t12
+    returns-3)

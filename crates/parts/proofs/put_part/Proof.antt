@@ -20,7 +20,8 @@ returns c =
     let copied : tie.After-copy-part = search in
     let header : tie.After-write-header = search in
     let start = begin header in
-    put-is (pieceIn (start .args .p) (start .args .bytes .now)) (start .pre) (header .write-header .ensures) (copied .copy-part .ensures)
+    put-is (pieceIn (start .args .p) (start .args .bytes .now)) (start .pre) (header .write-header .ensures)
+    (copied .copy-part .ensures)
     (rw (toZ-ofZ w32 _ (sized start)) at (held .write-held .ensures))
 
 pub put-part-spec : {M : Type 1} → statement M

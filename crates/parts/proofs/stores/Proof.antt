@@ -20,7 +20,8 @@ returns-2 c =
     let after-opens : tie.After-opens = search in
     let after-last-header : tie.After-last-header = search in
     let start = begin after-last-header in
-    opens-in (start .pre) (after-last-header .last-header .ensures) _ (after-opens .opens .ensures) (else1 .if1 .left) (c .if2 .taken)
+    opens-in (start .pre) (after-last-header .last-header .ensures) _ (after-opens .opens .ensures) (else1 .if1 .left)
+    (c .if2 .taken)
 
 returns-3 : tie.Need-returns-3
 returns-3 c =
@@ -29,7 +30,8 @@ returns-3 c =
     let after-opens : tie.After-opens = search in
     let after-last-header : tie.After-last-header = search in
     let start = begin after-last-header in
-    full-out (start .pre) (after-last-header .last-header .ensures) _ (after-opens .opens .ensures) (else1 .if1 .left) (else2 .if2 .left)
+    full-out (start .pre) (after-last-header .last-header .ensures) _ (after-opens .opens .ensures) (else1 .if1 .left)
+    (else2 .if2 .left)
     (c .if3 .taken)
 
 joins-requires : tie.Need-joins-requires
@@ -38,7 +40,8 @@ joins-requires c κs =
     let after-opens : tie.After-opens = search in
     let after-last-header : tie.After-last-header = search in
     let start = begin after-last-header in
-    let l = last-inside (start .pre) (after-last-header .last-header .ensures) _ (after-opens .opens .ensures) (else2 .if2 .left) in
+    let l = last-inside (start .pre) (after-last-header .last-header .ensures) _ (after-opens .opens .ensures)
+    (else2 .if2 .left) in
     (l .0, search needs, l .1, search needs)
 
 returns-4 : tie.Need-returns-4
@@ -50,7 +53,8 @@ returns-4 c =
     let after-last-header : tie.After-last-header = search in
     let start = begin after-last-header in
     c .joins .ensures
-    ∙ joins-in (start .pre) (after-last-header .last-header .ensures) _ (after-opens .opens .ensures) (else1 .if1 .left) (else2 .if2 .left)
+    ∙ joins-in (start .pre) (after-last-header .last-header .ensures) _ (after-opens .opens .ensures) (else1 .if1 .left)
+    (else2 .if2 .left)
     (else3 .if3 .left)
 
 pub stores-spec : {M : Type 1} → statement M

@@ -1,5 +1,4 @@
 use mathlib.Core.Path.{refl}
-use borrow.Author.Needs.{needs}
 use Rattle.parts.proofs.admits.passed_over.Statement.{statement}
 use Rattle.parts.proofs.admits.passed_over.Tie as tie
 
