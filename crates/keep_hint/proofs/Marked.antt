@@ -1,7 +1,7 @@
 -- keep_hint: its questions, and what it leaves. Assumes nothing.
-use mathlib.Core.Path.{_≡_, refl, sym, ap, _∙_}
-use mathlib.Core.Bool.{Bool, true, false, not, cond, _&&_}
-use mathlib.Core.List.{List, [], _∷_, _++_}
+use mathlib.Core.Path.{_≡_, refl, sym, _∙_}
+use mathlib.Core.Bool.{Bool, true, false, not}
+use mathlib.Core.List.{List, [], _∷_}
 use Prim.Native.Nat.{ℕ, _+_, _-_, _*_, _<_, _≤_}
 use native.Mathlib.Omega.{arith}
 use borrow.Author.Tests.{ltb-true, ne-eqb, eq-eqb, not-true, not-false}
@@ -22,12 +22,12 @@ use Rattle.rules.proofs.Tests.{and-left}
 use Rattle.tables.specs.Tables.{encodeKept, decodeKept, keptIn}
 use Rattle.tables.proofs.Kept.{KeptFits, kept-layout}
 use Rattle.index.specs.declared.Made.the-variants as made
-use Rattle.index.specs.Index.{Tables, tables, indexIn, roomOf, kindsIn, kinded, refusal, numbersFrom, outOf, out}
+use Rattle.index.specs.Index.{Tables, indexIn, roomOf, kindsIn, kinded, refusal, numbersFrom, outOf, out}
 use Rattle.index.specs.Needs.{Passes}
 use Rattle.index.specs.Lent.{TableBytes}
 use Rattle.index.proofs.Four.{Later, kinded-index}
 use Rattle.index.proofs.Questions.{passes, passes-hints}
-use Rattle.index.proofs.Lent.{put-back}
+use Rattle.index.proofs.Left.{withHintTable, hints-left}
 use Rattle.index.proofs.Back.{numbers-back}
 use Rattle.keep_hint.specs.Keep.{mayKeep, keepHintIn}
 
@@ -41,7 +41,8 @@ module _ (n i : ℕ) (t : List ℕ) (b : Bytes t) (l : n * 8 ≤ length t) (h : 
   marked-fits = let f = record-fits kept-layout t i b in (f .0, (f .1 .0, (omega arith, tt)))
 
   -- the list with the mark, put into its table, is the record written
-  pub marked-over : over (bytesOf encodeKept (set (keptIn n t) i (keptHint (getD (keptIn n t) i noHint)))) t ≡ sets t (i * 8) (encodeKept (keptHint (recordAt 8 decodeKept t i)))
+  pub marked-over : over (bytesOf encodeKept (set (keptIn n t) i (keptHint (getD (keptIn n t) i noHint)))) t
+      ≡ sets t (i * 8) (encodeKept (keptHint (recordAt 8 decodeKept t i)))
   unfolding marked
   marked-over =
       let v = keptHint (recordAt 8 decodeKept t i) in
@@ -50,12 +51,15 @@ module _ (n i : ℕ) (t : List ℕ) (b : Bytes t) (l : n * 8 ≤ length t) (h : 
       let long : length u ≡ length t = length-sets t (i * 8) (encodeKept v) in
       let within : n * 8 ≤ length u = omega arith in
       let put : keptIn n u ≡ set (keptIn n t) i v = records-put kept-layout n i t v marked-fits h l in
-      let back : bytesOf encodeKept (keptIn n u) ≡ take (n * 8) u = bytes-records kept-layout n u (bytes-sets (encodeKept v) t (i * 8) b (kept-layout .byte v)) within in
+      let back : bytesOf encodeKept (keptIn n u)
+      ≡ take (n * 8) u = bytes-records kept-layout n u (bytes-sets (encodeKept v) t (i * 8) b (kept-layout .byte v))
+      within in
       let k = n * 8 - (i * 8 + 8) in
       let e : n * 8 ≡ i * 8 + 8 + k = omega arith in
       let rest : drop (n * 8) u ≡ drop (n * 8) t =
       rw (e, ← drop-drop k (i * 8 + 8) u, ← drop-drop k (i * 8 + 8) t, rest-pushed kept-layout i t v room) in
-      rw (records-at 8 decodeKept n t i noHint h, ← put, back, length-take-le (n * 8) u within, ← rest) (take-append-drop (n * 8) u)
+      rw (records-at 8 decodeKept n t i noHint h, ← put, back, length-take-le (n * 8) u within, ← rest)
+      (take-append-drop (n * 8) u)
 
 -- ---- the answers
 module _ (x : AreaIndex) (t : Tables) (lsn : ℕ) {n : ℕ} (e : n ≡ refusal x t) where
@@ -64,7 +68,8 @@ module _ (x : AreaIndex) (t : Tables) (lsn : ℕ) {n : ℕ} (e : n ≡ refusal x
   later = refl
 
   keep-is : kinded (kindsIn x t) (keepHint (roomOf t) (indexIn x t) lsn)
-      ≡ after n (after (firstNo (ask (question53 (indexIn x t .hinting) lsn) 53 ∷ [])) (Accepted (withHinting (indexIn x t) (withMark (indexIn x t .hinting) lsn))))
+      ≡ after n (after (firstNo (ask (question53 (indexIn x t .hinting) lsn) 53 ∷ []))
+      (Accepted (withHinting (indexIn x t) (withMark (indexIn x t .hinting) lsn))))
   unfolding keepHint
   keep-is = kinded-index x t (ask (question53 (indexIn x t .hinting) lsn) 53 ∷ []) later e _
 
@@ -77,7 +82,8 @@ module _ (x : AreaIndex) (t : Tables) (lsn : ℕ) {n : ℕ} (e : n ≡ refusal x
   unfolding withMark
   numbers-stay = rw length-set (numbers-back x t)
 
-  module _ (z : n ≡ 0) {i : ℕ} (p : i ≡ placeOf lsn (keptIn (x .hints) (t .hints))) {q : Bool} (g : q ≡ mayKeep (x .most) (keptIn (x .hints) (t .hints)) i) where
+  module _ (z : n ≡ 0) {i : ℕ} (p : i ≡ placeOf lsn (keptIn (x .hints) (t .hints))) {q : Bool}
+      (g : q ≡ mayKeep (x .most) (keptIn (x .hints) (t .hints)) i) where
     asked : q ≡ question53 (indexIn x t .hinting) lsn
     unfolding question53 mayKeep
     asked = g ∙ rw p
@@ -94,16 +100,17 @@ module _ (x : AreaIndex) (t : Tables) (lsn : ℕ) {n : ℕ} (e : n ≡ refusal x
         omega (arith, records-length 8 decodeKept (x .hints) (t .hints))
 
     hints-are : Passes x t → not q ≡ false → TableBytes t
-        → over (bytesOf encodeKept (withMark (indexIn x t .hinting) lsn .hints)) (t .hints) ≡ sets (t .hints) (i * 8) (encodeKept (keptHint (recordAt 8 decodeKept (t .hints) i)))
+        → over (bytesOf encodeKept (withMark (indexIn x t .hinting) lsn .hints)) (t .hints)
+        ≡ sets (t .hints) (i * 8) (encodeKept (keptHint (recordAt 8 decodeKept (t .hints) i)))
     unfolding withMark
     hints-are k h b = rw (← p) (marked-over (x .hints) i (t .hints) (b .hints) (passes-hints k .hints) (place-within h))
 
-    pub keep-yes : {hs : List ℕ} → not q ≡ false → TableBytes t → hs ≡ sets (t .hints) (i * 8) (encodeKept (keptHint (recordAt 8 decodeKept (t .hints) i)))
-        → out (made.Index x) (tables (t .checkpoints) (t .frames) (t .store) (t .parts) (t .malformed) hs (t .confirmed)) ≡ keepHintIn x t lsn
+    pub keep-yes : {hs : List ℕ} → not q ≡ false → TableBytes t
+        → hs ≡ sets (t .hints) (i * 8) (encodeKept (keptHint (recordAt 8 decodeKept (t .hints) i)))
+        → out (made.Index x) (withHintTable t hs) ≡ keepHintIn x t lsn
     unfolding keepHintIn outOf after firstNo bytesOf withMark
     keep-yes {hs} h b d =
         let k = passes x t (sym e ∙ z) in
-        let same = put-back k b in
         sym (rw (
           keep-is,
           eq-eqb n 0 z,
@@ -111,10 +118,5 @@ module _ (x : AreaIndex) (t : Tables) (lsn : ℕ) {n : ℕ} (e : n ≡ refusal x
           not-false q h,
           numbers-stay,
           hints-are k h b ∙ sym d,
-          ap (λ (y : Tables). y .checkpoints) same,
-          ap (λ (y : Tables). y .frames) same,
-          ap (λ (y : Tables). y .store) same,
-          ap (λ (y : Tables). y .parts) same,
-          ap (λ (y : Tables). y .malformed) same,
-          ap (λ (y : Tables). y .confirmed) same,
+          hints-left k b hs,
         ))

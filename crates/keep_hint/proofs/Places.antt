@@ -1,13 +1,12 @@
 -- The place of an LSN, and how many hints are kept, over the rest of a list. Assumes nothing.
-use mathlib.Core.Path.{_≡_, refl, sym, ap, _∙_}
-use mathlib.Core.Bool.{Bool, true, false, _&&_, _||_, cond}
+use mathlib.Core.Path.{_≡_, sym, _∙_}
+use mathlib.Core.Bool.{Bool, false, _||_, cond}
 use mathlib.Core.List.{List, [], _∷_}
-use Prim.Native.Nat.{ℕ, suc, _+_, _/_, _<_, _≤_}
-use native.Mathlib.Nat.{add-zero, zero-add, add-assoc}
+use Prim.Native.Nat.{ℕ, _+_, _/_, _<_, _≤_}
+use native.Mathlib.Nat.{zero-add, add-assoc}
 use native.Mathlib.Omega.{arith}
 use borrow.Author.Tests.{eq-eqb, ne-eqb, lt-ltb, le-ltb}
 use lib.Dec.{ltb}
-use lib.ListN.{length, getD}
 use Rattle.field.specs.Records.{recordAt}
 use Rattle.field.proofs.Records.{records-length, records-at}
 use Rattle.rules.specs.declared.Hint.{Hint}
@@ -28,7 +27,8 @@ pub place-here : (lsn j : ℕ) (h : Hint) (hs : List Hint) → h .lsn ≡ lsn �
 unfolding placeOf
 place-here lsn j h hs e = rw (eq-eqb (h .lsn) lsn e) (omega arith)
 
-pub place-on : (lsn j : ℕ) (h : Hint) (hs : List Hint) → (h .lsn ≡ lsn → ⊥) → placeFrom lsn j (h ∷ hs) ≡ placeFrom lsn (j + 1) hs
+pub place-on : (lsn j : ℕ) (h : Hint) (hs : List Hint) → (h .lsn ≡ lsn → ⊥)
+    → placeFrom lsn j (h ∷ hs) ≡ placeFrom lsn (j + 1) hs
 unfolding placeOf
 place-on lsn j h hs e = rw (ne-eqb (h .lsn) lsn e) (omega arith)
 
@@ -43,7 +43,8 @@ countFrom kept hs = kept + keptCount hs
 pub count-start : (hs : List Hint) → countFrom 0 hs ≡ keptCount hs
 count-start hs = zero-add (keptCount hs)
 
-pub count-on : {b : Bool} {k : ℕ} (kept : ℕ) (h : Hint) (hs : List Hint) → b ≡ isKept h → k ≡ cond b 1 0 → countFrom kept (h ∷ hs) ≡ countFrom (kept + k) hs
+pub count-on : {b : Bool} {k : ℕ} (kept : ℕ) (h : Hint) (hs : List Hint) → b ≡ isKept h → k ≡ cond b 1 0
+    → countFrom kept (h ∷ hs) ≡ countFrom (kept + k) hs
 unfolding keptCount
 count-on kept h hs e f = rw (f, e) (sym (add-assoc kept (cond (isKept h) 1 0) (keptCount hs)))
 
@@ -57,7 +58,18 @@ module _ (most n : ℕ) (t : List ℕ) (i : ℕ) where
   unfolding mayKeep
   may-not l = sym (rw (records-length 8 decodeKept n t, le-ltb i n l))
 
-  pub may-be : {h : Hint} {a b r : Bool} {k : ℕ} → i < n → h ≡ recordAt 8 decodeKept t i → a ≡ isKept h → k ≡ keptCount (keptIn n t) → b ≡ ltb k (most / 4)
+  pub may-be : {h : Hint} {a b r : Bool} {k : ℕ} → i < n → h ≡ recordAt 8 decodeKept t i → a ≡ isKept h
+      → k ≡ keptCount (keptIn n t) → b ≡ ltb k (most / 4)
       → r ≡ (a || b) → r ≡ mayKeep most (keptIn n t) i
   unfolding mayKeep
-  may-be l e f g m q = q ∙ sym (rw (records-length 8 decodeKept n t, lt-ltb i n l, records-at 8 decodeKept n t i noHint l, ← e, ← f, ← g, ← m))
+  may-be l e f g m q =
+      q
+      ∙ sym (rw (
+        records-length 8 decodeKept n t,
+        lt-ltb i n l,
+        records-at 8 decodeKept n t i noHint l,
+        ← e,
+        ← f,
+        ← g,
+        ← m,
+      ))

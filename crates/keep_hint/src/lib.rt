@@ -76,7 +76,9 @@ fn question53(hints: &[u8], n: usize, place: usize, most: u32) -> bool
 // The mark of hint number j set.
 fn set_mark(hints: &mut [u8], j: usize)
     requires { ⌜ j * 8 + 8 ≤ length (now hints) ⌝ }
-    ensures { λ _. ⌜ now (hints .exit) ≡ sets (now (hints .entry)) (j * 8) (encodeKept (keptHint (recordAt 8 decodeKept (now (hints .entry)) j))) ⌝ }
+    ensures { λ _. ⌜
+        now (hints .exit) ≡ sets (now (hints .entry)) (j * 8)
+        (encodeKept (keptHint (recordAt 8 decodeKept (now (hints .entry)) j))) ⌝ }
 {
     let mut h = read_hint(hints, j);
     h.mark = 1;
@@ -95,7 +97,11 @@ pub fn keep_hint(
     hints: &mut [u8],
     confirmed: &[u8],
 ) -> Made
-    ensures { λ r. ⌜ out r (tables (now (checkpoints .entry)) (now (frames .entry)) (now (store .entry)) (now (parts .entry)) (now (malformed .entry)) (now (hints .exit)) (now (confirmed .entry))) ≡ keepHintIn x (tables (now (checkpoints .entry)) (now (frames .entry)) (now (store .entry)) (now (parts .entry)) (now (malformed .entry)) (now (hints .entry)) (now (confirmed .entry))) lsn ⌝ }
+    ensures { λ r. ⌜
+        out r (tables (now (checkpoints .entry)) (now (frames .entry)) (now (store .entry)) (now (parts .entry))
+        (now (malformed .entry)) (now (hints .exit)) (now (confirmed .entry)))
+        ≡ keepHintIn x (tables (now (checkpoints .entry)) (now (frames .entry)) (now (store .entry))
+        (now (parts .entry)) (now (malformed .entry)) (now (hints .entry)) (now (confirmed .entry))) lsn ⌝ }
 {
     let number = refuses(
         x,

@@ -1,41 +1,59 @@
 use mathlib.Core.Path.{sym, _∙_}
 use native.Mathlib.Omega.{arith}
-use Rattle.index.specs.Index.{Tables, tables}
-use Rattle.index.specs.Lent.{TableBytes}
 use Rattle.index.proofs.Questions.{passes, passes-hints}
 use Rattle.keep_hint.proofs.Marked.{keep-no, keep-53, keep-yes, place-within}
 use borrow.Author.Needs.{needs}
 use Rattle.keep_hint.proofs.keep_hint.Statement.{statement}
 use Rattle.keep_hint.proofs.keep_hint.Tie as tie
 
--- the steps, the last first
-abbrev may-before : tie.After-set-mark → tie.Else2
-may-before p = search
+returns : tie.Need-returns
+returns c =
+    let refused : tie.After-refuses = search in
+    keep-no _ _ _ (refused .refuses .ensures) (c .if1 .taken)
 
-abbrev asked-before : tie.Else2 → tie.After-question53
-asked-before p = search
+place-of-requires : tie.Need-place-of-requires
+place-of-requires c κs =
+    let passed : tie.Else1 = search in
+    let refused : tie.After-refuses = search in
+    passes-hints (passes _ _ (sym (refused .refuses .ensures) ∙ passed .if1 .left)) .hints
 
-abbrev placed-before : tie.After-question53 → tie.After-place-of
-placed-before p = search
+question53-requires : tie.Need-question53-requires
+question53-requires c κs =
+    let passed : tie.Else1 = search in
+    let refused : tie.After-refuses = search in
+    passes-hints (passes _ _ (sym (refused .refuses .ensures) ∙ passed .if1 .left)) .hints
 
-abbrev passed-before : tie.After-place-of → tie.Else1
-passed-before p = search
+returns-2 : tie.Need-returns-2
+returns-2 c =
+    let asked : tie.After-question53 = search in
+    let placed : tie.After-place-of = search in
+    let passed : tie.Else1 = search in
+    let refused : tie.After-refuses = search in
+    keep-53 _ _ _ (refused .refuses .ensures) (passed .if1 .left) (placed .place-of .ensures)
+    (asked .question53 .ensures)
+    (c .if2 .taken)
 
-abbrev refused-before : tie.Else1 → tie.After-refuses
-refused-before p = search
+set-mark-requires : tie.Need-set-mark-requires
+set-mark-requires c κs =
+    let may : tie.Else2 = search in
+    let asked : tie.After-question53 = search in
+    let placed : tie.After-place-of = search in
+    let passed : tie.Else1 = search in
+    let refused : tie.After-refuses = search in
+    let l = place-within _ _ _ (refused .refuses .ensures) (passed .if1 .left) (placed .place-of .ensures)
+    (asked .question53 .ensures)
+    (may .if2 .left) in
+    let r = passes-hints (passes _ _ (sym (refused .refuses .ensures) ∙ passed .if1 .left)) .hints in
+    omega arith
 
-abbrev begin : tie.After-refuses → tie.Start
-begin p = search
-
--- the tables as they were lent
-abbrev tables-of : tie.Start → Tables
-tables-of p =
-    let a = p .args in
-    tables (a .checkpoints .now) (a .frames .now) (a .store .now) (a .parts .now) (a .malformed .now) (a .hints .now) (a .confirmed .now)
-
--- they hold bytes
-bytes-of : (p : tie.After-refuses) → TableBytes (tables-of (begin p))
-bytes-of p =
+returns-3 : tie.Need-returns-3
+returns-3 c =
+    let marked : tie.After-set-mark = search in
+    let may : tie.Else2 = search in
+    let asked : tie.After-question53 = search in
+    let placed : tie.After-place-of = search in
+    let passed : tie.Else1 = search in
+    let refused : tie.After-refuses = search in
     let confirmed : tie.After-shared-slice-known6 = search in
     let hints : tie.After-slice-known = search in
     let malformed : tie.After-shared-slice-known5 = search in
@@ -43,7 +61,10 @@ bytes-of p =
     let store : tie.After-shared-slice-known3 = search in
     let frames : tie.After-shared-slice-known2 = search in
     let checkpoints : tie.After-shared-slice-known = search in
-    record {
+    keep-yes _ _ _ (refused .refuses .ensures) (passed .if1 .left) (placed .place-of .ensures)
+    (asked .question53 .ensures)
+    (may .if2 .left)
+    (record {
       checkpoints = λ i. checkpoints .shared-slice-known .given i .fits;
       frames = λ i. frames .shared-slice-known2 .given i .fits;
       store = λ i. store .shared-slice-known3 .given i .fits;
@@ -51,59 +72,7 @@ bytes-of p =
       malformed = λ i. malformed .shared-slice-known5 .given i .fits;
       hints = λ i. hints .slice-known .given i .fits;
       confirmed = λ i. confirmed .shared-slice-known6 .given i .fits;
-    }
-
-returns : tie.Need-returns
-returns c =
-    let refused : tie.After-refuses = search in
-    let a = begin refused .args in
-    keep-no (a .x) (tables-of (begin refused)) (a .lsn) (refused .refuses .ensures) (c .if1 .taken)
-
-place-of-requires : tie.Need-place-of-requires
-place-of-requires c κs =
-    let passed : tie.Else1 = search in
-    let refused = refused-before passed in
-    passes-hints (passes (begin refused .args .x) (tables-of (begin refused)) (sym (refused .refuses .ensures) ∙ passed .if1 .left)) .hints
-
-question53-requires : tie.Need-question53-requires
-question53-requires c κs =
-    let placed : tie.After-place-of = search in
-    let passed = passed-before placed in
-    let refused = refused-before passed in
-    passes-hints (passes (begin refused .args .x) (tables-of (begin refused)) (sym (refused .refuses .ensures) ∙ passed .if1 .left)) .hints
-
-returns-2 : tie.Need-returns-2
-returns-2 c =
-    let asked : tie.After-question53 = search in
-    let placed = placed-before asked in
-    let passed = passed-before placed in
-    let refused = refused-before passed in
-    let a = begin refused .args in
-    keep-53 (a .x) (tables-of (begin refused)) (a .lsn) (refused .refuses .ensures) (passed .if1 .left) (placed .place-of .ensures) (asked .question53 .ensures) (c .if2 .taken)
-
-set-mark-requires : tie.Need-set-mark-requires
-set-mark-requires c κs =
-    let may : tie.Else2 = search in
-    let asked = asked-before may in
-    let placed = placed-before asked in
-    let passed = passed-before placed in
-    let refused = refused-before passed in
-    let a = begin refused .args in
-    let l = place-within (a .x) (tables-of (begin refused)) (a .lsn) (refused .refuses .ensures) (passed .if1 .left) (placed .place-of .ensures) (asked .question53 .ensures) (may .if2 .left) in
-    let r = passes-hints (passes (a .x) (tables-of (begin refused)) (sym (refused .refuses .ensures) ∙ passed .if1 .left)) .hints in
-    omega arith
-
-returns-3 : tie.Need-returns-3
-returns-3 c =
-    let done : tie.After-set-mark = search in
-    let may = may-before done in
-    let asked = asked-before may in
-    let placed = placed-before asked in
-    let passed = passed-before placed in
-    let refused = refused-before passed in
-    let a = begin refused .args in
-    keep-yes (a .x) (tables-of (begin refused)) (a .lsn) (refused .refuses .ensures) (passed .if1 .left) (placed .place-of .ensures) (asked .question53 .ensures) (may .if2 .left)
-    (bytes-of refused) (done .set-mark .ensures)
+    }) (marked .set-mark .ensures)
 
 pub keep-hint-spec : {M : Type 1} → statement M
 keep-hint-spec =

@@ -10,7 +10,8 @@ use Rattle.keep_hint.proofs.kept_count.Statement.{statement}
 use Rattle.keep_hint.proofs.kept_count.Tie as tie
 
 abbrev Inv-loop : tie.InvT-loop
-Inv-loop hints n kept₀ j₀ kept j = (kept ≤ j) × Rest 8 decodeKept n hints (countFrom kept) (keptCount (keptIn n hints)) j
+Inv-loop hints n kept₀ j₀ kept j =
+    (kept ≤ j) × Rest 8 decodeKept n hints (countFrom kept) (keptCount (keptIn n hints)) j
 
 abbrev μ-loop : tie.MeasureT-loop
 μ-loop hints n kept₀ j₀ kept j = n - j
@@ -26,7 +27,8 @@ loop-again c =
     let held : tie.After-is-kept Inv-loop μ-loop = search in
     let one : tie.After-one-if Inv-loop μ-loop = search in (
       omega (arith, head .loop .inv .0, one .one-if .ensures .1),
-      rest-on (head .loop .inv .1) _ (turn .loop-test .taken) (read .read-hint .ensures) (λ hs. count-on _ _ hs (held .is-kept .ensures) (one .one-if .ensures .0)),
+      rest-on (head .loop .inv .1) _ (turn .loop-test .taken) (read .read-hint .ensures)
+          (λ hs. count-on _ _ hs (held .is-kept .ensures) (one .one-if .ensures .0)),
     )
 
 returns : tie.Need-returns Inv-loop μ-loop

@@ -1,6 +1,6 @@
 use Prim.Native.Nat.{_-_}
 use native.Mathlib.Omega.{arith}
-use mathlib.Core.Path.{sym, _∙_}
+use mathlib.Core.Path.{_∙_}
 use Rattle.rules.specs.Hints.{placeOf}
 use Rattle.tables.specs.Tables.{decodeKept, keptIn}
 use Rattle.tables.proofs.Rest.{Rest, rest-start, rest-on, rest-stop, rest-end}
@@ -23,7 +23,8 @@ returns c =
     let head : tie.At-loop Inv-loop μ-loop = search in
     let turn : tie.In-loop Inv-loop μ-loop = search in
     let read : tie.After-read-hint Inv-loop μ-loop = search in
-    rest-stop (head .loop .inv) (turn .loop-test .taken) (read .read-hint .ensures) (λ hs. place-here _ _ _ hs (c .if1 .taken))
+    rest-stop (head .loop .inv) (turn .loop-test .taken) (read .read-hint .ensures)
+    (λ hs. place-here _ _ _ hs (c .if1 .taken))
 
 loop-again : tie.Need-loop-again Inv-loop μ-loop
 loop-again c =
@@ -31,7 +32,8 @@ loop-again c =
     let turn : tie.In-loop Inv-loop μ-loop = search in
     let read : tie.After-read-hint Inv-loop μ-loop = search in
     let other : tie.Else1 Inv-loop μ-loop = search in
-    rest-on (head .loop .inv) _ (turn .loop-test .taken) (read .read-hint .ensures) (λ hs. place-on _ _ _ hs (other .if1 .left))
+    rest-on (head .loop .inv) _ (turn .loop-test .taken) (read .read-hint .ensures)
+    (λ hs. place-on _ _ _ hs (other .if1 .left))
 
 returns-2 : tie.Need-returns-2 Inv-loop μ-loop
 returns-2 c =

@@ -13,7 +13,8 @@ returns-2 c =
     let read : tie.After-read-hint = search in
     let held : tie.After-is-kept = search in
     let count : tie.After-kept-count = search in
-    may-be _ _ _ _ (inside .if1 .left) (read .read-hint .ensures) (held .is-kept .ensures) (count .kept-count .ensures) refl (c .or .ensures)
+    may-be _ _ _ _ (inside .if1 .left) (read .read-hint .ensures) (held .is-kept .ensures) (count .kept-count .ensures)
+    refl (c .or .ensures)
 
 pub question53-spec : {M : Type 1} → statement M
 question53-spec =
