@@ -5,7 +5,7 @@ use mathlib.Core.List.{List, [], _∷_}
 use Prim.Native.Nat.{ℕ, zero, suc}
 use native.Mathlib.Omega.{arith}
 use lib.Dec.{ltb}
-use lib.ListN.{take, drop}
+use lib.ListN.{drop}
 use Rattle.field.specs.Records.{records, recordAt, Bytes}
 use Rattle.field.proofs.Format.{Each, record-fits, records-fit}
 use Rattle.rules.specs.declared.Area.{Area}
@@ -38,13 +38,17 @@ pub unkept-fit : (n : ℕ) (t : List ℕ) → Bytes t → Each KeptFits (unkeptI
 unkept-fit n t b = rw (unkept-in n t) (unkept-each fits-unkept (records-fit kept-layout n t b))
 
 -- ---- inserted among hints without marks
-unkept-insert : (x : Hint) (hs : List Hint) → unkept (insert hintLsn arrivedHint x hs) ≡ insert hintLsn arrivedHint (unkeptHint x) (unkept hs)
+unkept-insert : (x : Hint) (hs : List Hint)
+    → unkept (insert hintLsn arrivedHint x hs) ≡ insert hintLsn arrivedHint (unkeptHint x) (unkept hs)
 unfolding insert unkept
 unkept-insert x [] = refl
 unkept-insert x (y ∷ ys) =
-    test (ltb (x .lsn) (y .lsn)) (λ e. rw e) (λ e. test (ltb (y .lsn) (x .lsn)) (λ g. rw (e, g, unkept-insert x ys)) (λ g. rw (e, g)))
+    test (ltb (x .lsn) (y .lsn)) (λ e. rw e)
+    (λ e. test (ltb (y .lsn) (x .lsn)) (λ g. rw (e, g, unkept-insert x ys)) (λ g. rw (e, g)))
 
-unkept-put : (b : Bool) (x : Hint) (hs : List Hint) → unkept (cond b (insert hintLsn arrivedHint x hs) hs) ≡ cond b (insert hintLsn arrivedHint (unkeptHint x) (unkept hs)) (unkept hs)
+unkept-put : (b : Bool) (x : Hint) (hs : List Hint)
+    → unkept (cond b (insert hintLsn arrivedHint x hs) hs)
+    ≡ cond b (insert hintLsn arrivedHint (unkeptHint x) (unkept hs)) (unkept hs)
 unkept-put true x hs = unkept-insert x hs
 unkept-put false x hs = refl
 
@@ -56,13 +60,15 @@ unkept-all a hs (x ∷ xs) =
     ∙ ap (λ (l : List Hint). insertAll a l (unkept xs)) (unkept-put (inArea a (x .lsn)) x hs)
 
 -- a list sorted has no mark
-pub sorted-plain : (r : ℕ) (t : List ℕ) (a : Area) (n : ℕ) (list : List ℕ) → keptIn r t ≡ insertAll a [] (unkeptIn n list) → unkeptIn r t ≡ keptIn r t
+pub sorted-plain : (r : ℕ) (t : List ℕ) (a : Area) (n : ℕ) (list : List ℕ)
+    → keptIn r t ≡ insertAll a [] (unkeptIn n list) → unkeptIn r t ≡ keptIn r t
 unfolding unkept
 sorted-plain r t a n list e =
-    unkept-in r t ∙ ap unkept e ∙ unkept-all a [] (unkeptIn n list) ∙ rw (unkept-in n list, unkept-twice (keptIn n list)) (sym (rw (unkept-in n list) at e))
+    unkept-in r t ∙ ap unkept e ∙ unkept-all a [] (unkeptIn n list)
+    ∙ rw (unkept-in n list, unkept-twice (keptIn n list)) (sym (rw (unkept-in n list) at e))
 
 -- ---- a delivered list
-given-plain : (n : ℕ) (t : List ℕ) → unkept (hintsIn n t) ≡ hintsIn n t
+pub given-plain : (n : ℕ) (t : List ℕ) → unkept (hintsIn n t) ≡ hintsIn n t
 unfolding records unkept decodeHint
 given-plain zero t = refl
 given-plain (suc n) t = rw (given-plain n (drop 8 t))

@@ -9,4 +9,5 @@ use Rattle.add_hints.specs.JoinedMerged.{hintsOf, touched}
 -- the answer and the tables: the hint table is cleared behind the hints, up to where they and the list would end
 unfoldable pub addHintsIn : AreaIndex → Tables → List ℕ → Out
 addHintsIn x t list =
-    outOf (λ y. tablesCleared (touched (x .most) (x .hints) list) y t) t (kinded (kindsIn x t) (addHints (roomOf t) (indexIn x t) (hintsOf list)))
+    outOf (λ y. tablesCleared (touched (x .most) (x .hints) list) y t) t
+    (kinded (kindsIn x t) (addHints (roomOf t) (indexIn x t) (hintsOf list)))

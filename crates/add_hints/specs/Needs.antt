@@ -2,9 +2,9 @@
 use Prim.Native.Nat.{ℕ}
 use Rattle.rules.specs.declared.AreaIndex.{AreaIndex}
 
--- x with another number of hints
-abbrev pub withCount : AreaIndex → ℕ → AreaIndex
-withCount x n =
+-- x with other numbers of hints and confirmations
+abbrev pub withCounts : AreaIndex → ℕ → ℕ → AreaIndex
+withCounts x hints confirmed =
     record {
       area = x .area;
       interval = x .interval;
@@ -15,9 +15,13 @@ withCount x n =
       frames = x .frames;
       parts = x .parts;
       malformed = x .malformed;
-      hints = n;
-      confirmed = x .confirmed;
+      hints = hints;
+      confirmed = confirmed;
       ending = x .ending;
       fingerprint = x .fingerprint;
       image = x .image;
     }
+
+-- x with another number of hints
+abbrev pub withCount : AreaIndex → ℕ → AreaIndex
+withCount x n = withCounts x n (x .confirmed)

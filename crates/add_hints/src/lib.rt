@@ -9,6 +9,7 @@ use crate::sort::merge_hints;
 use index::Made;
 use index::refuses;
 use rules::AreaIndex;
+use rules::HINT;
 use rules::MAX_LIST;
 use rules::MAX_NEXT_ACCEPTABLE;
 use tables::read_given;
@@ -44,7 +45,7 @@ fn numbers_ok(list: &[u8], n: usize) -> bool
 fn question13(list: &[u8]) -> bool
     ensures { λ r. ⌜ r ≡ question13 (hintsOf (now (list .entry))) ⌝ }
 {
-    let n = list.len() / 8;
+    let n = list.len() / HINT;
     if (MAX_LIST as usize) < n {
         return false;
     }
@@ -71,7 +72,12 @@ pub fn add_hints(
     hints: &mut [u8],
     confirmed: &[u8],
 ) -> Made
-    ensures { λ r. ⌜ out r (tables (now (checkpoints .entry)) (now (frames .entry)) (now (store .entry)) (now (parts .entry)) (now (malformed .entry)) (now (hints .exit)) (now (confirmed .entry))) ≡ addHintsIn x (tables (now (checkpoints .entry)) (now (frames .entry)) (now (store .entry)) (now (parts .entry)) (now (malformed .entry)) (now (hints .entry)) (now (confirmed .entry))) (now (list .entry)) ⌝ }
+    ensures { λ r. ⌜
+        out r (tables (now (checkpoints .entry)) (now (frames .entry)) (now (store .entry)) (now (parts .entry))
+        (now (malformed .entry)) (now (hints .exit)) (now (confirmed .entry)))
+        ≡ addHintsIn x (tables (now (checkpoints .entry)) (now (frames .entry)) (now (store .entry))
+        (now (parts .entry)) (now (malformed .entry)) (now (hints .entry)) (now (confirmed .entry))) (now (list .entry))
+        ⌝ }
 {
     let number = refuses(
         x,

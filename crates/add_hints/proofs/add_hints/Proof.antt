@@ -1,37 +1,42 @@
-use mathlib.Core.Path.{_≡_, sym, _∙_}
-use Rattle.index.specs.Index.{Tables, tables}
-use Rattle.index.specs.Lent.{TableBytes}
+use mathlib.Core.Path.{sym, _∙_}
 use Rattle.index.proofs.Questions.{passes}
 use Rattle.add_hints.proofs.Added.{room-is, own-rise, add-no, add-13, add-yes}
 use borrow.Author.Needs.{needs}
 use Rattle.add_hints.proofs.add_hints.Statement.{statement}
 use Rattle.add_hints.proofs.add_hints.Tie as tie
 
--- the tests before the merge, the last first
-abbrev fitting-before : tie.After-merge-hints → tie.Else2
-fitting-before p = search
-
-abbrev listed-before : tie.Else2 → tie.After-question13
-listed-before p = search
-
-abbrev passed-before : tie.After-question13 → tie.Else1
-passed-before p = search
-
-abbrev asked-before : tie.Else1 → tie.After-refuses
-asked-before p = search
-
+-- where the arguments are
 abbrev begin : tie.After-refuses → tie.Start
 begin p = search
 
--- the tables as they were lent
-abbrev tables-of : tie.Start → Tables
-tables-of p =
-    let a = p .args in
-    tables (a .checkpoints .now) (a .frames .now) (a .store .now) (a .parts .now) (a .malformed .now) (a .hints .now) (a .confirmed .now)
+returns : tie.Need-returns
+returns c =
+    let asked : tie.After-refuses = search in
+    add-no _ _ _ (asked .refuses .ensures) (c .if1 .taken)
 
--- they hold bytes
-bytes-of : (p : tie.After-refuses) → TableBytes (tables-of (begin p))
-bytes-of p =
+returns-2 : tie.Need-returns-2
+returns-2 c =
+    let listed : tie.After-question13 = search in
+    let passed : tie.Else1 = search in
+    let asked : tie.After-refuses = search in
+    add-13 _ _ _ (asked .refuses .ensures) (passed .if1 .left) (listed .question13 .ensures) (c .if2 .taken)
+
+merge-hints-requires : tie.Need-merge-hints-requires
+merge-hints-requires c κs =
+    let fitting : tie.Else2 = search in
+    let listed : tie.After-question13 = search in
+    let passed : tie.Else1 = search in
+    let asked : tie.After-refuses = search in
+    let p = passes _ _ (sym (asked .refuses .ensures) ∙ passed .if1 .left) in
+    (room-is (begin asked .args .list .now) p (listed .question13 .ensures) (fitting .if2 .left), own-rise p)
+
+returns-3 : tie.Need-returns-3
+returns-3 c =
+    let merged : tie.After-merge-hints = search in
+    let fitting : tie.Else2 = search in
+    let listed : tie.After-question13 = search in
+    let passed : tie.Else1 = search in
+    let asked : tie.After-refuses = search in
     let confirmed : tie.After-shared-slice-known7 = search in
     let hints : tie.After-slice-known = search in
     let malformed : tie.After-shared-slice-known6 = search in
@@ -39,7 +44,9 @@ bytes-of p =
     let store : tie.After-shared-slice-known4 = search in
     let frames : tie.After-shared-slice-known3 = search in
     let checkpoints : tie.After-shared-slice-known2 = search in
-    record {
+    rw (c .with-count .ensures)
+    (add-yes _ _ _ (asked .refuses .ensures) (passed .if1 .left) (listed .question13 .ensures) (fitting .if2 .left)
+    (record {
       checkpoints = λ i. checkpoints .shared-slice-known2 .given i .fits;
       frames = λ i. frames .shared-slice-known3 .given i .fits;
       store = λ i. store .shared-slice-known4 .given i .fits;
@@ -47,43 +54,8 @@ bytes-of p =
       malformed = λ i. malformed .shared-slice-known6 .given i .fits;
       hints = λ i. hints .slice-known .given i .fits;
       confirmed = λ i. confirmed .shared-slice-known7 .given i .fits;
-    }
-
-returns : tie.Need-returns
-returns c =
-    let asked : tie.After-refuses = search in
-    let a = begin asked .args in
-    add-no (a .x) (tables-of (begin asked)) (a .list .now) (asked .refuses .ensures) (c .if1 .taken)
-
-returns-2 : tie.Need-returns-2
-returns-2 c =
-    let listed : tie.After-question13 = search in
-    let passed = passed-before listed in
-    let asked = asked-before passed in
-    let a = begin asked .args in
-    add-13 (a .x) (tables-of (begin asked)) (a .list .now) (asked .refuses .ensures) (passed .if1 .left) (listed .question13 .ensures) (c .if2 .taken)
-
-merge-hints-requires : tie.Need-merge-hints-requires
-merge-hints-requires c κs =
-    let fitting : tie.Else2 = search in
-    let listed = listed-before fitting in
-    let passed = passed-before listed in
-    let asked = asked-before passed in
-    let a = begin asked .args in
-    let p = passes (a .x) (tables-of (begin asked)) (sym (asked .refuses .ensures) ∙ passed .if1 .left) in
-    (room-is (a .list .now) p (listed .question13 .ensures) (fitting .if2 .left), own-rise p)
-
-returns-3 : tie.Need-returns-3
-returns-3 c =
-    let merged : tie.After-merge-hints = search in
-    let fitting = fitting-before merged in
-    let listed = listed-before fitting in
-    let passed = passed-before listed in
-    let asked = asked-before passed in
-    let a = begin asked .args in
-    rw (c .with-count .ensures)
-    (add-yes (a .x) (tables-of (begin asked)) (a .list .now) (asked .refuses .ensures) (passed .if1 .left) (listed .question13 .ensures) (fitting .if2 .left)
-    (bytes-of asked) (merged .merge-hints .ensures .0) (merged .merge-hints .ensures .1))
+    })
+    (merged .merge-hints .ensures .0) (merged .merge-hints .ensures .1))
 
 pub add-hints-spec : {M : Type 1} → statement M
 add-hints-spec =

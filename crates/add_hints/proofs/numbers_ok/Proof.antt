@@ -1,8 +1,6 @@
-use Prim.Native.Nat.{ℕ, _+_, _*_, _-_, _/_, _≤_, _<_}
-use mathlib.Core.Path.{_≡_, refl, sym, ap, _∙_}
+use Prim.Native.Nat.{_-_, _≤_}
+use mathlib.Core.Path.{_≡_, sym, _∙_}
 use native.Mathlib.Omega.{arith}
-use lib.ListN.{length}
-use mathlib.Core.Bool.{true, false}
 use Rattle.rules.specs.Tests.{each}
 use Rattle.rules.specs.Sections.{hintOk}
 use Rattle.rules.specs.File.{decodeHint}
@@ -24,13 +22,23 @@ loop-holds : tie.Need-loop-holds Inv-loop μ-loop
 loop-holds c = let a = c .before .args in (omega arith, rw (between-all 8 decodeHint (a .n) (a .list .now)))
 
 returns : tie.Need-returns Inv-loop μ-loop
-returns c = let u = c .before .before .before .before .loop .inv in sym (number-no _ (c .before .before .before .loop-test .taken) (c .before .before .read-given .ensures) (c .if1 .taken)) ∙ u .1
+returns c =
+    let u = c .before .before .before .before .loop .inv in
+    sym (number-no _ (c .before .before .before .loop-test .taken) (c .before .before .read-given .ensures)
+    (c .if1 .taken)) ∙ u .1
 
 loop-again : tie.Need-loop-again Inv-loop μ-loop
-loop-again c = let u = c .before .before .before .before .loop .inv in (omega arith, sym (number-yes _ (c .before .before .before .loop-test .taken) (c .before .before .read-given .ensures) (c .if1 .left)) ∙ u .1)
+loop-again c =
+    let u = c .before .before .before .before .loop .inv in (
+      omega arith,
+      sym (number-yes _ (c .before .before .before .loop-test .taken)
+          (c .before .before .read-given .ensures) (c .if1 .left)) ∙ u .1,
+    )
 
 returns-2 : tie.Need-returns-2 Inv-loop μ-loop
-returns-2 c = let a = c .before .before .before .args in let u = c .before .loop .inv in numbers-end (a .list .now) (c .loop-test .left) ∙ u .1
+returns-2 c =
+    let a = c .before .before .before .args in let u = c .before .loop .inv in
+    numbers-end (a .list .now) (c .loop-test .left) ∙ u .1
 
 pub numbers-ok-spec : {M : Type 1} → statement M
 numbers-ok-spec =
