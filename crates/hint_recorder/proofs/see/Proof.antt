@@ -22,8 +22,10 @@ returns-2 c =
     let after-seen : tie.After-seen = search in
     let after-first-record : tie.After-first-record = search in
     let else1 : tie.Else1 = search in
-    let a = else1 .before .before .before .before .before .args in
-    see-yes (a .r) (a .list .now) (else1 .before .refuses .ensures) (else1 .if1 .left) (a .lsn) (a .sector .now)
+    let asked : tie.After-refuses = search in
+    let start : tie.Start = search in
+    let a = start .args in
+    see-yes (a .r) (a .list .now) (asked .refuses .ensures) (else1 .if1 .left) (a .lsn) (a .sector .now)
     (after-first-record .first-record .ensures) (after-seen .seen .ensures)
 
 pub see-spec : {M : Type 1} → statement M
