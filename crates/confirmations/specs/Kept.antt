@@ -36,10 +36,13 @@ pub record Splits (most c d : ℕ) (t o : List ℕ) (i j k : ℕ) : Type 0 where
   pub other : j ≤ d
   pub few : k ≤ most
   pub more : c ≤ k
-  pub last : lastOnes most (confirmationsMerged (confirmationsIn c t) (confirmationsIn d o)) ≡ confirmationsMerged (between 16 decodeConfirmation i c t) (between 16 decodeConfirmation j d o)
-  pub count : k ≡ length (confirmationsMerged (between 16 decodeConfirmation i c t) (between 16 decodeConfirmation j d o))
+  pub last : lastOnes most (confirmationsMerged (confirmationsIn c t) (confirmationsIn d o))
+      ≡ confirmationsMerged (between 16 decodeConfirmation i c t) (between 16 decodeConfirmation j d o)
+  pub count : k ≡ length (confirmationsMerged (between 16 decodeConfirmation i c t)
+      (between 16 decodeConfirmation j d o))
 
 -- the last M of both lists merged stand at the start of the table new
 pub record Keeps (most c d : ℕ) (o : List ℕ) (r : ℕ) (old new : List ℕ) : Type 0 where
-  pub begins : Begins 16 encodeConfirmation (lastOnes most (confirmationsMerged (confirmationsIn c old) (confirmationsIn d o))) r old new
+  pub begins : Begins 16 encodeConfirmation
+      (lastOnes most (confirmationsMerged (confirmationsIn c old) (confirmationsIn d o))) r old new
   pub few : r ≤ most

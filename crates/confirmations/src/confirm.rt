@@ -2,6 +2,7 @@
 use add_hints::joined::move_up;
 use field::write_u32;
 use field::write_u64;
+use rules::CONFIRMED;
 use rules::Confirmation;
 use tables::read_confirmation;
 use thin::spent;
@@ -42,7 +43,7 @@ pub fn write_confirmation(t: &mut [u8], j: usize, c: Confirmation)
     requires { ⌜ j * 16 + 16 ≤ length (now t) ⌝ }
     ensures { λ _. ⌜ now (t .exit) ≡ sets (now (t .entry)) (j * 16) (encodeConfirmation c) ⌝ }
 {
-    let at = j * 16;
+    let at = j * CONFIRMED;
     write_u32(t, at, c.lsn);
     write_u32(t, at + 4, c.threshold);
     write_u64(t, at + 8, c.digest);
@@ -58,7 +59,9 @@ struct Taken {
 // Of the confirmations of t from p to e and those of o from q to n the first; two at one LSN meet.
 fn take_first(t: &[u8], p: usize, e: usize, o: &[u8], q: usize, n: usize) -> Taken
     requires { ⌜ Left 16 (now t) (now o) e n p q ⌝ }
-    ensures { λ r. ⌜ Takes 16 decodeConfirmation decodeConfirmation confirmationsMerged (now (t .entry)) (now (o .entry)) e n p q (r .confirmation) (r .own) (r .other) ⌝ }
+    ensures { λ r. ⌜
+        Takes 16 decodeConfirmation decodeConfirmation confirmationsMerged (now (t .entry)) (now (o .entry)) e n p q
+        (r .confirmation) (r .own) (r .other) ⌝ }
 {
     if n <= q {
         return Taken {
@@ -100,7 +103,9 @@ fn take_first(t: &[u8], p: usize, e: usize, o: &[u8], q: usize, n: usize) -> Tak
 // The confirmations of t from a to e and those of o from b to n, merged to the start of t.
 fn merge_down(t: &mut [u8], a: usize, e: usize, o: &[u8], b: usize, n: usize) -> usize
     requires { ⌜ Fits 16 decodeConfirmation decodeConfirmation confirmationsMerged (now t) (now o) a e b n ⌝ }
-    ensures { λ r. ⌜ Begins 16 encodeConfirmation (confirmationsMerged (between 16 decodeConfirmation a e (now (t .entry))) (between 16 decodeConfirmation b n (now (o .entry)))) r (now (t .entry)) (now (t .exit)) ⌝ }
+    ensures { λ r. ⌜
+        Begins 16 encodeConfirmation (confirmationsMerged (between 16 decodeConfirmation a e (now (t .entry)))
+        (between 16 decodeConfirmation b n (now (o .entry)))) r (now (t .entry)) (now (t .exit)) ⌝ }
 {
     let mut p = a;
     let mut q = b;
@@ -170,7 +175,7 @@ fn keep_last(t: &mut [u8], c: usize, o: &[u8], d: usize, most: usize) -> usize
 {
     let s = count_last(t, c, o, d, most);
     let kept = c - s.own;
-    move_up(t, s.own * 16, kept * 2, (s.count - c) * 16);
+    move_up(t, s.own * CONFIRMED, kept * 2, (s.count - c) * CONFIRMED);
     merge_down(t, s.count - kept, s.count, o, s.other, d)
 }
 
@@ -184,7 +189,9 @@ pub fn merge_confirmations(
     d: u32,
 ) -> u32
     requires { ⌜ Rising most c d (now confirmed) (now other) ⌝ }
-    ensures { λ r. ⌜ Begins 16 encodeConfirmation (keepAll checked most (confirmationsIn c (now (confirmed .entry))) (confirmationsIn d (now (other .entry)))) r (now (confirmed .entry)) (now (confirmed .exit)) ⌝ }
+    ensures { λ r. ⌜
+        Begins 16 encodeConfirmation (keepAll checked most (confirmationsIn c (now (confirmed .entry)))
+        (confirmationsIn d (now (other .entry)))) r (now (confirmed .entry)) (now (confirmed .exit)) ⌝ }
 {
     if !checked {
         return c;

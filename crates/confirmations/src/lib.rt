@@ -8,6 +8,7 @@ use index::is_checked;
 use index::refuses;
 use rules::Area;
 use rules::AreaIndex;
+use rules::CONFIRMED;
 use rules::Confirmation;
 use rules::MAX_NEXT_ACCEPTABLE;
 ghost use mathlib.Core.Path.{_≡_};
@@ -19,7 +20,8 @@ ghost use Rattle.rules.specs.Hints.{inArea, keep};
 ghost use Rattle.laws.specs.Passes.{Begins};
 ghost use Rattle.tables.specs.Tables.{confirmationsIn};
 ghost use Rattle.index.specs.Index.{tables};
-ghost use Rattle.confirmations.specs.Keeping.{Room, given, withCount, out, keepIn};
+ghost use Rattle.confirmations.specs.Keeping.{given, out, keepIn};
+ghost use Rattle.confirmations.specs.Steps.{Room, withCount};
 
 // The index afterwards, that nothing is kept, or the number that refuses.
 pub enum Kept {
@@ -39,9 +41,11 @@ fn question14(area: Area, lsn: u64, threshold: u32) -> bool
 // c kept beside the first n confirmations of t, of which there are at most M.
 fn keep_one(most: u32, n: u32, t: &mut [u8], c: Confirmation) -> u32
     requires { ⌜ Room most n (now t) ⌝ }
-    ensures { λ r. ⌜ Begins 16 encodeConfirmation (keep true most (confirmationsIn n (now (t .entry))) c) r (now (t .entry)) (now (t .exit)) ⌝ }
+    ensures { λ r. ⌜
+        Begins 16 encodeConfirmation (keep true most (confirmationsIn n (now (t .entry))) c) r (now (t .entry))
+        (now (t .exit)) ⌝ }
 {
-    let mut one = [0u8; 16];
+    let mut one = [0u8; CONFIRMED];
     write_confirmation(&mut one, 0, c);
     merge_confirmations(true, most, n, t, &one, 1)
 }
@@ -68,7 +72,11 @@ pub fn keep_confirmation(
     hints: &[u8],
     confirmed: &mut [u8],
 ) -> Kept
-    ensures { λ r. ⌜ out r (tables (now (checkpoints .entry)) (now (frames .entry)) (now (store .entry)) (now (parts .entry)) (now (malformed .entry)) (now (hints .entry)) (now (confirmed .exit))) ≡ keepIn x (tables (now (checkpoints .entry)) (now (frames .entry)) (now (store .entry)) (now (parts .entry)) (now (malformed .entry)) (now (hints .entry)) (now (confirmed .entry))) (given lsn threshold digest) ⌝ }
+    ensures { λ r. ⌜
+        out r (tables (now (checkpoints .entry)) (now (frames .entry)) (now (store .entry)) (now (parts .entry))
+        (now (malformed .entry)) (now (hints .entry)) (now (confirmed .exit)))
+        ≡ keepIn x (tables (now (checkpoints .entry)) (now (frames .entry)) (now (store .entry)) (now (parts .entry))
+        (now (malformed .entry)) (now (hints .entry)) (now (confirmed .entry))) (given lsn threshold digest) ⌝ }
 {
     let number = refuses(
         x,

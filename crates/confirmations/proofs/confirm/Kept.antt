@@ -6,11 +6,11 @@ use Prim.Native.Nat.{ℕ, zero, suc, _+_, _*_, _-_, _<_, _≤_, min}
 use native.Mathlib.Numerals.{add-one}
 use native.Mathlib.Omega.{arith}
 use borrow.Author.Tests.{eq-eqb, ne-eqb}
-use lib.Dec.{eqb, leb}
+use lib.Dec.{leb}
 use lib.ListN.{length, take, drop, take-append-drop}
 use lib.Seq.{sets}
 use Rattle.field.specs.Number.{put}
-use Rattle.field.specs.Records.{bytesOf, Bytes, recordAt}
+use Rattle.field.specs.Records.{Bytes, recordAt}
 use Rattle.field.proofs.Records.{records-length, records-at}
 use Rattle.field.proofs.Format.{bytes-records}
 use Rattle.field.proofs.Fields.{fields-put}
@@ -22,9 +22,9 @@ use Rattle.rules.specs.Hints.{heldConfirmation, lastOnes, keepsNothing, keepAll
 use Rattle.laws.proofs.Layouts.{confirmation-layout}
 use Rattle.laws.specs.Merging.{lastKey}
 use Rattle.laws.specs.Passes.{between, Begins, Fits}
-use Rattle.laws.proofs.hint_lists.Lists.{last-length}
-use Rattle.laws.proofs.hint_lists.Passes.{between-drop, moved-between, moved-past, begins-past}
-use Rattle.laws.proofs.hint_lists.Splitting.{Splitting, splitting-start, splitting-step, splitting-full, splitting-whole, splitting-least}
+use Rattle.laws.proofs.hint_lists.Passes.{between-drop, moved-between, moved-past}
+use Rattle.laws.proofs.hint_lists.Splitting.{Splitting, splitting-start, splitting-step, splitting-full}
+use Rattle.laws.proofs.hint_lists.Splitting.{splitting-whole, splitting-least}
 use Rattle.laws.proofs.hint_lists.Keeping.{keepAll-merged}
 use Rattle.laws.proofs.hint_lists.Confirmations.{keepAll-none}
 use Rattle.tables.specs.Tables.{confirmationsIn}
@@ -41,7 +41,8 @@ unfolding heldConfirmation
 met-other x y h = rw (ne-eqb (x .digest) (y .digest) h)
 
 -- its three numbers written are the confirmation written
-pub confirmation-put : (t : List ℕ) (k : ℕ) (c : Confirmation) → put 8 (put 4 (put 4 t k (c .lsn)) (k + 4) (c .threshold)) (k + 8) (c .digest) ≡ sets t k (encodeConfirmation c)
+pub confirmation-put : (t : List ℕ) (k : ℕ) (c : Confirmation)
+    → put 8 (put 4 (put 4 t k (c .lsn)) (k + 4) (c .threshold)) (k + 8) (c .digest) ≡ sets t k (encodeConfirmation c)
 unfolding encodeConfirmation
 confirmation-put t k c = fields-put 4 (4 ∷ 8 ∷ []) t k (c .lsn) (c .threshold ∷ c .digest ∷ []) ∙ simp append-nil
 
@@ -54,18 +55,22 @@ positive : (i : ℕ) → (i ≡ 0 → ⊥) → i ≡ suc (i - 1)
 positive zero h = absurd (h refl)
 positive (suc i) h = omega arith
 
-pub last-some : {i : ℕ} {c : Confirmation} (t : List ℕ) → (i ≡ 0 → ⊥) → c ≡ recordAt 16 decodeConfirmation t (i - 1) → c .lsn + 1 ≡ lastLsn t i
+pub last-some : {i : ℕ} {c : Confirmation} (t : List ℕ) → (i ≡ 0 → ⊥) → c ≡ recordAt 16 decodeConfirmation t (i - 1)
+    → c .lsn + 1 ≡ lastLsn t i
 unfolding lastLsn
-last-some {i} {c} t h e = let q = positive i h in ap (λ (x : Confirmation). x .lsn + 1) e ∙ add-one _ ∙ sym (ap (lastLsn t) q)
+last-some {i} {c} t h e =
+    let q = positive i h in ap (λ (x : Confirmation). x .lsn + 1) e ∙ add-one _ ∙ sym (ap (lastLsn t) q)
 
-last-is : (n : ℕ) (t : List ℕ) (i : ℕ) → i ≤ n → lastKey confirmedLsn noConfirmation (confirmationsIn n t) i ≡ lastLsn t i
+last-is : (n : ℕ) (t : List ℕ) (i : ℕ) → i ≤ n
+    → lastKey confirmedLsn noConfirmation (confirmationsIn n t) i ≡ lastLsn t i
 unfolding lastKey lastLsn
 last-is n t zero h = refl
 last-is n t (suc i) h = rw (records-at 16 decodeConfirmation n t i noConfirmation h)
 
 -- the last ones begin at i and j, and are k
 abbrev pub Counted : ℕ → ℕ → List ℕ → List ℕ → ℕ → ℕ → ℕ → Type 0
-Counted c d t o i j k = Splitting confirmedLsn heldConfirmation noConfirmation (confirmationsIn c t) (confirmationsIn d o) i j k
+Counted c d t o i j k =
+    Splitting confirmedLsn heldConfirmation noConfirmation (confirmationsIn c t) (confirmationsIn d o) i j k
 
 module _ {c d most : ℕ} {t o : List ℕ} (f : Rising most c d t o) where
   pub counted-start : Counted c d t o c d 0
@@ -80,39 +85,53 @@ module _ {c d most : ℕ} {t o : List ℕ} (f : Rising most c d t o) where
     pub other-few : j ≤ d
     other-few = rw (records-length 16 decodeConfirmation d o) at (s .other)
 
-    pub counted-step : {x y i' j' : ℕ} → (i + j ≡ 0 → ⊥) → x ≡ lastLsn t i → y ≡ lastLsn o j → i' ≡ i - cond (leb y x) 1 0 → j' ≡ j - cond (leb x y) 1 0
+    pub counted-step : {x y i' j' : ℕ} → (i + j ≡ 0 → ⊥) → x ≡ lastLsn t i → y ≡ lastLsn o j
+        → i' ≡ i - cond (leb y x) 1 0 → j' ≡ j - cond (leb x y) 1 0
         → Counted c d t o i' j' (k + 1)
     counted-step h ex ey ei ej =
         let some : 0 < i + j = omega (arith, h) in
         let u = last-is c t i own-few in let v = last-is d o j other-few in
-        rw (ei, ej, ex, ey, ← u, ← v) (splitting-step confirmedLsn heldConfirmation noConfirmation (confirmationsIn c t) (confirmationsIn d o) (f .own) (f .other) i j k s some)
+        rw (ei, ej, ex, ey, ← u, ← v) (splitting-step confirmedLsn heldConfirmation noConfirmation (confirmationsIn c t)
+        (confirmationsIn d o) (f .own) (f .other) i j k s some)
 
-    splits : k ≤ most → lastOnes most (confirmationsMerged (confirmationsIn c t) (confirmationsIn d o)) ≡ confirmationsMerged (drop i (confirmationsIn c t)) (drop j (confirmationsIn d o))
+    splits : k ≤ most → lastOnes most (confirmationsMerged (confirmationsIn c t) (confirmationsIn d o))
+        ≡ confirmationsMerged (drop i (confirmationsIn c t)) (drop j (confirmationsIn d o))
         → Splits most c d t o i j k
     splits l e =
-        let u = between-drop 16 decodeConfirmation i c t own-few in let v = between-drop 16 decodeConfirmation j d o other-few in
+        let u = between-drop 16 decodeConfirmation i c t own-few in
+        let v = between-drop 16 decodeConfirmation j d o other-few in
         let few = f .few in
         let least : length (confirmationsIn c t) ≤ most = omega (arith, records-length 16 decodeConfirmation c t) in
         record {
           own = own-few;
           other = other-few;
           few = l;
-          more = omega (arith, records-length 16 decodeConfirmation c t, splitting-least confirmedLsn heldConfirmation noConfirmation (confirmationsIn c t) (confirmationsIn d o) most i j k s least e);
+          more =
+              omega (
+                arith,
+                records-length 16 decodeConfirmation c t,
+                splitting-least confirmedLsn heldConfirmation
+                    noConfirmation (confirmationsIn c t) (confirmationsIn d o) most i j k s least e,
+              );
           last = rw (← u, ← v) e;
           count = rw (← u, ← v) (s .count);
         }
 
     pub counted-whole : k < most → i + j ≡ 0 → Splits most c d t o i j k
     counted-whole l h =
-        splits (omega arith) (splitting-whole confirmedLsn heldConfirmation noConfirmation (confirmationsIn c t) (confirmationsIn d o) most i j k s h (omega arith))
+        splits (omega arith) (splitting-whole confirmedLsn heldConfirmation noConfirmation (confirmationsIn c t)
+        (confirmationsIn d o) most i j k s h (omega arith))
 
     pub counted-full : k ≤ most → most ≤ k → Splits most c d t o i j k
     counted-full l m =
-        splits l (splitting-full confirmedLsn heldConfirmation noConfirmation (confirmationsIn c t) (confirmationsIn d o) most i j k s (omega arith))
+        splits l (splitting-full confirmedLsn heldConfirmation noConfirmation (confirmationsIn c t)
+        (confirmationsIn d o) most i j k s (omega arith))
 
 -- ---- the last ones moved up, and merged
-module _ (most c d : ℕ) (t t1 o : List ℕ) (i j k : ℕ) (f : Rising most c d t o) (s : Splits most c d t o i j k) (same : length t1 ≡ length t)
-    (up : t1 ≡ take (i * 16 + (k - c) * 16) t ++ (take ((c - i) * 2 * 8) (drop (i * 16) t) ++ drop (i * 16 + (k - c) * 16 + (c - i) * 2 * 8) t)) where
+module _ (most c d : ℕ) (t t1 o : List ℕ) (i j k : ℕ) (f : Rising most c d t o) (s : Splits most c d t o i j k)
+    (same : length t1 ≡ length t)
+    (up : t1 ≡ take (i * 16 + (k - c) * 16) t
+    ++ (take ((c - i) * 2 * 8) (drop (i * 16) t) ++ drop (i * 16 + (k - c) * 16 + (c - i) * 2 * 8) t)) where
   abbrev at : ℕ
   at = k - (c - i)
 
@@ -151,18 +170,25 @@ module _ (most c d : ℕ) (t t1 o : List ℕ) (i j k : ℕ) (f : Rising most c d
         most = rw (own-is room-is low-is) (omega (arith, s .count));
       }
 
-  pub keep-keeps : {t2 : List ℕ} {r : ℕ} → Begins 16 encodeConfirmation (confirmationsMerged (between 16 decodeConfirmation at k t1) (between 16 decodeConfirmation j d o)) r t1 t2
+  pub keep-keeps : {t2 : List ℕ} {r : ℕ} → Begins 16 encodeConfirmation
+      (confirmationsMerged (between 16 decodeConfirmation at k t1) (between 16 decodeConfirmation j d o)) r t1 t2
       → Keeps most c d o r t t2
   keep-keeps {t2} {r} g =
-      let e : confirmationsMerged (between 16 decodeConfirmation at k t1) (between 16 decodeConfirmation j d o) ≡ lastOnes most (confirmationsMerged (confirmationsIn c t) (confirmationsIn d o)) =
+      let e : confirmationsMerged (between 16 decodeConfirmation at k t1) (between 16 decodeConfirmation j d o)
+      ≡ lastOnes most (confirmationsMerged (confirmationsIn c t) (confirmationsIn d o)) =
       rw (own-is room-is low-is) (sym (s .last)) in
       let h = rw e at g in
       let n : r ≡ k = h .count ∙ ap length (s .last) ∙ sym (s .count) in
       let few = s .few in
-      record { begins = record { count = h .count; bytes = h .bytes ∙ rw (n, past-is room-is low-is) }; few = omega arith }
+      record {
+        begins = record { count = h .count; bytes = h .bytes ∙ rw (n, past-is room-is low-is) };
+        few = omega
+            arith;
+      }
 
 -- ---- the whole
-pub nothing-kept : {d : ℕ} {o : List ℕ} (checked : Bool) (most c : ℕ) (t : List ℕ) → Rising most c d t o → Bytes t → keepsNothing checked most ≡ true
+pub nothing-kept : {d : ℕ} {o : List ℕ} (checked : Bool) (most c : ℕ) (t : List ℕ) → Rising most c d t o → Bytes t
+    → keepsNothing checked most ≡ true
     → Begins 16 encodeConfirmation (keepAll checked most (confirmationsIn c t) (confirmationsIn d o)) c t t
 nothing-kept {d} {o} checked most c t f b h =
     let few = f .few in let room = f .room in
@@ -173,8 +199,10 @@ nothing-kept {d} {o} checked most c t f b h =
       bytes = sym (rw (bytes-records confirmation-layout c t b l) (take-append-drop (c * 16) t));
     })
 
-pub all-kept : {d r : ℕ} {o new : List ℕ} (checked : Bool) (most c : ℕ) (t : List ℕ) → Rising most c d t o → keepsNothing checked most ≡ false → Keeps most c d o r t new
+pub all-kept : {d r : ℕ} {o new : List ℕ} (checked : Bool) (most c : ℕ) (t : List ℕ) → Rising most c d t o
+    → keepsNothing checked most ≡ false → Keeps most c d o r t new
     → Begins 16 encodeConfirmation (keepAll checked most (confirmationsIn c t) (confirmationsIn d o)) r t new
 all-kept {d} {r} {o} checked most c t f h k =
     let few = f .few in
-    rw (keepAll-merged checked most h (confirmationsIn c t) (confirmationsIn d o) (omega (arith, records-length 16 decodeConfirmation c t)) (f .own) (f .other)) (k .begins)
+    rw (keepAll-merged checked most h (confirmationsIn c t) (confirmationsIn d o)
+    (omega (arith, records-length 16 decodeConfirmation c t)) (f .own) (f .other)) (k .begins)

@@ -1,37 +1,27 @@
 use mathlib.Core.Path.{sym, _∙_}
 use native.Mathlib.Omega.{arith}
-use Rattle.index.specs.Index.{Tables, tables}
-use Rattle.index.specs.Lent.{TableBytes}
-use Rattle.index.specs.Needs.{Passes}
 use Rattle.index.proofs.Questions.{passes}
-use Rattle.confirmations.proofs.Keeping.{room-is, lsn-small, keep-no, keep-14, keep-unchecked, keep-zero, keep-yes}
+use Rattle.confirmations.proofs.Keeping.{room-is, lsn-small, keep-no, keep-14, keep-unchecked, keep-zero}
+use Rattle.confirmations.proofs.Keeping.{keep-yes}
 use borrow.Author.Needs.{needs}
 use Rattle.confirmations.proofs.keep_confirmation.Statement.{statement}
 use Rattle.confirmations.proofs.keep_confirmation.Tie as tie
 
 -- where the arguments are
-abbrev called : tie.After-refuses → tie.Start
-called n = search
-
--- the tables lent
-abbrev lent : tie.Start → Tables
-lent s = let a = s .args in tables (a .checkpoints .now) (a .frames .now) (a .store .now) (a .parts .now) (a .malformed .now) (a .hints .now) (a .confirmed .now)
+abbrev begin : tie.After-refuses → tie.Start
+begin p = search
 
 returns : tie.Need-returns
 returns c =
     let number : tie.After-refuses = search in
-    let start : tie.Start = called number in
-    let a = start .args in
-    keep-no (a .x) (lent start) (a .lsn) (a .threshold) (a .digest) (number .refuses .ensures) (c .if1 .taken)
+    keep-no _ _ _ _ _ (number .refuses .ensures) (c .if1 .taken)
 
 returns-2 : tie.Need-returns-2
 returns-2 c =
     let asked : tie.After-question14 = search in
     let else1 : tie.Else1 = search in
     let number : tie.After-refuses = search in
-    let start : tie.Start = called number in
-    let a = start .args in
-    keep-14 (a .x) (lent start) (a .lsn) (a .threshold) (a .digest) (number .refuses .ensures) (else1 .if1 .left) (asked .question14 .ensures) (c .if2 .taken)
+    keep-14 _ _ _ _ _ (number .refuses .ensures) (else1 .if1 .left) (asked .question14 .ensures) (c .if2 .taken)
 
 returns-3 : tie.Need-returns-3
 returns-3 c =
@@ -40,9 +30,8 @@ returns-3 c =
     let asked : tie.After-question14 = search in
     let else1 : tie.Else1 = search in
     let number : tie.After-refuses = search in
-    let start : tie.Start = called number in
-    let a = start .args in
-    keep-unchecked (a .x) (lent start) (a .lsn) (a .threshold) (a .digest) (number .refuses .ensures) (else1 .if1 .left) (asked .question14 .ensures) (else2 .if2 .left)
+    keep-unchecked _ _ _ _ _ (number .refuses .ensures) (else1 .if1 .left) (asked .question14 .ensures)
+    (else2 .if2 .left)
     (checked .is-checked .ensures) (c .if3 .taken)
 
 returns-4 : tie.Need-returns-4
@@ -51,9 +40,7 @@ returns-4 c =
     let asked : tie.After-question14 = search in
     let else1 : tie.Else1 = search in
     let number : tie.After-refuses = search in
-    let start : tie.Start = called number in
-    let a = start .args in
-    keep-zero (a .x) (lent start) (a .lsn) (a .threshold) (a .digest) (number .refuses .ensures) (else1 .if1 .left) (asked .question14 .ensures) (else2 .if2 .left)
+    keep-zero _ _ _ _ _ (number .refuses .ensures) (else1 .if1 .left) (asked .question14 .ensures) (else2 .if2 .left)
     (omega (arith, c .if4 .taken))
 
 cast-t21 : tie.Need-cast-t21
@@ -62,18 +49,15 @@ cast-t21 c =
     let asked : tie.After-question14 = search in
     let else1 : tie.Else1 = search in
     let number : tie.After-refuses = search in
-    let start : tie.Start = called number in
-    let a = start .args in
-    let p : Passes (a .x) (lent start) = passes (a .x) (lent start) (sym (number .refuses .ensures) ∙ else1 .if1 .left) in
+    let p = passes _ _ (sym (number .refuses .ensures) ∙ else1 .if1 .left) in
+    let a = begin number .args in
     omega (arith, lsn-small (a .lsn) (a .threshold) p (asked .question14 .ensures) (else2 .if2 .left))
 
 keep-one-requires : tie.Need-keep-one-requires
 keep-one-requires c κs =
     let else1 : tie.Else1 = search in
     let number : tie.After-refuses = search in
-    let start : tie.Start = called number in
-    let a = start .args in
-    room-is (passes (a .x) (lent start) (sym (number .refuses .ensures) ∙ else1 .if1 .left))
+    room-is (passes _ _ (sym (number .refuses .ensures) ∙ else1 .if1 .left))
 
 returns-5 : tie.Need-returns-5
 returns-5 c =
@@ -92,10 +76,10 @@ returns-5 c =
     let store : tie.After-shared-slice-known3 = search in
     let frames : tie.After-shared-slice-known2 = search in
     let checkpoints : tie.After-shared-slice-known = search in
-    let start : tie.Start = called number in
-    let a = start .args in
-    let bytes : TableBytes (lent start) =
-    record {
+    rw (c .with-count .ensures)
+    (keep-yes _ _ _ _ _ (number .refuses .ensures) (else1 .if1 .left) (asked .question14 .ensures) (else2 .if2 .left)
+    (checked .is-checked .ensures) (else3 .if3 .left) (λ z. omega (arith, else4 .if4 .left))
+    (record {
       checkpoints = λ i. checkpoints .shared-slice-known .given i .fits;
       frames = λ i. frames .shared-slice-known2 .given i .fits;
       store = λ i. store .shared-slice-known3 .given i .fits;
@@ -103,10 +87,8 @@ returns-5 c =
       malformed = λ i. malformed .shared-slice-known5 .given i .fits;
       hints = λ i. hints .shared-slice-known6 .given i .fits;
       confirmed = λ i. confirmed .slice-known .given i .fits;
-    } in
-    rw (c .with-count .ensures)
-    (keep-yes (a .x) (lent start) (a .lsn) (a .threshold) (a .digest) (number .refuses .ensures) (else1 .if1 .left) (asked .question14 .ensures) (else2 .if2 .left)
-    (checked .is-checked .ensures) (else3 .if3 .left) (λ z. omega (arith, else4 .if4 .left)) bytes (one .keep-one .ensures))
+    })
+    (one .keep-one .ensures))
 
 pub keep-confirmation-spec : {M : Type 1} → statement M
 keep-confirmation-spec =

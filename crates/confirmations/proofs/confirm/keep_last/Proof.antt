@@ -10,7 +10,8 @@ merge-down-requires c κs =
     let split : tie.After-count-last = search in
     let start : tie.Start = search in
     let a = start .args in
-    keep-fits (a .most) (a .c) (a .d) (a .t .now) _ (a .o .now) _ _ _ (start .pre) (split .count-last .ensures) (omega (arith, moved .move-up .kept)) (moved .move-up .ensures)
+    keep-fits (a .most) (a .c) (a .d) (a .t .now) _ (a .o .now) _ _ _ (start .pre) (split .count-last .ensures)
+    (omega (arith, moved .move-up .kept)) (moved .move-up .ensures)
 
 returns : tie.Need-returns
 returns c =
@@ -19,7 +20,8 @@ returns c =
     let split : tie.After-count-last = search in
     let start : tie.Start = search in
     let a = start .args in
-    keep-keeps (a .most) (a .c) (a .d) (a .t .now) _ (a .o .now) _ _ _ (start .pre) (split .count-last .ensures) (omega (arith, moved .move-up .kept)) (moved .move-up .ensures) (merged .merge-down .ensures)
+    keep-keeps (a .most) (a .c) (a .d) (a .t .now) _ (a .o .now) _ _ _ (start .pre) (split .count-last .ensures)
+    (omega (arith, moved .move-up .kept)) (moved .move-up .ensures) (merged .merge-down .ensures)
 
 pub keep-last-spec : {M : Type 1} → statement M
 keep-last-spec =

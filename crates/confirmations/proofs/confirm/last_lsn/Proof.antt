@@ -8,7 +8,9 @@ returns : tie.Need-returns
 returns c = last-none _ (c .if1 .taken)
 
 returns-2 : tie.Need-returns-2
-returns-2 c = let a = c .before .before .before .before .args in (last-some (a .t .now) (c .before .before .if1 .left) (c .before .read-confirmation .ensures), omega arith)
+returns-2 c =
+    let a = c .before .before .before .before .args in
+    (last-some (a .t .now) (c .before .before .if1 .left) (c .before .read-confirmation .ensures), omega arith)
 
 pub last-lsn-spec : {M : Type 1} → statement M
 last-lsn-spec =

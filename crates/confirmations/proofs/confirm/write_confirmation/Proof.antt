@@ -5,7 +5,14 @@ use Rattle.confirmations.proofs.confirm.write_confirmation.Statement.{s
 use Rattle.confirmations.proofs.confirm.write_confirmation.Tie as tie
 
 returns : tie.Need-returns
-returns c = let here = c .before .before .before .before .before .before in let a = here .before .before .before .before .before .before .before .args in c .before .before .write-u64 .ensures ∙ rw (here .write-u322 .ensures, here .before .before .before .before .write-u32 .ensures) (confirmation-put (a .t .now) _ (a .c))
+returns c =
+    let after-write-u64 : tie.After-write-u64 = search in
+    let after-write-u322 : tie.After-write-u322 = search in
+    let after-write-u32 : tie.After-write-u32 = search in
+    let start : tie.Start = search in
+    let a = start .args in
+    after-write-u64 .write-u64 .ensures ∙ rw
+    (after-write-u322 .write-u322 .ensures, after-write-u32 .write-u32 .ensures) (confirmation-put (a .t .now) _ (a .c))
 
 pub write-confirmation-spec : {M : Type 1} → statement M
 write-confirmation-spec =
