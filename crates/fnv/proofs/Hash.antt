@@ -44,6 +44,10 @@ module _ (w p : ℕ) where
     pub within : i ≤ length s
     pub left : fnvFrom w p x (drop i s) ≡ fnvFrom w p h s
 
+  -- before the first byte
+  pub hashing-start : (h : ℕ) (s : List ℕ) → Hashing h s h 0
+  hashing-start h s = record { within = omega arith; left = refl }
+
   module _ {h : ℕ} {s : List ℕ} {x i : ℕ} (l : Hashing h s x i) where
     -- one step more
     pub hashing-on : {y : ℕ} → i < length s → y ≡ fnvStep w p x (getD s i 0) → Hashing h s y (i + 1)
