@@ -16,13 +16,13 @@ use Rattle.rules.specs.Questions.{areaOk}
 use Rattle.rules.proofs.Tests.{test}
 use Rattle.rules_shelf.specs.declared.Shelf.{Shelf}
 use Rattle.rules_shelf.specs.declared.ShelfRecord.{ShelfRecord}
-use Rattle.rules_shelf.specs.Shelf.{noRecord, areaOf, present, placeOf, dropAt, shelfOk, questions, entering, jumping, over, holding, enter, heldBy, jump}
+use Rattle.rules_shelf.specs.Shelf.{noRecord, areaOf, present, dropAt, shelfOk, questions, entering, jumping, over, holding, enter, heldBy, jump}
 use Rattle.shelf.specs.declared.Change.{Change}
 use Rattle.shelf.specs.declared.Kept.{Kept}
 use Rattle.shelf.specs.declared.ShelfAnswer.{ShelfAnswer}
 use Rattle.shelf.specs.Change.{answer, told, newOf, someOf, Changes, clamp}
 use Rattle.shelf.specs.Kept.{Sound, Stands, listOf}
-use Rattle.shelf.specs.Table.{written, out, outOf, enterCall, jumpCall}
+use Rattle.shelf.specs.Table.{written, Out, out, outOf, enterCall, jumpCall}
 use Rattle.shelf.proofs.Laws.{list-length}
 
 -- ---- records written over the start of a table
@@ -124,7 +124,7 @@ change-fits c x r room h g =
 
 -- ---- a call: b is what was changed, m its count, zs the table afterwards
 module _ (c : Change) (x : Shelf) (r : Answer (Option (List ShelfRecord))) (ys : List ShelfRecord) (h : Changes c x r) (g : leb 64 (length ys) ≡ false → newOf r ≡ []) where
-  pub changed-fits : (b : Kept) (m : ℕ) → (b .all ≡ c .all) × (b .n ≡ c .n) → m ≡ b .n → (m ≤ 64) × (m ≤ length ys)
+  changed-fits : (b : Kept) (m : ℕ) → (b .all ≡ c .all) × (b .n ≡ c .n) → m ≡ b .n → (m ≤ 64) × (m ≤ length ys)
   changed-fits b m e d =
       let f = h .few in
       let l = change-fits c x r (length ys) h g in
@@ -159,39 +159,49 @@ told-jump x ys (Refused n) = refl
 told-jump x ys (Accepted none) = refl
 told-jump x ys (Accepted (some new)) = refl
 
-module _ (x : Shelf) (ys : List ShelfRecord) (g : ShelfRecord) (n : ℕ) (a : Kept) (c : Change) (t : n ≡ clamp x (length ys)) (s : Stands a (take n ys)) where
-  rs-is : listOf a ≡ take (clamp x (length ys)) ys
-  rs-is = s .same ∙ ap (λ (i : ℕ). take i ys) t
+-- a call whose change answers answerOf of the records that were taken, and which is to give called
+pub record Answered (x : Shelf) (ys : List ShelfRecord) (answerOf : List ShelfRecord → Answer (Option (List ShelfRecord))) (called : Out) : Type 0 where
+  pub no-room : (rs : List ShelfRecord) → leb 64 (length ys) ≡ false → newOf (answerOf rs) ≡ []
+  pub gives : (rs : List ShelfRecord) → rs ≡ take (clamp x (length ys)) ys → out (told x (answerOf rs)) (over (newOf (answerOf rs)) ys) ≡ called
 
-  pub enter-fits-table : Changes c x (someOf (entering x (length ys) (listOf a) (areaOf g) (g .len))) → (b : Kept) (m : ℕ) → (b .all ≡ c .all) × (b .n ≡ c .n) → m ≡ b .n → (m ≤ 64) × (m ≤ length ys)
-  enter-fits-table h = changed-fits c x _ ys h (enter-room x (length ys) (listOf a) (areaOf g) (g .len))
+module _ {x : Shelf} {ys : List ShelfRecord} {answerOf : List ShelfRecord → Answer (Option (List ShelfRecord))} {called : Out} (l : Answered x ys answerOf called)
+    {n : ℕ} {a : Kept} {c : Change} (t : n ≡ clamp x (length ys)) (s : Stands a (take n ys)) (h : Changes c x (answerOf (listOf a))) {b : Kept} {m : ℕ}
+    (e : (b .all ≡ c .all) × (b .n ≡ c .n)) (d : m ≡ b .n) where
+  pub fits-table : (m ≤ 64) × (m ≤ length ys)
+  fits-table = changed-fits c x _ ys h (l .no-room (listOf a)) b m e d
 
-  pub enter-out : Changes c x (someOf (entering x (length ys) (listOf a) (areaOf g) (g .len))) → (b : Kept) (m : ℕ) (zs : List ShelfRecord) (v : ShelfAnswer)
-      → (b .all ≡ c .all) × (b .n ≡ c .n) → m ≡ b .n → zs ≡ written m (b .all) ys → v ≡ c .answer → out v zs ≡ enterCall x ys g
+  pub gives-out : {zs : List ShelfRecord} {v : ShelfAnswer} → zs ≡ written m (b .all) ys → v ≡ c .answer → out v zs ≡ called
+  gives-out {zs} {v} w u =
+      written-out c x _ ys h (l .no-room (listOf a)) b m zs v e d w u ∙ l .gives (listOf a) (s .same ∙ ap (λ (i : ℕ). take i ys) t)
+
+module _ (x : Shelf) (ys : List ShelfRecord) (g : ShelfRecord) where
+  abbrev pub enterAnswer : List ShelfRecord → Answer (Option (List ShelfRecord))
+  enterAnswer rs = someOf (entering x (length ys) rs (areaOf g) (g .len))
+
+  abbrev pub jumpAnswer : List ShelfRecord → Answer (Option (List ShelfRecord))
+  jumpAnswer rs = jumping x (length ys) rs (areaOf g)
+
+  pub enter-answered : Answered x ys enterAnswer (enterCall x ys g)
   unfolding enterCall enter
-  enter-out h b m zs v e d w u =
-      written-out c x _ ys h (enter-room x (length ys) (listOf a) (areaOf g) (g .len)) b m zs v e d w u
-      ∙ told-enter x ys (entering x (length ys) (listOf a) (areaOf g) (g .len))
-      ∙ ap (λ (y : Answer (List ShelfRecord)). outOf x ys (someOf (bind y (λ new. Accepted (holding x ys new)))))
-      (ap (λ (rs : List ShelfRecord). entering x (length ys) rs (areaOf g) (g .len)) rs-is ∙ enter-same x ys (areaOf g) (g .len))
+  enter-answered = record {
+    no-room = λ rs. enter-room x (length ys) rs (areaOf g) (g .len);
+    gives = λ rs e.
+        told-enter x ys (entering x (length ys) rs (areaOf g) (g .len))
+        ∙ ap (λ (y : Answer (List ShelfRecord)). outOf x ys (someOf (bind y (λ new. Accepted (holding x ys new)))))
+        (ap (λ (rs : List ShelfRecord). entering x (length ys) rs (areaOf g) (g .len)) e ∙ enter-same x ys (areaOf g) (g .len));
+  }
 
-  pub jump-fits-table : Changes c x (jumping x (length ys) (listOf a) (areaOf g)) → (b : Kept) (m : ℕ) → (b .all ≡ c .all) × (b .n ≡ c .n) → m ≡ b .n → (m ≤ 64) × (m ≤ length ys)
-  jump-fits-table h = changed-fits c x _ ys h (jump-room x (length ys) (listOf a) (areaOf g))
-
-  pub jump-out : Changes c x (jumping x (length ys) (listOf a) (areaOf g)) → (b : Kept) (m : ℕ) (zs : List ShelfRecord) (v : ShelfAnswer)
-      → (b .all ≡ c .all) × (b .n ≡ c .n) → m ≡ b .n → zs ≡ written m (b .all) ys → v ≡ c .answer → out v zs ≡ jumpCall x ys g
+  pub jump-answered : Answered x ys jumpAnswer (jumpCall x ys g)
   unfolding jumpCall jump
-  jump-out h b m zs v e d w u =
-      written-out c x _ ys h (jump-room x (length ys) (listOf a) (areaOf g)) b m zs v e d w u
-      ∙ told-jump x ys (jumping x (length ys) (listOf a) (areaOf g))
-      ∙ ap (λ (y : Answer (Option (List ShelfRecord))). outOf x ys (bind y (λ o. Accepted (heldBy x ys o))))
-      (ap (λ (rs : List ShelfRecord). jumping x (length ys) rs (areaOf g)) rs-is ∙ jump-same x ys (areaOf g))
+  jump-answered = record {
+    no-room = λ rs. jump-room x (length ys) rs (areaOf g);
+    gives = λ rs e.
+        told-jump x ys (jumping x (length ys) rs (areaOf g))
+        ∙ ap (λ (y : Answer (Option (List ShelfRecord))). outOf x ys (bind y (λ o. Accepted (heldBy x ys o))))
+        (ap (λ (rs : List ShelfRecord). jumping x (length ys) rs (areaOf g)) e ∙ jump-same x ys (areaOf g));
+  }
 
--- ---- search and drop
-pub search-out : (n : ℕ) (g : ShelfRecord) (a : Kept) (r : ℕ) (ys zs : List ShelfRecord) → Stands a (take n ys) → zs ≡ ys → r ≡ placeOf (areaOf g) (listOf a)
-    → (r ≡ placeOf (areaOf g) (take n ys)) × (zs ≡ ys)
-search-out n g a r ys zs s e d = (d ∙ ap (placeOf (areaOf g)) (s .same), e)
-
+-- ---- drop
 module _ (n i : ℕ) (a : Kept) where
   taken-n : (ys : List ShelfRecord) → Stands a (take n ys) → n ≤ length ys → a .n ≡ n
   taken-n ys s l = let z = length-take n ys in let w : a .n ≡ length (take n ys) = sym (list-length a (s .sound)) ∙ ap length (s .same) in omega arith
