@@ -1,8 +1,6 @@
 -- Each hash is evaluated.
-use mathlib.Core.Path.{refl}
-use Rattle.fnv.specs.Fnv.{fnvFrom}
-use Rattle.examples.proofs.Group.{more}
 use borrow.Author.Needs.{needs}
+use Rattle.fnv.specs.Fnv.{fnvFrom}
 use Rattle.examples.proofs.sums.words.Statement.{statement}
 use Rattle.examples.proofs.sums.words.Tie as tie
 
@@ -13,29 +11,21 @@ returns c =
     let c3 = c4 .before .before .before in
     let c2 = c3 .before .before .before in
     let c1 = c2 .before .before .before in
-    let one = more 0 _ _ _ _ refl (c1 .short-line .ensures) refl in
-    let two = more 1 _ _ _ _ one (c2 .short-line2 .ensures) refl in
-    let three = more 2 _ _ _ _ two (c3 .short-line3 .ensures) refl in
-    let four = more 3 _ _ _ _ three (c4 .short-line4 .ensures) refl in
-    more 4 _ _ _ _ four (c .short-line5 .ensures) refl
+    rw (
+      c .short-line5 .ensures,
+      c4 .short-line4 .ensures,
+      c3 .short-line3 .ensures,
+      c2 .short-line2 .ensures,
+      c1 .short-line .ensures,
+    )
 
 pub words-spec : {M : Type 1} → statement M
 words-spec =
     tie.close
     (tie.spec
-    (λ c. search needs)
-    (λ c. search needs)
-    (λ c κs. search needs)
-    (λ c. search needs)
-    (λ c. search needs)
-    (λ c κs. search needs)
-    (λ c. search needs)
-    (λ c. search needs)
-    (λ c κs. search needs)
-    (λ c. search needs)
-    (λ c. search needs)
-    (λ c κs. search needs)
-    (λ c. search needs)
-    (λ c. search needs)
-    (λ c κs. search needs)
+    (λ c. search needs) (λ c. search needs) (λ c κs. search needs)
+    (λ c. search needs) (λ c. search needs) (λ c κs. search needs)
+    (λ c. search needs) (λ c. search needs) (λ c κs. search needs)
+    (λ c. search needs) (λ c. search needs) (λ c κs. search needs)
+    (λ c. search needs) (λ c. search needs) (λ c κs. search needs)
     returns)
