@@ -12,27 +12,31 @@ use Rattle.rules.specs.declared.Area.{Area}
 use Rattle.rules.specs.Values.{sameArea}
 use Rattle.rules.proofs.Tests.{choose, →all}
 use Rattle.rules_shelf.specs.declared.ShelfRecord.{ShelfRecord}
-use Rattle.rules_shelf.specs.Shelf.{noRecord, areaOf, sum, placeOf, among, noTwo, dropAt, stampAt, older, oldestOf, oldest, roomy, makeRoom}
+use Rattle.rules_shelf.specs.Shelf.{noRecord, areaOf, sum, placeOf, among, noTwo, dropAt, stampAt, older}
+use Rattle.rules_shelf.specs.Shelf.{oldestOf, oldest, roomy, makeRoom}
 
 -- ---- the place of an area
 pub place-le : (a : Area) (rs : List ShelfRecord) → placeOf a rs ≤ length rs
 unfolding placeOf
 place-le a [] = omega arith
 place-le a (r ∷ rs) =
-    choose (λ (n : ℕ). n ≤ suc (length rs)) (sameArea (areaOf r) a) 0 (suc (placeOf a rs)) (λ _. omega arith) (λ _. let h = place-le a rs in omega arith)
+    choose (λ (n : ℕ). n ≤ suc (length rs)) (sameArea (areaOf r) a) 0 (suc (placeOf a rs)) (λ _. omega arith)
+    (λ _. let h = place-le a rs in omega arith)
 
 module _ (a : Area) (rs : List ShelfRecord) (i : ℕ) (l : i < length rs) where
   pub place-here : sameArea (areaOf (getD rs i noRecord)) a ≡ true → placeOf a (drop i rs) ≡ 0
   unfolding placeOf
   place-here e = rw (drop-cons rs i noRecord l, e)
 
-  pub place-later : sameArea (areaOf (getD rs i noRecord)) a ≡ false → placeOf a (drop i rs) ≡ suc (placeOf a (drop (suc i) rs))
+  pub place-later : sameArea (areaOf (getD rs i noRecord)) a ≡ false
+      → placeOf a (drop i rs) ≡ suc (placeOf a (drop (suc i) rs))
   unfolding placeOf
   place-later e = rw (drop-cons rs i noRecord l, e)
 
 -- ---- no area under two
 module _ (rs : List ShelfRecord) (i : ℕ) (l : i < length rs) where
-  pub no-two-step : noTwo (drop i rs) ≡ (not (among (areaOf (getD rs i noRecord)) (drop (suc i) rs)) && noTwo (drop (suc i) rs))
+  pub no-two-step : noTwo (drop i rs) ≡ (not (among (areaOf (getD rs i noRecord)) (drop (suc i) rs)) && noTwo
+      (drop (suc i) rs))
   unfolding noTwo
   no-two-step = rw (drop-cons rs i noRecord l)
 
@@ -43,7 +47,8 @@ sum-append [] ss = omega arith
 sum-append (r ∷ rs) ss = let h = sum-append rs ss in omega arith
 
 -- the lengths up to i, that of record i, and those behind
-pub sum-at : (rs : List ShelfRecord) (i : ℕ) → i < length rs → sum rs ≡ sum (take i rs) + (getD rs i noRecord .len + sum (drop (suc i) rs))
+pub sum-at : (rs : List ShelfRecord) (i : ℕ) → i < length rs
+    → sum rs ≡ sum (take i rs) + (getD rs i noRecord .len + sum (drop (suc i) rs))
 unfolding sum
 sum-at rs i l =
     let e : sum (take i rs ++ drop i rs) ≡ sum (take i rs) + sum (drop i rs) = sum-append (take i rs) (drop i rs) in
@@ -51,10 +56,12 @@ sum-at rs i l =
     let w : sum (take i rs ++ drop i rs) ≡ sum rs = ap sum (take-append-drop i rs) in
     omega arith
 
-pub sum-take-suc : (rs : List ShelfRecord) (i : ℕ) → i < length rs → sum (take (suc i) rs) ≡ sum (take i rs) + getD rs i noRecord .len
+pub sum-take-suc : (rs : List ShelfRecord) (i : ℕ) → i < length rs
+    → sum (take (suc i) rs) ≡ sum (take i rs) + getD rs i noRecord .len
 unfolding sum
 sum-take-suc rs i l =
-    let e : sum (take i rs ++ (getD rs i noRecord ∷ [])) ≡ sum (take i rs) + sum (getD rs i noRecord ∷ []) = sum-append (take i rs) (getD rs i noRecord ∷ []) in
+    let e : sum (take i rs ++ (getD rs i noRecord ∷ [])) ≡ sum (take i rs) + sum (getD rs i noRecord ∷ []) = sum-append
+    (take i rs) (getD rs i noRecord ∷ []) in
     let w : sum (take (suc i) rs) ≡ sum (take i rs ++ (getD rs i noRecord ∷ [])) = ap sum (take-suc rs i noRecord l) in
     omega arith
 
@@ -87,14 +94,16 @@ oldest-lt rs n =
 older-take : (rs : List ShelfRecord) (m best i : ℕ) → best < m → i < m → older (take m rs) best i ≡ older rs best i
 unfolding older
 older-take rs m best i b l =
-    ap₂ (λ (x y : ShelfRecord). cond (ltb (x .stamp) (y .stamp)) i best) (getD-take m rs i noRecord l) (getD-take m rs best noRecord b)
+    ap₂ (λ (x y : ShelfRecord). cond (ltb (x .stamp) (y .stamp)) i best) (getD-take m rs i noRecord l)
+    (getD-take m rs best noRecord b)
 
 pub oldest-take : (rs : List ShelfRecord) (m n : ℕ) → n ≤ m → oldestOf (take m rs) n ≡ oldestOf rs n
 unfolding oldestOf
 oldest-take rs m zero l = refl
 oldest-take rs m (suc n) l =
     let o = oldest-le rs n in
-    ap (λ (k : ℕ). older (take m rs) k n) (oldest-take rs m n (omega arith)) ∙ older-take rs m (oldestOf rs n) n (omega arith) (omega arith)
+    ap (λ (k : ℕ). older (take m rs) k n) (oldest-take rs m n (omega arith))
+    ∙ older-take rs m (oldestOf rs n) n (omega arith) (omega arith)
 
 -- ---- making room
 pub made : (n room : ℕ) (rs : List ShelfRecord) → roomy room rs ≡ true → makeRoom n room rs ≡ rs
@@ -102,7 +111,8 @@ unfolding makeRoom
 made zero room rs e = refl
 made (suc n) room rs e = rw e
 
-pub made-more : (n room : ℕ) (rs : List ShelfRecord) → roomy room rs ≡ false → makeRoom (suc n) room rs ≡ makeRoom n room (dropAt (oldest rs) rs)
+pub made-more : (n room : ℕ) (rs : List ShelfRecord) → roomy room rs ≡ false
+    → makeRoom (suc n) room rs ≡ makeRoom n room (dropAt (oldest rs) rs)
 unfolding makeRoom
 made-more n room rs e = rw e
 

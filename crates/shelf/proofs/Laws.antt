@@ -8,15 +8,20 @@ use native.Mathlib.Omega.{arith}
 use native.Mathlib.Numerals.{add-one}
 use borrow.Author.Tests.{ltb-true, ltb-false, leb-true, eqb-true, eqb-false, ne-eqb, lt-ltb, le-ltb, le-leb, lt-leb}
 use lib.Dec.{eqb, leb, ltb}
-use lib.ListN.{length, getD, take, drop, set, replicate, length-set, length-take, length-drop, length-replicate, drop-of-length-le}
+use lib.ListN.{length, getD, take, drop, set, replicate, length-set, length-take, length-drop, length-replicate}
+use lib.ListN.{drop-of-length-le}
 use lib.Seq.{take-suc, take-suc-set, getD-take, take-all, take-set-lt}
 use Rattle.rules.specs.declared.Area.{Area}
 use Rattle.rules.specs.Values.{max64, sameArea}
 use Rattle.rules.specs.Tests.{all, Ask, ask, firstNo, Answer, Refused, Accepted, after}
 use Rattle.rules.proofs.Tests.{test, never, all→, asked as asked-yes}
 use Rattle.rules_shelf.specs.declared.ShelfRecord.{ShelfRecord}
-use Rattle.rules_shelf.specs.Shelf.{noRecord, areaOf, recordOf, sum, placeOf, among, noTwo, dropAt, without, older, oldestOf, oldest, roomy, makeRoom, staying, entered, restamped, jumped, questions, entering, jumpedIn, jumping}
-use Rattle.rules_shelf.proofs.Laws.{place-later, place-here, no-two-step, sum-at, sum-take-suc, drop-length, drop-none, take-drop, take-before, drop-next, oldest-le, oldest-lt, oldest-take, made, made-more, roomy-none}
+use Rattle.rules_shelf.specs.Shelf.{noRecord, areaOf, recordOf, sum, placeOf, among, noTwo, dropAt, without, older}
+use Rattle.rules_shelf.specs.Shelf.{oldestOf, oldest, roomy, makeRoom, staying, entered, restamped, jumped, questions}
+use Rattle.rules_shelf.specs.Shelf.{entering, jumpedIn, jumping}
+use Rattle.rules_shelf.proofs.Laws.{place-later, place-here, no-two-step, sum-at, sum-take-suc, drop-length, drop-none}
+use Rattle.rules_shelf.proofs.Laws.{take-drop, take-before, drop-next, oldest-le, oldest-lt, oldest-take, made}
+use Rattle.rules_shelf.proofs.Laws.{made-more, roomy-none}
 use Rattle.sections.specs.Asked.{asked}
 use Rattle.sections.proofs.Questions.{numbered as in-order, first-refuses, first-passes}
 use Rattle.rules_shelf.specs.declared.Shelf.{Shelf}
@@ -30,12 +35,14 @@ use Rattle.shelf.specs.Kept.{Sound, Stands, listOf}
 abbrev pub Pushed : Kept → ShelfRecord → Kept → Type 0
 Pushed a r b = (b .all ≡ set (a .all) (a .n) r) × (b .n ≡ a .n + 1)
 
-pub push-stands : (a : Kept) (rs : List ShelfRecord) (r : ShelfRecord) (b : Kept) → Stands a rs → a .n < 64 → Pushed a r b → Stands b (rs ++ r ∷ [])
+pub push-stands : (a : Kept) (rs : List ShelfRecord) (r : ShelfRecord) (b : Kept) → Stands a rs → a .n < 64
+    → Pushed a r b → Stands b (rs ++ r ∷ [])
 push-stands a rs r b h l p =
     let w : length (a .all) ≡ 64 = h .sound .wide in
     let w' : length (b .all) ≡ 64 = ap length (p .0) ∙ length-set (a .all) (a .n) r ∙ w in
     let m : b .n ≡ suc (a .n) = p .1 ∙ add-one (a .n) in
-    let e : take (suc (a .n)) (set (a .all) (a .n) r) ≡ take (a .n) (a .all) ++ (r ∷ []) = take-suc-set (a .all) (a .n) r (omega arith) in
+    let e : take (suc (a .n)) (set (a .all) (a .n) r) ≡ take (a .n) (a .all) ++ (r ∷ []) = take-suc-set (a .all) (a .n)
+    r (omega arith) in
     let s : take (a .n) (a .all) ≡ rs = h .same in
     record { sound = record { few = omega arith; wide = w' }; same = rw (m, p .0, e, s) refl }
 
@@ -48,15 +55,23 @@ pub none-taken : (ys : List ShelfRecord) (a : Kept) → (a .all ≡ replicate 64
 none-taken ys a e =
     let z : a .n ≡ 0 = e .1 in
     record {
-      stands = record { sound = record { few = omega arith; wide = ap length (e .0) ∙ length-replicate 64 noRecord }; same = rw z refl };
+      stands = record {
+        sound = record { few = omega arith; wide = ap length (e .0) ∙ length-replicate 64 noRecord };
+        same = rw z refl;
+      };
       count = z;
     }
 
-pub one-taken : (i : ℕ) (ys : List ShelfRecord) (a b : Kept) → i < length ys → Taken i ys a → a .n < 64 → Pushed a (getD ys i noRecord) b → Taken (suc i) ys b
+pub one-taken : (i : ℕ) (ys : List ShelfRecord) (a b : Kept) → i < length ys → Taken i ys a → a .n < 64
+    → Pushed a (getD ys i noRecord) b → Taken (suc i) ys b
 one-taken i ys a b l h few p =
     let c : a .n ≡ i = h .count in
     let m : b .n ≡ a .n + 1 = p .1 in
-    record { stands = rw (take-suc ys i noRecord l) (push-stands a (take i ys) (getD ys i noRecord) b (h .stands) few p); count = omega arith }
+    record {
+      stands = rw (take-suc ys i noRecord l) (push-stands a (take i ys) (getD ys i noRecord) b (h .stands) few
+          p);
+      count = omega arith;
+    }
 
 -- ---- the records of a value
 pub list-length : (k : Kept) → Sound k → length (listOf k) ≡ k .n
@@ -64,9 +79,6 @@ list-length k h = let f = h .few in let w = h .wide in simp length-take (omega a
 
 list-at : (k : Kept) (i : ℕ) → i < k .n → getD (listOf k) i noRecord ≡ getD (k .all) i noRecord
 list-at k i l = getD-take (k .n) (k .all) i noRecord l
-
-pub stands-self : (k : Kept) → Sound k → Stands k (listOf k)
-stands-self k h = record { sound = h; same = refl }
 
 -- ---- the place of an area, sought from a place on
 pub record Seeking (k : Kept) (a : Area) (from i : ℕ) : Type 0 where
@@ -78,24 +90,29 @@ pub seek-start : (k : Kept) (a : Area) (from : ℕ) → Sound k → from ≤ k .
 seek-start k a from h l = record { sound = h; inside = l; same = refl }
 
 module _ {k : Kept} {a : Area} {from i : ℕ} {r : ShelfRecord} {b : Bool} (s : Seeking k a from i) where
-  seek-is : i < k .n → r ≡ getD (k .all) i noRecord → b ≡ sameArea (areaOf r) a → sameArea (areaOf (getD (listOf k) i noRecord)) a ≡ b
+  seek-is : i < k .n → r ≡ getD (k .all) i noRecord → b ≡ sameArea (areaOf r) a
+      → sameArea (areaOf (getD (listOf k) i noRecord)) a ≡ b
   seek-is l e t = ap (λ (x : ShelfRecord). sameArea (areaOf x) a) (list-at k i l ∙ sym e) ∙ sym t
 
-  pub seek-on : i < k .n → r ≡ getD (k .all) i noRecord → b ≡ sameArea (areaOf r) a → b ≡ false → Seeking k a from (i + 1)
+  pub seek-on : i < k .n → r ≡ getD (k .all) i noRecord → b ≡ sameArea (areaOf r) a → b ≡ false
+      → Seeking k a from (i + 1)
   seek-on l e t f =
       let w : i < length (listOf k) = rw (list-length k (s .sound)) l in
-      let p : placeOf a (drop i (listOf k)) ≡ suc (placeOf a (drop (suc i) (listOf k))) = place-later a (listOf k) i w (seek-is l e t ∙ f) in
+      let p : placeOf a (drop i (listOf k)) ≡ suc (placeOf a (drop (suc i) (listOf k))) = place-later a (listOf k) i w
+      (seek-is l e t ∙ f) in
       let q = s .same in
       record { sound = s .sound; inside = omega arith; same = rw (add-one i) (omega arith) }
 
-  pub seek-stop : i < k .n → r ≡ getD (k .all) i noRecord → b ≡ sameArea (areaOf r) a → b ≡ true → (i ≡ from + placeOf a (drop from (listOf k))) × (i ≤ k .n)
+  pub seek-stop : i < k .n → r ≡ getD (k .all) i noRecord → b ≡ sameArea (areaOf r) a → b ≡ true
+      → (i ≡ from + placeOf a (drop from (listOf k))) × (i ≤ k .n)
   seek-stop l e t f =
       let w : i < length (listOf k) = rw (list-length k (s .sound)) l in
       let p : placeOf a (drop i (listOf k)) ≡ 0 = place-here a (listOf k) i w (seek-is l e t ∙ f) in
       let q = s .same in
       (omega arith, s .inside)
 
-pub seek-end : {k : Kept} {a : Area} {from i : ℕ} → Seeking k a from i → k .n ≤ i → (k .n ≡ from + placeOf a (drop from (listOf k))) × (k .n ≤ k .n)
+pub seek-end : {k : Kept} {a : Area} {from i : ℕ} → Seeking k a from i → k .n ≤ i
+    → (k .n ≡ from + placeOf a (drop from (listOf k))) × (k .n ≤ k .n)
 unfolding placeOf
 seek-end {k} {a} {from} {i} s l =
     let m : length (listOf k) ≤ i = rw (list-length k (s .sound)) l in
@@ -114,7 +131,8 @@ pub record Pairing (k : Kept) (i : ℕ) : Type 0 where
 pub pair-start : (k : Kept) → Sound k → Pairing k 0
 pair-start k h = record { sound = h; inside = omega arith; same = refl }
 
-module _ {k : Kept} {i p : ℕ} {r : ShelfRecord} (s : Pairing k i) (l : i < k .n) (e : r ≡ getD (k .all) i noRecord) (t : p ≡ i + 1 + placeOf (areaOf r) (drop (i + 1) (listOf k))) where
+module _ {k : Kept} {i p : ℕ} {r : ShelfRecord} (s : Pairing k i) (l : i < k .n) (e : r ≡ getD (k .all) i noRecord)
+    (t : p ≡ i + 1 + placeOf (areaOf r) (drop (i + 1) (listOf k))) where
   behind : Area → Bool
   behind a = among a (drop (suc i) (listOf k))
 
@@ -123,7 +141,8 @@ module _ {k : Kept} {i p : ℕ} {r : ShelfRecord} (s : Pairing k i) (l : i < k .
   pair-is =
       let w : i < length (listOf k) = rw (list-length k (s .sound)) l in
       let z : getD (listOf k) i noRecord ≡ r = list-at k i l ∙ sym e in
-      no-two-step (listOf k) i w ∙ ap (λ (x : ShelfRecord). not (among (areaOf x) (drop (suc i) (listOf k))) && noTwo (drop (suc i) (listOf k))) z
+      no-two-step (listOf k) i w ∙ ap (λ (x : ShelfRecord). not (among (areaOf x) (drop (suc i) (listOf k))) && noTwo
+      (drop (suc i) (listOf k))) z
 
   place-is : p ≡ suc i + placeOf (areaOf r) (drop (suc i) (listOf k))
   place-is = t ∙ ap (λ (j : ℕ). j + placeOf (areaOf r) (drop j (listOf k))) (add-one i)
@@ -152,7 +171,8 @@ module _ {k : Kept} {i p : ℕ} {r : ShelfRecord} (s : Pairing k i) (l : i < k .
 pub pair-end : {k : Kept} {i : ℕ} → Pairing k i → k .n ≤ i → true ≡ noTwo (listOf k)
 unfolding noTwo
 pair-end {k} {i} s l =
-    let m : length (listOf k) ≤ i = rw (list-length k (s .sound)) l in sym (ap noTwo (drop-of-length-le (listOf k) m)) ∙ s .same
+    let m : length (listOf k) ≤ i = rw (list-length k (s .sound)) l in sym (ap noTwo (drop-of-length-le (listOf k) m))
+    ∙ s .same
 
 -- ---- the sum of lengths, taken from room
 pub record Summing (k : Kept) (room i left : ℕ) : Type 0 where
@@ -164,7 +184,8 @@ pub sum-start : (k : Kept) (room : ℕ) → Sound k → Summing k room 0 room
 unfolding sum
 sum-start k room h = record { sound = h; inside = omega arith; same = omega arith }
 
-module _ {k : Kept} {room i left : ℕ} {r : ShelfRecord} (s : Summing k room i left) (l : i < k .n) (e : r ≡ getD (k .all) i noRecord) where
+module _ {k : Kept} {room i left : ℕ} {r : ShelfRecord} (s : Summing k room i left) (l : i < k .n)
+    (e : r ≡ getD (k .all) i noRecord) where
   len-is : getD (listOf k) i noRecord .len ≡ r .len
   len-is = ap (λ (x : ShelfRecord). x .len) (list-at k i l ∙ sym e)
 
@@ -179,11 +200,13 @@ module _ {k : Kept} {room i left : ℕ} {r : ShelfRecord} (s : Summing k room i 
       record { sound = s .sound; inside = omega arith; same = rw (add-one i) (omega arith) }
 
   pub sum-stop : left < r .len → false ≡ leb (sum (listOf k)) room
-  sum-stop h = let z = len-is in let q = sum-at (listOf k) i within in let v = s .same in sym (lt-leb (sum (listOf k)) room (omega arith))
+  sum-stop h = let z = len-is in let q = sum-at (listOf k) i within in let v = s .same in sym
+      (lt-leb (sum (listOf k)) room (omega arith))
 
 pub sum-end : {k : Kept} {room i left : ℕ} → Summing k room i left → k .n ≤ i → true ≡ leb (sum (listOf k)) room
 sum-end {k} {room} {i} s l =
-    let z : sum (take i (listOf k)) ≡ sum (listOf k) = ap sum (take-all i (listOf k) (rw (list-length k (s .sound)) l)) in
+    let z : sum (take i (listOf k)) ≡ sum (listOf k) = ap sum
+    (take-all i (listOf k) (rw (list-length k (s .sound)) l)) in
     let v = s .same in
     sym (le-leb (sum (listOf k)) room (omega arith))
 
@@ -196,28 +219,40 @@ pub record Shifting (k : Kept) (i : ℕ) (b : Kept) (j : ℕ) : Type 0 where
   pub same : take j (b .all) ≡ take j (dropAt i (k .all))
 
 pub shift-start : (k : Kept) (i : ℕ) → Sound k → i < k .n → Shifting k i k i
-shift-start k i h l = record { sound = h; low = omega arith; high = l; wide = h .wide; same = sym (take-before i (k .all)) }
+shift-start k i h l = record {
+  sound = h;
+  low = omega arith;
+  high = l;
+  wide = h .wide;
+  same = sym
+      (take-before i (k .all));
+}
 
-pub shift-on : {k b b' : Kept} {i j : ℕ} {r : ShelfRecord} → Shifting k i b j → j + 1 < k .n → r ≡ getD (k .all) (j + 1) noRecord → b' .all ≡ set (b .all) j r
+pub shift-on : {k b b' : Kept} {i j : ℕ} {r : ShelfRecord} → Shifting k i b j → j + 1 < k .n
+    → r ≡ getD (k .all) (j + 1) noRecord → b' .all ≡ set (b .all) j r
     → Shifting k i b' (j + 1)
 shift-on {k} {b} {b'} {i} {j} {r} s l e d =
     let w : length (b .all) ≡ 64 = s .wide in
     let w' : length (k .all) ≡ 64 = s .sound .wide in
     let f : k .n ≤ 64 = s .sound .few in
     let lo : i ≤ j = s .low in
-    let x : r ≡ getD (dropAt i (k .all)) j noRecord = e ∙ ap (λ (m : ℕ). getD (k .all) m noRecord) (add-one j) ∙ sym (drop-next i j (k .all) lo) in
+    let x : r ≡ getD (dropAt i (k .all)) j noRecord = e ∙ ap (λ (m : ℕ). getD (k .all) m noRecord) (add-one j)
+    ∙ sym (drop-next i j (k .all) lo) in
     let m : length (dropAt i (k .all)) + 1 ≡ length (k .all) = drop-length i (k .all) (omega arith) in
     let p : take (suc j) (set (b .all) j r) ≡ take j (b .all) ++ (r ∷ []) = take-suc-set (b .all) j r (omega arith) in
-    let q : take (suc j) (dropAt i (k .all)) ≡ take j (dropAt i (k .all)) ++ (getD (dropAt i (k .all)) j noRecord ∷ []) = take-suc (dropAt i (k .all)) j noRecord (omega arith) in
+    let q : take (suc j) (dropAt i (k .all)) ≡ take j (dropAt i (k .all)) ++ (getD (dropAt i (k .all)) j noRecord
+    ∷ []) = take-suc (dropAt i (k .all)) j noRecord (omega arith) in
     record {
       sound = s .sound;
       low = omega arith;
       high = l;
       wide = ap length d ∙ length-set (b .all) j r ∙ w;
-      same = rw (add-one j) (ap (take (suc j)) d ∙ p ∙ ap₂ (λ (t : List ShelfRecord) (y : ShelfRecord). t ++ (y ∷ [])) (s .same) x ∙ sym q);
+      same = rw (add-one j) (ap (take (suc j)) d ∙ p ∙ ap₂ (λ (t : List ShelfRecord) (y : ShelfRecord). t ++ (y ∷ []))
+          (s .same) x ∙ sym q);
     }
 
-pub shift-end : {k b b' : Kept} {i j : ℕ} → Shifting k i b j → k .n ≤ j + 1 → b' .all ≡ b .all → b' .n ≡ j → (Stands b' (dropAt i (listOf k))) × (b' .n + 1 ≡ k .n)
+pub shift-end : {k b b' : Kept} {i j : ℕ} → Shifting k i b j → k .n ≤ j + 1 → b' .all ≡ b .all → b' .n ≡ j
+    → (Stands b' (dropAt i (listOf k))) × (b' .n + 1 ≡ k .n)
 shift-end {k} {b} {b'} {i} {j} s l d m =
     let h : j < k .n = s .high in
     let f : k .n ≤ 64 = s .sound .few in
@@ -246,27 +281,33 @@ make-some {k} {b} {room} s e f =
     let z : b .n ≡ 0 = let g = ltb-false 0 (b .n) y in omega arith in
     never {b = false} (sym f ∙ e ∙ ap (λ (n : ℕ). roomy room (take n (b .all))) z ∙ roomy-none room) refl)
 
-pub make-oldest : {k b : Kept} {room i : ℕ} {t : Bool} → Making k room b → t ≡ roomy room (listOf b) → t ≡ false → i ≡ oldestOf (b .all) (b .n) → i < b .n
+pub make-oldest : {k b : Kept} {room i : ℕ} {t : Bool} → Making k room b → t ≡ roomy room (listOf b) → t ≡ false
+    → i ≡ oldestOf (b .all) (b .n) → i < b .n
 make-oldest {k} {b} {room} s e f o =
     let p : 0 < b .n = make-some s e f in
     let z : suc (b .n - 1) ≡ b .n = omega arith in
     let l : oldestOf (b .all) (suc (b .n - 1)) < suc (b .n - 1) = oldest-lt (b .all) (b .n - 1) in
     rw o (rw z at l)
 
-pub make-on : {k b b' : Kept} {room i : ℕ} {t : Bool} → Making k room b → t ≡ roomy room (listOf b) → t ≡ false → i ≡ oldestOf (b .all) (b .n)
+pub make-on : {k b b' : Kept} {room i : ℕ} {t : Bool} → Making k room b → t ≡ roomy room (listOf b) → t ≡ false
+    → i ≡ oldestOf (b .all) (b .n)
     → (Stands b' (dropAt i (listOf b))) × (b' .n + 1 ≡ b .n) → Making k room b'
 make-on {k} {b} {b'} {room} {i} s e f o d =
-    let q : oldest (listOf b) ≡ i = ap (oldestOf (listOf b)) (list-length b (s .sound)) ∙ oldest-take (b .all) (b .n) (b .n) (omega arith) ∙ sym o in
+    let q : oldest (listOf b) ≡ i = ap (oldestOf (listOf b)) (list-length b (s .sound))
+    ∙ oldest-take (b .all) (b .n) (b .n) (omega arith) ∙ sym o in
     let n : b .n ≡ suc (b' .n) = let m = d .1 in omega arith in
-    let p : makeRoom (suc (b' .n)) room (listOf b) ≡ makeRoom (b' .n) room (dropAt (oldest (listOf b)) (listOf b)) = made-more (b' .n) room (listOf b) (sym e ∙ f) in
+    let p : makeRoom (suc (b' .n)) room (listOf b) ≡ makeRoom (b' .n) room
+    (dropAt (oldest (listOf b)) (listOf b)) = made-more (b' .n) room (listOf b) (sym e ∙ f) in
     record {
       sound = d .0 .sound;
       same =
-          ap (makeRoom (b' .n) room) (d .0 .same) ∙ ap (λ (x : ℕ). makeRoom (b' .n) room (dropAt x (listOf b))) (sym q) ∙ sym p
+          ap (makeRoom (b' .n) room) (d .0 .same) ∙ ap (λ (x : ℕ). makeRoom (b' .n) room (dropAt x (listOf b))) (sym q)
+          ∙ sym p
           ∙ ap (λ (x : ℕ). makeRoom x room (listOf b)) (sym n) ∙ s .same;
     }
 
-pub make-end : {k b : Kept} {room : ℕ} {t : Bool} → Making k room b → t ≡ roomy room (listOf b) → t ≡ true → (Stands b (makeRoom (k .n) room (listOf k))) × (b .n < 64)
+pub make-end : {k b : Kept} {room : ℕ} {t : Bool} → Making k room b → t ≡ roomy room (listOf b) → t ≡ true
+    → (Stands b (makeRoom (k .n) room (listOf k))) × (b .n < 64)
 unfolding roomy
 make-end {k} {b} {room} s e f =
     let r : roomy room (listOf b) ≡ true = sym e ∙ f in
@@ -282,7 +323,8 @@ pick-later x y best i l = rw (lt-ltb x y l)
 pub pick-first : (x y best i : ℕ) → y ≤ x → best ≡ cond (ltb x y) i best
 pick-first x y best i l = rw (le-ltb x y l)
 
-pub oldest-on : (rs : List ShelfRecord) (i : ℕ) {best x : ℕ} → best ≡ oldestOf rs i → x ≡ older rs best i → (x ≡ oldestOf rs (i + 1)) × (x ≤ i + 1)
+pub oldest-on : (rs : List ShelfRecord) (i : ℕ) {best x : ℕ} → best ≡ oldestOf rs i → x ≡ older rs best i
+    → (x ≡ oldestOf rs (i + 1)) × (x ≤ i + 1)
 unfolding oldestOf
 oldest-on rs i {best} {x} e d =
     let w : x ≡ oldestOf rs (suc i) = d ∙ ap (λ (k : ℕ). older rs k i) e in
@@ -301,23 +343,31 @@ module _ (k : Kept) (a : Area) {i : ℕ} (e : i ≡ placeOf a (listOf k)) where
       let m : length (listOf k) ≤ placeOf a (listOf k) = let n = list-length k h in omega arith in
       record { sound = h; same = sym (drop-none (placeOf a (listOf k)) (listOf k) m) }
 
-pub roomy-is : (k : Kept) (room : ℕ) {t : Bool} → Sound k → t ≡ leb (sum (listOf k)) room → (ltb (k .n) 64 && t) ≡ roomy room (listOf k)
+pub roomy-is : (k : Kept) (room : ℕ) {t : Bool} → Sound k → t ≡ leb (sum (listOf k)) room
+    → (ltb (k .n) 64 && t) ≡ roomy room (listOf k)
 unfolding roomy all
-roomy-is k room h e = rw (list-length k h, e) (ap (λ (b : Bool). ltb (k .n) 64 && b) (sym (and-true (leb (sum (listOf k)) room))))
+roomy-is k room h e = rw (list-length k h, e) (ap (λ (b : Bool). ltb (k .n) 64 && b)
+    (sym (and-true (leb (sum (listOf k)) room))))
 
 -- ---- entering, and another stamp
-pub entered-stands : (k : Kept) {o s b : Kept} {r : ShelfRecord} (x : Shelf) (a : Area) (len : ℕ) → Stands o (without a (listOf k))
-    → (Stands s (makeRoom (o .n) (x .limit - len) (listOf o))) × (s .n < 64) → r ≡ recordOf a len (x .count + 1) → Pushed s r b
+pub entered-stands : (k : Kept) {o s b : Kept} {r : ShelfRecord} (x : Shelf) (a : Area) (len : ℕ)
+    → Stands o (without a (listOf k))
+    → (Stands s (makeRoom (o .n) (x .limit - len) (listOf o))) × (s .n < 64) → r ≡ recordOf a len (x .count + 1)
+    → Pushed s r b
     → Stands b (entered x (listOf k) a len)
 unfolding entered staying
 entered-stands k {o} {s} {b} {r} x a len ho hs e p =
     let n : o .n ≡ length (without a (listOf k)) = sym (list-length o (ho .sound)) ∙ ap length (ho .same) in
-    let z : makeRoom (o .n) (x .limit - len) (listOf o) ≡ makeRoom (length (without a (listOf k))) (x .limit - len) (without a (listOf k)) =
+    let z : makeRoom (o .n) (x .limit - len) (listOf o) ≡ makeRoom (length (without a (listOf k))) (x .limit - len)
+    (without a (listOf k)) =
     ap₂ (λ (m : ℕ) (t : List ShelfRecord). makeRoom m (x .limit - len) t) n (ho .same) in
-    let h : Stands s (makeRoom (length (without a (listOf k))) (x .limit - len) (without a (listOf k))) = record { sound = hs .0 .sound; same = hs .0 .same ∙ z } in
-    rw e at (push-stands s (makeRoom (length (without a (listOf k))) (x .limit - len) (without a (listOf k))) r b h (hs .1) p)
+    let h : Stands s (makeRoom (length (without a (listOf k))) (x .limit - len) (without a (listOf k))) = record
+    { sound = hs .0 .sound; same = hs .0 .same ∙ z } in
+    rw e at (push-stands s (makeRoom (length (without a (listOf k))) (x .limit - len) (without a (listOf k))) r b h
+    (hs .1) p)
 
-pub restamped-stands : {k b : Kept} {r q : ShelfRecord} (i stamp : ℕ) → Sound k → i < k .n → q ≡ getD (k .all) i noRecord → r ≡ recordOf (areaOf q) (q .len) stamp
+pub restamped-stands : {k b : Kept} {r q : ShelfRecord} (i stamp : ℕ) → Sound k → i < k .n
+    → q ≡ getD (k .all) i noRecord → r ≡ recordOf (areaOf q) (q .len) stamp
     → b .all ≡ set (k .all) i r → b .n ≡ k .n → Stands b (restamped (listOf k) i stamp)
 unfolding restamped
 restamped-stands {k} {b} {r} {q} i stamp h l e d w m =
@@ -330,7 +380,8 @@ restamped-stands {k} {b} {r} {q} i stamp h l e d w m =
     }
 
 -- ---- questions
-pub asked-last : {n : ℕ} (qs : List Ask) (b : Bool) (m : ℕ) → in-order qs ≡ true → n ≡ asked (firstNo qs) b m → n ≡ firstNo (qs ++ ask b m ∷ [])
+pub asked-last : {n : ℕ} (qs : List Ask) (b : Bool) (m : ℕ) → in-order qs ≡ true → n ≡ asked (firstNo qs) b m
+    → n ≡ firstNo (qs ++ ask b m ∷ [])
 unfolding asked firstNo
 asked-last qs b m h e =
     test (eqb (firstNo qs) 0) (λ z. e ∙ rw z (sym (first-passes qs (ask b m ∷ []) h (eqb-true _ _ z))))
@@ -338,19 +389,22 @@ asked-last qs b m h e =
 
 -- ---- what a call changes
 module _ {c : Change} {k : Kept} (x : Shelf) (r : Answer (Option (List ShelfRecord))) where
-  pub changes-refused : (number : ℕ) → Sound k → (c .all ≡ k .all) × (c .n ≡ 0) × (c .answer ≡ answer number 0 (x .present) (x .count)) → r ≡ Refused number → Changes c x r
+  pub changes-refused : (number : ℕ) → Sound k → (c .all ≡ k .all) × (c .n ≡ 0) × (c .answer ≡ answer number 0
+      (x .present) (x .count)) → r ≡ Refused number → Changes c x r
   unfolding told newOf
   changes-refused number h e d =
       let n : c .n ≡ 0 = e .1 in
       record { answers = rw d (e .2); few = omega arith; wide = ap length (e .0) ∙ h .wide; new = rw (d, n) }
 
-  pub changes-absent : Sound k → (c .all ≡ k .all) × (c .n ≡ 0) × (c .answer ≡ answer 0 1 (x .present) (x .count)) → r ≡ Accepted none → Changes c x r
+  pub changes-absent : Sound k → (c .all ≡ k .all) × (c .n ≡ 0) × (c .answer ≡ answer 0 1 (x .present) (x .count))
+      → r ≡ Accepted none → Changes c x r
   unfolding told newOf
   changes-absent h e d =
       let n : c .n ≡ 0 = e .1 in
       record { answers = rw d (e .2); few = omega arith; wide = ap length (e .0) ∙ h .wide; new = rw (d, n) }
 
-  pub changes-done : (new : List ShelfRecord) → Stands k new → (c .all ≡ k .all) × (c .n ≡ k .n) × (c .answer ≡ answer 0 0 (k .n) (x .count + 1)) → r ≡ Accepted (some new)
+  pub changes-done : (new : List ShelfRecord) → Stands k new
+      → (c .all ≡ k .all) × (c .n ≡ k .n) × (c .answer ≡ answer 0 0 (k .n) (x .count + 1)) → r ≡ Accepted (some new)
       → Changes c x r
   unfolding told newOf
   changes-done new h e d =
@@ -374,10 +428,12 @@ module _ {A : Type 0} (qs : List Ask) (y : Answer A) {n : ℕ} (e : n ≡ firstN
   unfolding after
   after-done h = rw (← e) (rw h)
 
-module _ (x : Shelf) (room : ℕ) (rs : List ShelfRecord) (a : Area) (len : ℕ) {n : ℕ} (e : n ≡ firstNo (questions x room rs a (ask (leb len (x .limit)) 50 ∷ []))) where
+module _ (x : Shelf) (room : ℕ) (rs : List ShelfRecord) (a : Area) (len : ℕ) {n : ℕ}
+    (e : n ≡ firstNo (questions x room rs a (ask (leb len (x .limit)) 50 ∷ []))) where
   pub enter-refused : (n ≡ 0 → ⊥) → someOf (entering x room rs a len) ≡ Refused n
   unfolding entering someOf
-  enter-refused h = ap someOf (after-refused (questions x room rs a (ask (leb len (x .limit)) 50 ∷ [])) (Accepted (entered x rs a len)) e h)
+  enter-refused h = ap someOf (after-refused (questions x room rs a (ask (leb len (x .limit)) 50 ∷ []))
+      (Accepted (entered x rs a len)) e h)
 
   -- what 51 and 50 say
   pub enter-fits : n ≡ 0 → (x .count < max64) × (len ≤ x .limit)
@@ -387,7 +443,8 @@ module _ (x : Shelf) (room : ℕ) (rs : List ShelfRecord) (a : Area) (len : ℕ)
 
   pub enter-done : n ≡ 0 → someOf (entering x room rs a len) ≡ Accepted (some (entered x rs a len))
   unfolding entering someOf
-  enter-done h = ap someOf (after-done (questions x room rs a (ask (leb len (x .limit)) 50 ∷ [])) (Accepted (entered x rs a len)) e h)
+  enter-done h = ap someOf (after-done (questions x room rs a (ask (leb len (x .limit)) 50 ∷ []))
+      (Accepted (entered x rs a len)) e h)
 
 module _ (x : Shelf) (room : ℕ) (k : Kept) (a : Area) {n : ℕ} (e : n ≡ firstNo (questions x room (listOf k) a [])) where
   pub jump-refused : (n ≡ 0 → ⊥) → jumping x room (listOf k) a ≡ Refused n
@@ -401,19 +458,22 @@ module _ (x : Shelf) (room : ℕ) (k : Kept) (a : Area) {n : ℕ} (e : n ≡ fir
   pub jump-fits : n ≡ 0 → x .count < max64
   jump-fits h = ltb-true (x .count) max64 (asked-yes (questions x room (listOf k) a []) refl (sym e ∙ h) .1 .1 .1 .0)
 
-  pub jump-absent : n ≡ 0 → Sound k → {i : ℕ} → i ≡ placeOf a (listOf k) → i ≡ k .n → jumping x room (listOf k) a ≡ Accepted none
+  pub jump-absent : n ≡ 0 → Sound k → {i : ℕ} → i ≡ placeOf a (listOf k) → i ≡ k .n
+      → jumping x room (listOf k) a ≡ Accepted none
   unfolding jumpedIn among
   jump-absent h s {i} d m =
       let z = list-length k s in
       let o : length (listOf k) ≤ placeOf a (listOf k) = omega arith in
       jump-is h ∙ rw (le-ltb (placeOf a (listOf k)) (length (listOf k)) o)
 
-  pub jump-done : n ≡ 0 → Sound k → {i : ℕ} → i ≡ placeOf a (listOf k) → i < k .n → jumping x room (listOf k) a ≡ Accepted (some (restamped (listOf k) i (x .count + 1)))
+  pub jump-done : n ≡ 0 → Sound k → {i : ℕ} → i ≡ placeOf a (listOf k) → i < k .n
+      → jumping x room (listOf k) a ≡ Accepted (some (restamped (listOf k) i (x .count + 1)))
   unfolding jumpedIn among jumped
   jump-done h s {i} d m =
       let z = list-length k s in
       let o : placeOf a (listOf k) < length (listOf k) = omega arith in
       jump-is h ∙ rw (lt-ltb (placeOf a (listOf k)) (length (listOf k)) o, ← d)
 
-pub oldest-end : (rs : List ShelfRecord) (n : ℕ) {best i : ℕ} → best ≡ oldestOf rs i → best ≤ i → i ≡ n → (best ≡ oldestOf rs n) × (best ≤ n)
+pub oldest-end : (rs : List ShelfRecord) (n : ℕ) {best i : ℕ} → best ≡ oldestOf rs i → best ≤ i → i ≡ n
+    → (best ≡ oldestOf rs n) × (best ≤ n)
 oldest-end rs n {best} {i} e l m = (e ∙ ap (oldestOf rs) m, omega arith)

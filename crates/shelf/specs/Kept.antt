@@ -1,7 +1,7 @@
 -- Records by value: at most 64, the first n of an array.
 use mathlib.Core.Path.{_≡_}
 use mathlib.Core.List.{List}
-use Prim.Native.Nat.{ℕ, _≤_}
+use Prim.Native.Nat.{_≤_}
 use lib.ListN.{length, take}
 use Rattle.rules_shelf.specs.declared.ShelfRecord.{ShelfRecord}
 use Rattle.shelf.specs.declared.Kept.{Kept}

@@ -18,7 +18,8 @@ ghost use lib.ListN.{length, getD, take, drop, set, replicate};
 ghost use Rattle.rules.specs.Questions.{areaOk};
 ghost use Rattle.rules.specs.Tests.{ask, firstNo};
 ghost use Rattle.rules.specs.Values.{sameArea, max64};
-ghost use Rattle.rules_shelf.specs.Shelf.{noRecord, areaOf, recordOf, sum, placeOf, noTwo, dropAt, oldestOf, roomy, makeRoom, without, entered, restamped, shelfOk, questions, entering, jumping};
+ghost use Rattle.rules_shelf.specs.Shelf.{noRecord, areaOf, recordOf, sum, placeOf, noTwo, dropAt, oldestOf, roomy};
+ghost use Rattle.rules_shelf.specs.Shelf.{makeRoom, without, entered, restamped, shelfOk, questions, entering, jumping};
 ghost use Rattle.shelf.specs.Kept.{Sound, Stands, listOf};
 ghost use Rattle.shelf.specs.Change.{Changes, answer, someOf, clamp};
 
@@ -28,7 +29,8 @@ pub struct Kept {
     pub n: usize,
 }
 
-// What a call answers to C: a refusal number or 0, 1 where the area is absent, and the shelf's numbers afterwards. 24 bytes.
+// What a call answers to C: a refusal number or 0, 1 where the area is absent, and the shelf's
+// numbers afterwards. 24 bytes.
 #[repr(C)]
 pub struct ShelfAnswer {
     pub number: u32,
@@ -310,7 +312,8 @@ fn jump_number(a: Kept, room: usize, shelf: Shelf, g: ShelfRecord) -> u32
 // And 50.
 fn enter_number(a: Kept, room: usize, shelf: Shelf, g: ShelfRecord) -> u32
     requires { ⌜ Sound a ⌝ }
-    ensures { λ r. ⌜ r ≡ firstNo (questions shelf room (listOf a) (areaOf g) (ask (leb (g .len) (shelf .limit)) 50 ∷ [])) ⌝ }
+    ensures { λ r. ⌜ r ≡ firstNo (questions shelf room (listOf a) (areaOf g)
+        (ask (leb (g .len) (shelf .limit)) 50 ∷ [])) ⌝ }
 {
     let number = jump_number(a, room, shelf, g);
     ask(number, g.len <= shelf.limit, 50)
@@ -319,7 +322,8 @@ fn enter_number(a: Kept, room: usize, shelf: Shelf, g: ShelfRecord) -> u32
 // ---- what a call changes
 // Nothing: a refusal, or an absent area.
 fn unchanged(a: Kept, shelf: Shelf, number: u32, absent: u32) -> Change
-    ensures { λ c. ⌜ (c .all ≡ a .all) × (c .n ≡ 0) × (c .answer ≡ answer number absent (shelf .present) (shelf .count)) ⌝ }
+    ensures { λ c. ⌜ (c .all ≡ a .all) × (c .n ≡ 0)
+        × (c .answer ≡ answer number absent (shelf .present) (shelf .count)) ⌝ }
 {
     let all = a.all;
     let answer = ShelfAnswer {

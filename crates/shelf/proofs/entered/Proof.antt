@@ -9,7 +9,9 @@ returns c =
     let stays : tie.After-make-room = search in
     let stamp : tie.After-stamped = search in
     let s : tie.Start = search in
-    entered-stands (s .args .a) _ _ _ (others .without .ensures) (stays .make-room .ensures) (stamp .stamped .ensures) (c .pushed .ensures)
+    entered-stands (s .args .a) _ _ _ (others .without .ensures) (stays .make-room .ensures) (stamp .stamped .ensures)
+    (c .pushed .ensures)
 
 pub entered-spec : {M : Type 1} → statement M
-entered-spec = tie.close (tie.spec (λ c κs. search needs) (λ c. search needs) (λ c κs. search needs) (λ c. search needs) (λ c κs. search needs) (λ c κs. search needs) returns)
+entered-spec = tie.close (tie.spec (λ c κs. search needs) (λ c. search needs) (λ c κs. search needs) (λ c. search needs)
+    (λ c κs. search needs) (λ c κs. search needs) returns)

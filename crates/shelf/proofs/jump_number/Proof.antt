@@ -12,7 +12,9 @@ returns c =
     let area : tie.After-area-ok = search in
     let shelf : tie.After-shelf-ok = search in
     asked-all _ refl
-    (rw (c .ask4 .ensures, third .ask3 .ensures, second .ask2 .ensures, first .ask .ensures, area .area-ok .ensures, shelf .shelf-ok .ensures))
+    (rw (c .ask4 .ensures, third .ask3 .ensures, second .ask2 .ensures)
+    (rw (first .ask .ensures, area .area-ok .ensures, shelf .shelf-ok .ensures)))
 
 pub jump-number-spec : {M : Type 1} → statement M
-jump-number-spec = tie.close (tie.spec (λ c κs. search needs) (λ c κs. search needs) (λ c κs. search needs) (λ c κs. search needs) (λ c κs. search needs) (λ c κs. search needs) returns)
+jump-number-spec = tie.close (tie.spec (λ c κs. search needs) (λ c κs. search needs) (λ c κs. search needs)
+    (λ c κs. search needs) (λ c κs. search needs) (λ c κs. search needs) returns)

@@ -21,18 +21,23 @@ oldest-requires c κs = c .before .before .loop .inv .sound .few
 
 dropped-requires : tie.Need-dropped-requires Inv-loop μ-loop
 dropped-requires c κs =
-    let h = c .before .before .before .loop .inv in
-    (h .sound, make-oldest h (c .before .before .roomy .ensures) (not-true _ (c .before .if1 .taken)) (c .oldest .ensures .0))
+    let h = c .before .before .before .loop .inv in (
+      h .sound,
+      make-oldest h (c .before .before .roomy .ensures) (not-true _ (c .before .if1 .taken))
+          (c .oldest .ensures .0),
+    )
 
 loop-less : tie.Need-loop-less Inv-loop μ-loop
 loop-less c = let e = c .dropped .ensures .1 in omega arith
 
 loop-again : tie.Need-loop-again Inv-loop μ-loop
 loop-again c =
-    make-on (c .before .before .before .before .loop .inv) (c .before .before .before .roomy .ensures) (not-true _ (c .before .before .if1 .taken)) (c .before .oldest .ensures .0) (c .dropped .ensures)
+    make-on (c .before .before .before .before .loop .inv) (c .before .before .before .roomy .ensures)
+    (not-true _ (c .before .before .if1 .taken)) (c .before .oldest .ensures .0) (c .dropped .ensures)
 
 returns : tie.Need-returns Inv-loop μ-loop
 returns c = make-end (c .before .before .loop .inv) (c .before .roomy .ensures) (not-false _ (c .if1 .left))
 
 pub make-room-spec : {M : Type 1} → statement M
-make-room-spec = tie.close (tie.spec Inv-loop μ-loop loop-holds roomy-requires oldest-requires dropped-requires loop-less loop-again returns)
+make-room-spec = tie.close (tie.spec Inv-loop μ-loop loop-holds roomy-requires oldest-requires dropped-requires
+    loop-less loop-again returns)

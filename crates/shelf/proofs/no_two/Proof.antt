@@ -18,13 +18,16 @@ place-from-requires : tie.Need-place-from-requires Inv-loop μ-loop
 place-from-requires c κs = (c .before .before .loop .inv .sound, omega arith)
 
 returns : tie.Need-returns Inv-loop μ-loop
-returns c = pair-stop (c .before .before .before .before .loop .inv) (omega arith) (c .before .before .nth .ensures) (c .before .place-from .ensures .0) (omega arith)
+returns c = pair-stop (c .before .before .before .before .loop .inv) (omega arith) (c .before .before .nth .ensures)
+    (c .before .place-from .ensures .0) (omega arith)
 
 loop-again : tie.Need-loop-again Inv-loop μ-loop
-loop-again c = pair-on (c .before .before .before .before .loop .inv) (omega arith) (c .before .before .nth .ensures) (c .before .place-from .ensures .0) (omega arith)
+loop-again c = pair-on (c .before .before .before .before .loop .inv) (omega arith) (c .before .before .nth .ensures)
+    (c .before .place-from .ensures .0) (omega arith)
 
 returns-2 : tie.Need-returns-2 Inv-loop μ-loop
 returns-2 c = pair-end (c .before .loop .inv) (omega arith)
 
 pub no-two-spec : {M : Type 1} → statement M
-no-two-spec = tie.close (tie.spec Inv-loop μ-loop loop-holds (λ c. search needs) (λ c κs. search needs) place-from-requires returns (λ c. search needs) (λ c. search needs) loop-again returns-2)
+no-two-spec = tie.close (tie.spec Inv-loop μ-loop loop-holds (λ c. search needs) (λ c κs. search needs)
+    place-from-requires returns (λ c. search needs) (λ c. search needs) loop-again returns-2)

@@ -1,6 +1,5 @@
 use native.Mathlib.Omega.{arith}
 use Rattle.shelf.proofs.Laws.{pick-later, pick-first}
-use borrow.Author.Needs.{needs}
 use Rattle.shelf.proofs.older.Statement.{statement}
 use Rattle.shelf.proofs.older.Tie as tie
 

@@ -28,4 +28,5 @@ returns : tie.Need-returns Inv-loop μ-loop
 returns c = oldest-end _ _ (c .before .loop .inv .1) (c .before .loop .inv .2) (omega arith)
 
 pub oldest-spec : {M : Type 1} → statement M
-oldest-spec = tie.close (tie.spec Inv-loop μ-loop loop-holds (λ c. search needs) (λ c. search needs) (λ c. search needs) (λ c. search needs) (λ c κs. search needs) (λ c. search needs) (λ c. search needs) loop-again returns)
+oldest-spec = tie.close (tie.spec Inv-loop μ-loop loop-holds (λ c. search needs) (λ c. search needs) (λ c. search needs)
+    (λ c. search needs) (λ c κs. search needs) (λ c. search needs) (λ c. search needs) loop-again returns)

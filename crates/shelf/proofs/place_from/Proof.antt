@@ -17,13 +17,16 @@ loop-holds : tie.Need-loop-holds Inv-loop μ-loop
 loop-holds c = seek-start _ _ _ (c .pre .0) (c .pre .1)
 
 returns : tie.Need-returns Inv-loop μ-loop
-returns c = let l : tie.At-loop Inv-loop μ-loop = search in seek-stop (l .loop .inv) (omega arith) refl (c .before .same-area .ensures) (c .if1 .taken)
+returns c = let l : tie.At-loop Inv-loop μ-loop = search in seek-stop (l .loop .inv) (omega arith) refl
+    (c .before .same-area .ensures) (c .if1 .taken)
 
 loop-again : tie.Need-loop-again Inv-loop μ-loop
-loop-again c = let l : tie.At-loop Inv-loop μ-loop = search in seek-on (l .loop .inv) (omega arith) refl (c .before .same-area .ensures) (c .if1 .left)
+loop-again c = let l : tie.At-loop Inv-loop μ-loop = search in seek-on (l .loop .inv) (omega arith) refl
+    (c .before .same-area .ensures) (c .if1 .left)
 
 returns-2 : tie.Need-returns-2 Inv-loop μ-loop
 returns-2 c = seek-end (c .before .loop .inv) (omega arith)
 
 pub place-from-spec : {M : Type 1} → statement M
-place-from-spec = tie.close (tie.spec Inv-loop μ-loop loop-holds (λ c. search needs) (λ c. search needs) (λ c κs. search needs) returns (λ c. search needs) (λ c. search needs) loop-again returns-2)
+place-from-spec = tie.close (tie.spec Inv-loop μ-loop loop-holds (λ c. search needs) (λ c. search needs)
+    (λ c κs. search needs) returns (λ c. search needs) (λ c. search needs) loop-again returns-2)

@@ -14,4 +14,5 @@ returns c =
     simp and-true (rw (c .and2 .ensures, inner .and .ensures, two .no-two .ensures, sums .sum-fits .ensures))
 
 pub shelf-ok-spec : {M : Type 1} → statement M
-shelf-ok-spec = tie.close (tie.spec (λ c κs. search needs) (λ c κs. search needs) (λ c κs. search needs) (λ c κs. search needs) returns)
+shelf-ok-spec = tie.close (tie.spec (λ c κs. search needs) (λ c κs. search needs) (λ c κs. search needs)
+    (λ c κs. search needs) returns)

@@ -1,4 +1,5 @@
--- `shelf::table::seek_raw_shelf_jump` meets its contract: the walk of a call over a table, with `jump_change` for the function that makes the change.
+-- `shelf::table::seek_raw_shelf_jump` meets its contract: the walk of a call over a table, with
+-- `jump_change` for the function that makes the change.
 use mathlib.Core.Path.{_≡_}
 use base.Logic.{emp, id⊢}
 use contract.Monad.{factI}
@@ -43,13 +44,21 @@ seek-raw-shelf-jump-spec 𝓤 H 𝓜 𝓖 𝓡 =
     entered 𝓤 H (tripleOf 𝓤 H A f.signature (f.spec 𝓤 H A mem run))
     (tables 𝓤 H 𝓜 𝓡 code.env .C) (tables 𝓤 H 𝓜 𝓡 code.env .Λ) #seek-raw-shelf-jump code.function (code.unfolded 𝓤 H 𝓜 𝓡)
     (meets 𝓤 H A (givenOf 𝓤 H 𝓜 𝓖) mem run (tablesOf 𝓤 H 𝓜 (tables 𝓤 H 𝓜 𝓡 code.env))
-    (cited 𝓤 H (Take 𝓤 H A mem run) 𝓜 𝓡 code.env take-records.name take-records.routine code.calls-shelf·table·take-records (take-records-met.met 𝓤 H 𝓜 𝓖 𝓡))
-    (cited 𝓤 H (Write 𝓤 H A mem run) 𝓜 𝓡 code.env write-records.name write-records.routine code.calls-shelf·table·write-records (write-records-met.met 𝓤 H 𝓜 𝓖 𝓡))
-    (cited 𝓤 H (tripleOf 𝓤 H A clamped.signature (clamped.spec 𝓤 H A mem run)) 𝓜 𝓡 code.env clamped-def.name clamped-def.routine code.calls-shelf·clamped (clamped-met.met 𝓤 H 𝓜 𝓖 𝓡))
-    (cited 𝓤 H (tripleOf 𝓤 H A kept-of.signature (kept-of.spec 𝓤 H A mem run)) 𝓜 𝓡 code.env kept-of-def.name kept-of-def.routine code.calls-shelf·kept-of (kept-of-met.met 𝓤 H 𝓜 𝓖 𝓡))
-    (cited 𝓤 H (tripleOf 𝓤 H A count-of.signature (count-of.spec 𝓤 H A mem run)) 𝓜 𝓡 code.env count-of-def.name count-of-def.routine code.calls-shelf·count-of (count-of-met.met 𝓤 H 𝓜 𝓖 𝓡))
-    (cited 𝓤 H (tripleOf 𝓤 H A answer-of.signature (answer-of.spec 𝓤 H A mem run)) 𝓜 𝓡 code.env answer-of-def.name answer-of-def.routine code.calls-shelf·answer-of (answer-of-met.met 𝓤 H 𝓜 𝓖 𝓡))
+    (cited 𝓤 H (Take 𝓤 H A mem run) 𝓜 𝓡 code.env take-records.name take-records.routine
+    code.calls-shelf·table·take-records (take-records-met.met 𝓤 H 𝓜 𝓖 𝓡))
+    (cited 𝓤 H (Write 𝓤 H A mem run) 𝓜 𝓡 code.env write-records.name write-records.routine
+    code.calls-shelf·table·write-records (write-records-met.met 𝓤 H 𝓜 𝓖 𝓡))
+    (cited 𝓤 H (tripleOf 𝓤 H A clamped.signature (clamped.spec 𝓤 H A mem run)) 𝓜 𝓡 code.env clamped-def.name
+    clamped-def.routine code.calls-shelf·clamped (clamped-met.met 𝓤 H 𝓜 𝓖 𝓡))
+    (cited 𝓤 H (tripleOf 𝓤 H A kept-of.signature (kept-of.spec 𝓤 H A mem run)) 𝓜 𝓡 code.env kept-of-def.name
+    kept-of-def.routine code.calls-shelf·kept-of (kept-of-met.met 𝓤 H 𝓜 𝓖 𝓡))
+    (cited 𝓤 H (tripleOf 𝓤 H A count-of.signature (count-of.spec 𝓤 H A mem run)) 𝓜 𝓡 code.env count-of-def.name
+    count-of-def.routine code.calls-shelf·count-of (count-of-met.met 𝓤 H 𝓜 𝓖 𝓡))
+    (cited 𝓤 H (tripleOf 𝓤 H A answer-of.signature (answer-of.spec 𝓤 H A mem run)) 𝓜 𝓡 code.env answer-of-def.name
+    answer-of-def.routine code.calls-shelf·answer-of (answer-of-met.met 𝓤 H 𝓜 𝓖 𝓡))
     changes-def.name jumpAnswer jumpCall jump-answered (changes.clauses 𝓤 H A mem run)
-    (cited 𝓤 H (tripleOf 𝓤 H A changes.signature (changes.spec 𝓤 H A mem run)) 𝓜 𝓡 code.env changes-def.name changes-def.routine code.calls-shelf·jump-change (changes-met.met 𝓤 H 𝓜 𝓖 𝓡))
+    (cited 𝓤 H (tripleOf 𝓤 H A changes.signature (changes.spec 𝓤 H A mem run)) 𝓜 𝓡 code.env changes-def.name
+    changes-def.routine code.calls-shelf·jump-change (changes-met.met 𝓤 H 𝓜 𝓖 𝓡))
     (λ x ys g a. (tt, (λ sound. factI 𝓤 (Sound a) (emp 𝓤) sound), (λ r e. id⊢ 𝓤 _)))
-    (f.clauses 𝓤 H A mem run) (λ κ a gh r zs e. factI 𝓤 (out r zs ≡ jumpCall (a .1 .0) (a .0 .now) (a .1 .1 .0)) (emp 𝓤) e))
+    (f.clauses 𝓤 H A mem run) (λ κ a gh r zs e. factI 𝓤 (out r zs ≡ jumpCall (a .1 .0) (a .0 .now) (a .1 .1 .0)) (emp 𝓤)
+    e))
