@@ -1,7 +1,7 @@
 -- The laws of FNV-1a, at any width w and prime p.
 use mathlib.Core.Path.{_≡_, refl, sym, ap, _∙_}
 use mathlib.Core.List.{List, [], _∷_, _++_}
-use Prim.Native.Nat.{ℕ, _+_, _*_, _%_, _^_, _<_, _≤_}
+use Prim.Native.Nat.{ℕ, _+_, _*_, _^_, _<_, _≤_}
 use native.Mathlib.Numerals.{add-one}
 use native.Mathlib.Nat.{mod-lt}
 use native.Mathlib.Omega.{arith}
@@ -30,7 +30,8 @@ module _ (w p : ℕ) where
   below h (x ∷ a) k = below (fnvStep w p h x) a (mod-lt (bitXor h x * p) (pow-pos w))
 
   -- hashing what is left at i is one step, and then hashing what is left at i + 1
-  turn : (h i : ℕ) (s : List ℕ) → i < length s → fnvFrom w p h (drop i s) ≡ fnvFrom w p (fnvStep w p h (getD s i 0)) (drop (i + 1) s)
+  turn : (h i : ℕ) (s : List ℕ) → i < length s
+      → fnvFrom w p h (drop i s) ≡ fnvFrom w p (fnvStep w p h (getD s i 0)) (drop (i + 1) s)
   unfolding fnvFrom
   turn h i s k = ap (fnvFrom w p h) (drop-cons s i 0 k) ∙ rw add-one
 
@@ -52,7 +53,10 @@ module _ (w p : ℕ) where
     -- one step more
     pub hashing-on : {y : ℕ} → i < length s → y ≡ fnvStep w p x (getD s i 0) → Hashing h s y (i + 1)
     hashing-on k e =
-        record { within = omega (arith, k); left = ap (λ (z : ℕ). fnvFrom w p z (drop (i + 1) s)) e ∙ sym (turn x i s k) ∙ l .left }
+        record {
+          within = omega (arith, k);
+          left = ap (λ (z : ℕ). fnvFrom w p z (drop (i + 1) s)) e ∙ sym (turn x i s k) ∙ l .left;
+        }
 
     -- at the end x is the hash of all
     pub hashing-end : length s ≤ i → x ≡ fnvFrom w p h s

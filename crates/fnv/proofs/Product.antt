@@ -23,7 +23,8 @@ pub record HighestBit (n : ℕ) : Type 0 where
 pub highest-bit : (n : ℕ) → 0 < n → n < 2 ^ 64 → HighestBit n
 highest-bit n p l =
     let t = leading-top 64 n p l in
-    let e : highestBit n ≡ 2 ^ highest n = shl-exact 1 (highest n) 64 (omega arith) (omega (arith, t .1)) ∙ one-mul (2 ^ highest n) in
+    let e : highestBit n ≡ 2 ^ highest n = shl-exact 1 (highest n) 64 (omega arith) (omega (arith, t .1))
+    ∙ one-mul (2 ^ highest n) in
     record {
       few = omega (arith, t .1);
       power = e;
@@ -48,7 +49,8 @@ pub all-summed : {x p sum left : ℕ} → Summed x p sum left → left ≡ 0 →
 all-summed {x} {p} s e = s .summed ∙ ap (λ (k : ℕ). x * k % 2 ^ 64) (omega (arith, e))
 
 -- one bit more
-pub one-more : {x p sum left y : ℕ} → Summed x p sum left → HighestBit left → y ≡ (sum + x * 2 ^ highest left % 2 ^ 64) % 2 ^ 64
+pub one-more : {x p sum left y : ℕ} → Summed x p sum left → HighestBit left
+    → y ≡ (sum + x * 2 ^ highest left % 2 ^ 64) % 2 ^ 64
     → Summed x p y (left - highestBit left)
 one-more {x} {p} {sum} {left} s h e =
     let b = highestBit left in

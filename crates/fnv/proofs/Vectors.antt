@@ -32,7 +32,11 @@ vectors =
     record { bytes = []; at32 = 0x811c9dc5; at64 = 0xcbf29ce484222325 }
     ∷ record { bytes = 97 ∷ []; at32 = 0xe40c292c; at64 = 0xaf63dc4c8601ec8c }
     ∷ record { bytes = 102 ∷ 111 ∷ 111 ∷ 98 ∷ 97 ∷ 114 ∷ []; at32 = 0xbf9cf968; at64 = 0x85944171f73967e8 }
-    ∷ record { bytes = 72 ∷ 101 ∷ 108 ∷ 108 ∷ 111 ∷ 33 ∷ 0x01 ∷ 0xff ∷ 0xed ∷ []; at32 = 0xfd9d3881; at64 = 0xbd51ea7094ee6fa1 }
+    ∷ record {
+      bytes = 72 ∷ 101 ∷ 108 ∷ 108 ∷ 111 ∷ 33 ∷ 0x01 ∷ 0xff ∷ 0xed ∷ [];
+      at32 = 0xfd9d3881;
+      at64 = 0xbd51ea7094ee6fa1;
+    }
     ∷ []
 
 vectors-right : allRight vectors ≡ true

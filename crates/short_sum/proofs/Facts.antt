@@ -1,6 +1,4 @@
 -- The facts of FNV-1a and of its folded sums, proved once over the width. Assumes nothing.
-use mathlib.Core.Path.{_≡_}
-use mathlib.Core.Bool.{true}
 use Prim.Native.Nat.{ℕ, _+_, _/_, _%_, _^_, _<_, _≤_}
 use native.Mathlib.Nat.{mod-lt, lt-of-lt-of-le}
 use native.Mathlib.Omega.{arith}
@@ -9,7 +7,7 @@ use lib.Pow.{pow-pos, pow-mono, shr-lt}
 use Rattle.fnv.specs.Fnv.{basis64, prime64}
 use Rattle.fnv.proofs.Hash.{joined, step-last, below}
 use Rattle.short_sum.specs.Short.{basis32, prime32}
-use Rattle.short_sum.specs.Fold.{folded, question49}
+use Rattle.short_sum.specs.Fold.{folded}
 use Rattle.short_sum.specs.Statements.{AtEveryWidth, AtBoth}
 use Rattle.short_sum.proofs.Folding.{half}
 

@@ -1,5 +1,4 @@
 -- Change request 8: folds as they should be, in one table.
-use Prim.Native.Nat.{ℕ}
 use mathlib.Core.Path.{_≡_}
 use mathlib.Core.List.{List, [], _∷_, map}
 use Rattle.short_sum.specs.Short.{fnv32}
@@ -18,7 +17,8 @@ example f e = record { found = f; expected = e }
 abbrev pub Hold : List Example → Type 0
 Hold t = map (λ (e : Example). e .found) t ≡ map (λ (e : Example). e .expected) t
 
--- the sums of "foobar" at both widths, the bytes e8 c8, whose folded sum is the number 49, an odd width, and k below half the width and at the width
+-- the sums of "foobar" at both widths, the bytes e8 c8, whose folded sum is the number 49, an odd
+-- width, and k below half the width and at the width
 abbrev pub folds : List Example
 folds =
     example (fold 32 16 0xbf9cf968) (Sum 0x46f4)

@@ -20,7 +20,8 @@ pub record Copying (src old : List ℕ) (sum : ℕ) (new : List ℕ) (x i : ℕ)
 
 module _ {src old : List ℕ} {sum : ℕ} {new : List ℕ} {x i : ℕ} (c : Copying src old sum new x i) where
   -- one byte more
-  pub copying-on : {y : ℕ} → length src ≤ length old → i < length src → y ≡ fnvStep 64 prime64 x (getD src i 0) → Copying src old sum (set new i (getD src i 0)) y (i + 1)
+  pub copying-on : {y : ℕ} → length src ≤ length old → i < length src → y ≡ fnvStep 64 prime64 x (getD src i 0)
+      → Copying src old sum (set new i (getD src i 0)) y (i + 1)
   copying-on h k e =
       record {
         copied = rw (c .copied) (copied-more _ _ _ (omega arith) k);
@@ -36,7 +37,8 @@ module _ {src old : List ℕ} {sum : ℕ} {new : List ℕ} {x i : ℕ} (c : Copy
 
 -- one step for each of a number's four bytes
 pub four : (sum v a b c d : ℕ) → a ≡ fnvStep 64 prime64 sum (v % 256) → b ≡ fnvStep 64 prime64 a (v / 256 % 256)
-    → c ≡ fnvStep 64 prime64 b (v / 65536 % 256) → d ≡ fnvStep 64 prime64 c (v / 16777216 % 256) → d ≡ fnvFrom 64 prime64 sum (encode 4 v)
+    → c ≡ fnvStep 64 prime64 b (v / 65536 % 256) → d ≡ fnvStep 64 prime64 c (v / 16777216 % 256)
+    → d ≡ fnvFrom 64 prime64 sum (encode 4 v)
 unfolding fnvFrom encode
 four sum v a b c d ha hb hc hd =
     let e2 : v / 256 / 256 ≡ v / 65536 = div-div-eq-div-mul v 256 256 in
@@ -44,7 +46,10 @@ four sum v a b c d ha hb hc hd =
     rw (hd, hc, hb, ha, e3, e2)
 
 -- a number's low half, then its high half
-pub eight : (sum v a r : ℕ) → a ≡ fnvFrom 64 prime64 sum (encode 4 (v % 4294967296)) → r ≡ fnvFrom 64 prime64 a (encode 4 (v / 4294967296)) → r ≡ fnvFrom 64 prime64 sum (encode 8 v)
+pub eight : (sum v a r : ℕ) → a ≡ fnvFrom 64 prime64 sum (encode 4 (v % 4294967296))
+    → r ≡ fnvFrom 64 prime64 a (encode 4 (v / 4294967296)) → r ≡ fnvFrom 64 prime64 sum (encode 8 v)
 eight sum v a r ha hr =
-    hr ∙ ap (λ (y : ℕ). fnvFrom 64 prime64 y (encode 4 (v / 4294967296))) (ha ∙ ap (fnvFrom 64 prime64 sum) (encode-low 4 v))
-    ∙ sym (joined 64 prime64 sum (encode 4 v) (encode 4 (v / 4294967296))) ∙ ap (fnvFrom 64 prime64 sum) (sym (encode-add 4 4 v))
+    hr ∙ ap (λ (y : ℕ). fnvFrom 64 prime64 y (encode 4 (v / 4294967296)))
+    (ha ∙ ap (fnvFrom 64 prime64 sum) (encode-low 4 v))
+    ∙ sym (joined 64 prime64 sum (encode 4 v) (encode 4 (v / 4294967296)))
+    ∙ ap (fnvFrom 64 prime64 sum) (sym (encode-add 4 4 v))

@@ -10,7 +10,8 @@ ghost use Rattle.fnv.specs.Fnv.{fnvFrom, prime64};
 // All of src over the start of dst, and the hash of it from sum.
 pub fn copy_summed(dst: &mut [u8], src: &[u8], sum: u64) -> u64
     requires { ⌜ length (now src) ≤ length (now dst) ⌝ }
-    ensures { λ r. ⌜ (now (dst .exit) ≡ now (src .entry) ++ drop (length (now (src .entry))) (now (dst .entry))) × (r ≡ fnvFrom 64 prime64 sum (now (src .entry))) ⌝ }
+    ensures { λ r. ⌜ (now (dst .exit) ≡ now (src .entry) ++ drop (length (now (src .entry))) (now (dst .entry)))
+        × (r ≡ fnvFrom 64 prime64 sum (now (src .entry))) ⌝ }
 {
     let mut x = sum;
     let mut i = 0;
@@ -26,7 +27,8 @@ pub fn copy_summed(dst: &mut [u8], src: &[u8], sum: u64) -> u64
 // The first k bytes of src over the start of dst, and the hash of them from sum.
 pub fn copy_first_summed(dst: &mut [u8], src: &[u8], k: usize, sum: u64) -> u64
     requires { ⌜ (k ≤ length (now src)) × (k ≤ length (now dst)) ⌝ }
-    ensures { λ r. ⌜ (now (dst .exit) ≡ take k (now (src .entry)) ++ drop k (now (dst .entry))) × (r ≡ fnvFrom 64 prime64 sum (take k (now (src .entry)))) ⌝ }
+    ensures { λ r. ⌜ (now (dst .exit) ≡ take k (now (src .entry)) ++ drop k (now (dst .entry)))
+        × (r ≡ fnvFrom 64 prime64 sum (take k (now (src .entry)))) ⌝ }
 {
     copy_summed(dst, &src[0..k], sum)
 }
@@ -34,7 +36,9 @@ pub fn copy_first_summed(dst: &mut [u8], src: &[u8], k: usize, sum: u64) -> u64
 // The k bytes of src from a on, to dst from at on, and the hash of them from sum.
 pub fn copy_part_summed(dst: &mut [u8], at: usize, src: &[u8], a: usize, k: usize, sum: u64) -> u64
     requires { ⌜ (at + k ≤ length (now dst)) × (a + k ≤ length (now src)) ⌝ }
-    ensures { λ r. ⌜ (now (dst .exit) ≡ take at (now (dst .entry)) ++ (take k (drop a (now (src .entry))) ++ drop (at + k) (now (dst .entry)))) × (r ≡ fnvFrom 64 prime64 sum (take k (drop a (now (src .entry))))) ⌝ }
+    ensures { λ r. ⌜ (now (dst .exit) ≡ take at (now (dst .entry))
+        ++ (take k (drop a (now (src .entry))) ++ drop (at + k) (now (dst .entry))))
+        × (r ≡ fnvFrom 64 prime64 sum (take k (drop a (now (src .entry))))) ⌝ }
 {
     let e = a + k;
     let to = at + k;

@@ -10,8 +10,10 @@ returns : tie.Need-returns
 returns c =
     let start : tie.Start = search in
     let copy : tie.After-copy-summed = search in
-    let e : start .args .a + start .args .k - start .args .a ≡ start .args .k = omega arith in
-    (copied-part _ _ _ _ _ _ _ _ (start .pre .0) (start .pre .1) refl refl (copy .copy-summed .ensures .0), copy .copy-summed .ensures .1 ∙ rw e)
+    let e : start .args .a + start .args .k - start .args .a ≡ start .args .k = omega arith in (
+      copied-part _ _ _ _ _ _ _ _ (start .pre .0) (start .pre .1) refl refl (copy .copy-summed .ensures .0),
+      copy .copy-summed .ensures .1 ∙ rw e,
+    )
 
 pub copy-part-summed-spec : {M : Type 1} → statement M
 copy-part-summed-spec =
