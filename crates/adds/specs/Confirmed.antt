@@ -6,7 +6,9 @@ use lib.Dec.{eqb, ltb}
 use lib.ListN.{length, getD}
 use Rattle.rules.specs.declared.Confirmation.{Confirmation}
 use Rattle.rules.specs.Values.{noConfirmation}
+use Rattle.rules.specs.Sections.{confirmedLsn}
 use Rattle.rules.specs.Hints.{heldConfirmation, keepsNothing}
+use Rattle.adds.specs.Keys.{fromKey}
 use Rattle.adds.specs.Same.{sameConfirmation}
 
 -- is each of ds held in cs, which stays as it is?
@@ -21,14 +23,9 @@ absorbed (c ∷ cs) (d ∷ ds) =
 unfoldable pub unmovedBy : Confirmation → Confirmation → Bool
 unmovedBy c d = cond (ltb (c .lsn) (d .lsn)) true (cond (ltb (d .lsn) (c .lsn)) false (sameConfirmation c (heldConfirmation c d)))
 
--- those of ds from the first on whose LSN is low or more
-unfoldable pub fromLow : ℕ → List Confirmation → List Confirmation
-fromLow low [] = []
-fromLow low (d ∷ ds) = cond (ltb (d .lsn) low) (fromLow low ds) (d ∷ ds)
-
 -- what can change cs: where M are held, those below the lowest held one go again
 unfoldable pub arriving : ℕ → List Confirmation → List Confirmation → List Confirmation
-arriving most cs ds = cond (eqb (length cs) most) (fromLow (getD cs 0 noConfirmation .lsn) ds) ds
+arriving most cs ds = cond (eqb (length cs) most) (fromKey confirmedLsn (getD cs 0 noConfirmation .lsn) ds) ds
 
 -- would the held confirmations change?
 unfoldable pub confirmedChange : Bool → ℕ → List Confirmation → List Confirmation → Bool

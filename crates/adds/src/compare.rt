@@ -1,4 +1,5 @@
 // What another list's hints and confirmations would change, decided over lent tables that are only read.
+use crate::keys::skip;
 use add_hints::choice::read_arriving;
 use field::and;
 use field::or;
@@ -18,7 +19,7 @@ ghost use Rattle.tables.specs.Tables.{confirmationsIn, keptIn};
 ghost use Rattle.add_hints.specs.Merged.{unkeptIn};
 ghost use Rattle.adds.specs.Same.{sameConfirmation};
 ghost use Rattle.adds.specs.Marks.{marked, lower, unweighed, weighOne, weighed, changedBy};
-ghost use Rattle.adds.specs.Confirmed.{absorbed, unmovedBy, fromLow, arriving};
+ghost use Rattle.adds.specs.Confirmed.{absorbed, unmovedBy, arriving};
 ghost use Rattle.adds.specs.Answers.{LsnAt, Turned, HintsAnswered, ConfirmedAnswered};
 
 // The gap at a place of a list of hints, and the place.
@@ -250,22 +251,6 @@ fn absorbs(own: &[u8], n: usize, other: &[u8], m: usize, first: usize) -> bool
     true
 }
 
-// How many of the m confirmations come before the first whose LSN is low or more.
-fn below(t: &[u8], m: usize, low: u32) -> usize
-    requires { ⌜ m * 16 ≤ length (now t) ⌝ }
-    ensures { λ r. ⌜ (r ≤ m) × (drop r (confirmationsIn m (now (t .entry))) ≡ fromLow low (confirmationsIn m (now (t .entry)))) ⌝ }
-{
-    let mut j = 0;
-    while j < m {
-        let d = read_confirmation(t, j);
-        if low <= d.lsn {
-            return j;
-        }
-        j += 1;
-    }
-    j
-}
-
 // The first of the other's confirmations that can change the held ones.
 fn first_arriving(most: u32, own: &[u8], n: u32, other: &[u8], m: u32) -> usize
     requires { ⌜ (n * 16 ≤ length (now own)) × (m * 16 ≤ length (now other)) × (1 ≤ most) ⌝ }
@@ -275,7 +260,7 @@ fn first_arriving(most: u32, own: &[u8], n: u32, other: &[u8], m: u32) -> usize
         return 0;
     }
     let c = read_confirmation(own, 0);
-    below(other, m as usize, c.lsn)
+    skip(other, 16, m as usize, 0, c.lsn)
 }
 
 // Would the m confirmations of another list change the n held ones, at the limit most?

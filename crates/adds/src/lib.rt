@@ -1,5 +1,6 @@
 // What a merge of two lists would bring, from their tables, which are only read.
 pub mod compare;
+pub mod keys;
 
 use crate::compare::changes_confirmed;
 use crate::compare::changes_hints;

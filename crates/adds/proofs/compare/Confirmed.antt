@@ -20,8 +20,10 @@ use Rattle.laws.proofs.hint_lists.Rising.{rises-from, rises-all, rising→}
 use Rattle.laws.proofs.hint_lists.Merging.{nil-with, with-nil, with-left, with-right, with-both, with-cases, with-least}
 use Rattle.laws.proofs.hint_lists.Confirmations.{met-lsn, keepAll-none}
 use Rattle.laws.proofs.hint_lists.Keeping.{last-few, last-past, keepAll-merged}
+use Rattle.adds.specs.Keys.{fromKey}
 use Rattle.adds.specs.Same.{sameList, sameConfirmation}
-use Rattle.adds.specs.Confirmed.{absorbed, fromLow, arriving, confirmedChange}
+use Rattle.adds.specs.Confirmed.{absorbed, arriving, confirmedChange}
+use Rattle.adds.proofs.keys.Laws.{from-rises}
 use Rattle.adds.proofs.compare.Same.{differ, sameList-self, sameList-eq, sameConfirmation-self, sameConfirmation-eq}
 
 abbrev merged : List Confirmation → List Confirmation → List Confirmation
@@ -56,8 +58,8 @@ last-free most cs ds l =
 
 -- M are held: those below the lowest go
 module _ (most : ℕ) (c : Confirmation) (cs : List Confirmation) (full : suc (length cs) ≡ most) where
-  last-low : (ds : List Confirmation) → lastOnes most (merged (c ∷ cs) ds) ≡ lastOnes most (merged (c ∷ cs) (fromLow (c .lsn) ds))
-  unfolding fromLow
+  last-low : (ds : List Confirmation) → lastOnes most (merged (c ∷ cs) ds) ≡ lastOnes most (merged (c ∷ cs) (fromKey confirmedLsn (c .lsn) ds))
+  unfolding fromKey
   last-low [] = refl
   last-low (d ∷ ds) =
       test (ltb (d .lsn) (c .lsn))
@@ -103,15 +105,9 @@ module _ (most : ℕ) (c : Confirmation) (cs : List Confirmation) (full : suc (l
         (last-begins (heldConfirmation c d) (merged cs ds) (with-least confirmedLsn heldConfirmation cs ds)
         (above-merged cs ds (above (suc (c .lsn)) cs (omega arith) held) (above (suc (d .lsn)) ds (omega arith) (r .1)))))
 
-    -- what is left of a rising list begins at low or later
-    low-rises : (b : ℕ) (ds : List Confirmation) → Rises confirmedLsn b ds → Rises confirmedLsn (c .lsn) (fromLow (c .lsn) ds)
-    unfolding fromLow
-    low-rises b [] r = tt
-    low-rises b (d ∷ ds) r = test (ltb (d .lsn) (c .lsn)) (λ e. rw e (low-rises (suc (d .lsn)) ds (r .1))) (λ e. rw e (ltb-false (d .lsn) (c .lsn) e, r .1))
-
-    last-full : (b : ℕ) (ds : List Confirmation) → Rises confirmedLsn b ds → same (c ∷ cs) (lastOnes most (merged (c ∷ cs) ds)) ≡ absorbed (c ∷ cs) (fromLow (c .lsn) ds)
+    last-full : (b : ℕ) (ds : List Confirmation) → Rises confirmedLsn b ds → same (c ∷ cs) (lastOnes most (merged (c ∷ cs) ds)) ≡ absorbed (c ∷ cs) (fromKey confirmedLsn (c .lsn) ds)
     last-full b ds r =
-        rw (last-low ds) (last-met (fromLow (c .lsn) ds) (c .lsn) (low-rises b ds r) (omega arith) ∙ absorbed-is (c ∷ cs) (fromLow (c .lsn) ds))
+        rw (last-low ds) (last-met (fromKey confirmedLsn (c .lsn) ds) (c .lsn) (from-rises confirmedLsn b (c .lsn) ds r) (omega arith) ∙ absorbed-is (c ∷ cs) (fromKey confirmedLsn (c .lsn) ds))
 
 last-arriving : (most : ℕ) (cs ds : List Confirmation) → length cs ≤ most → 1 ≤ most → Rises confirmedLsn 0 cs → Rises confirmedLsn 0 ds
     → same cs (lastOnes most (merged cs ds)) ≡ absorbed cs (arriving most cs ds)

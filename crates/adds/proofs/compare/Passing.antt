@@ -16,7 +16,7 @@ use Rattle.rules.specs.declared.Confirmation.{Confirmation}
 use Rattle.rules.specs.declared.Hint.{Hint}
 use Rattle.rules.specs.Values.{max32, noHint, noConfirmation}
 use Rattle.rules.specs.Tests.{all}
-use Rattle.rules.specs.Sections.{hintsOk, confirmationsOk}
+use Rattle.rules.specs.Sections.{hintsOk, confirmedLsn, confirmationsOk}
 use Rattle.rules.specs.File.{decodeConfirmation}
 use Rattle.rules.specs.Hints.{heldConfirmation, joinedHints, unkept, keepAll, keepsNothing}
 use Rattle.rules.proofs.Tests.{test, never}
@@ -30,9 +30,10 @@ use Rattle.rules_lacks.specs.Lacks.{equalHint}
 use Rattle.rules_lacks.proofs.Laws.{equalHint-self}
 use Rattle.adds.specs.declared.compare.Turn.{Turn}
 use Rattle.adds.specs.declared.compare.Weighed.{Weighed}
+use Rattle.adds.specs.Keys.{fromKey}
 use Rattle.adds.specs.Same.{sameList, sameConfirmation}
 use Rattle.adds.specs.Marks.{mark, markBoth, marked, marksOf, lsnFrom, unweighed, weighOne, weighed, changedBy}
-use Rattle.adds.specs.Confirmed.{absorbed, unmovedBy, fromLow, arriving, confirmedChange}
+use Rattle.adds.specs.Confirmed.{absorbed, unmovedBy, arriving, confirmedChange}
 use Rattle.adds.specs.Answers.{LsnAt, Turned, HintsAnswered, ConfirmedAnswered}
 use Rattle.adds.proofs.compare.Same.{sameList-self}
 use Rattle.adds.proofs.compare.Marks.{next-new, next-held, next-both, lsn-unkept}
@@ -64,11 +65,6 @@ unkept-at n t {i} p = record {
   inside = p .inside;
   past = p .past;
 }
-
--- a record that was read is the next of its list
-pub read-turn : {A : Type 0} {x : A} (w : ℕ) (d : List ℕ → A) (n : ℕ) (t : List ℕ) (i : ℕ) → i < n → x ≡ recordAt w d t i
-    → drop i (records w d n t) ≡ x ∷ drop (i + 1) (records w d n t)
-read-turn w d n t i l e = records-turn w d n t i l ∙ rw (← e)
 
 module _ {xs ys : List Hint} {n m i j a b : ℕ} (p : LsnAt xs n i a) (q : LsnAt ys m j b) where
   -- the other list goes on where its LSN is lower
@@ -230,33 +226,12 @@ module _ {cs ds : List Confirmation} {r : Bool} {n m i j : ℕ} (w : Absorbing c
           test (ltb (d .lsn) (c .lsn)) (λ b. never {b = false} (rw (a, b) at h) refl)
           (λ b. let t : sameConfirmation c (heldConfirmation c d) ≡ true = rw (a, b) at h in record { own = omega arith; other = omega arith; rest = rw y (rw (a, b, t) at z) }))
 
--- those below low: j are passed
-pub record Skipping (ds : List Confirmation) (low m j : ℕ) : Type 0 where
-  pub within : j ≤ m
-  pub rest : fromLow low (drop j ds) ≡ fromLow low ds
-
-module _ {ds : List Confirmation} {low m j : ℕ} (w : Skipping ds low m j) where
-  pub skip-end : length ds ≡ m → m ≤ j → drop j ds ≡ fromLow low ds
-  unfolding fromLow
-  skip-end g l =
-      let y : drop j ds ≡ [] = drop-of-length-le ds (let k : length ds ≤ j = omega arith in k) in
-      y ∙ rw y at (w .rest)
-
-  module _ {d : Confirmation} (q : drop j ds ≡ d ∷ drop (j + 1) ds) where
-    pub skip-stop : low ≤ d .lsn → drop j ds ≡ fromLow low ds
-    unfolding fromLow
-    skip-stop l = q ∙ rw (q, le-ltb (d .lsn) low l) at (w .rest)
-
-    pub skip-on : j < m → d .lsn < low → Skipping ds low m (j + 1)
-    unfolding fromLow
-    skip-on h l = record { within = omega arith; rest = rw (q, lt-ltb (d .lsn) low l) at (w .rest) }
-
 module _ (most n : ℕ) (cs ds : List Confirmation) (k : length cs ≡ n) where
   pub arriving-all : (n ≡ most → ⊥) → ds ≡ arriving most cs ds
   unfolding arriving
   arriving-all h = sym (rw (k, ne-eqb n most h))
 
-  pub arriving-low : {c : Confirmation} {x : List Confirmation} → n ≡ most → 1 ≤ most → drop 0 cs ≡ c ∷ drop 1 cs → x ≡ fromLow (c .lsn) ds → x ≡ arriving most cs ds
+  pub arriving-low : {c : Confirmation} {x : List Confirmation} → n ≡ most → 1 ≤ most → drop 0 cs ≡ c ∷ drop 1 cs → x ≡ fromKey confirmedLsn (c .lsn) ds → x ≡ arriving most cs ds
   unfolding arriving
   arriving-low {c} h l p e =
       let z : getD cs 0 noConfirmation ≡ c = ap (λ (y : List Confirmation). getD y 0 noConfirmation) p in

@@ -1,4 +1,5 @@
-use Rattle.adds.proofs.compare.Passing.{unkept-at, read-turn, other-inside, own-inside, both-inside, turn-new, turn-held, turn-both}
+use Rattle.adds.proofs.compare.Passing.{unkept-at, other-inside, own-inside, both-inside, turn-new, turn-held, turn-both}
+use Rattle.adds.proofs.keys.Laws.{read-turn}
 use Rattle.tables.specs.Tables.{decodeKept}
 use Rattle.add_hints.specs.Merged.{decodeUnkept}
 use native.Mathlib.Omega.{arith}
