@@ -7,7 +7,7 @@ use Prim.Native.Nat.{ℕ, _-_, _*_, _≤_}
 use native.Mathlib.Omega.{arith}
 use lib.Dec.{eqb, ltb}
 use lib.ListN.{length}
-use borrow.Author.Tests.{eq-eqb, ne-eqb}
+use borrow.Author.Tests.{eqb-true, eq-eqb, ne-eqb}
 use Rattle.field.proofs.Records.{records-length}
 use Rattle.rules.specs.declared.Area.{Area}
 use Rattle.rules.specs.declared.AreaIndex.{AreaIndex}
@@ -34,10 +34,11 @@ use Rattle.rules_lacks.specs.declared.Lacks.{Lacks}
 use Rattle.lacks.specs.declared.Missing.{Missing}
 use Rattle.rules_lacks.specs.Lacks.{sameHint, confirmsAlso, lacking, lacks}
 use Rattle.lacks.specs.declared.Lacked.the-variants as lacked
-use Rattle.lacks.specs.Pass.{Missed}
-use Rattle.lacks.specs.Parts.{FramesLent, PartsWithin, standsIn, PartsLent, PartsMissed}
+use Rattle.lacks.specs.Pass.{missed}
+use Rattle.lacks.specs.Parts.{partKey, PartsWithin, standsIn, PartsLent}
 use Rattle.lacks.specs.Lacks.{lacksBy, countsIn, lackedOf, lacksIn}
-use Rattle.lacks.proofs.Parts.{parts-rise}
+use Rattle.lacks.proofs.Pass.{missed-rising, hint-key, confirmed-key}
+use Rattle.lacks.proofs.Parts.{parts-rise, parts-missed}
 
 -- ---- what the steps need
 walk-within : (a : Area) (k : ℕ) (cs : List Checkpoint) (f : ℕ) (headers store : List ℕ) (o : Option Held) (ps : List Held)
@@ -73,10 +74,10 @@ module _ {x y : AreaIndex} {t u : Tables} (j : Joins x t y u) where
   -- ---- the counts
   module _ {a b c d e : ℕ}
       (p0 : a ≡ y .checkpoints - x .checkpoints)
-      (p1 : PartsMissed (standsIn (x .frames) (t .frames) (t .store) (y .frames) (u .frames) (u .store)) (partsIn (x .parts) (t .parts)) (partsIn (y .parts) (u .parts)) b)
-      (p2 : Missed ownLsn anyLsn eqb (lsnsIn (x .malformed) (t .malformed)) (lsnsIn (y .malformed) (u .malformed)) c)
-      (p3 : Missed hintLsn hintOk sameHint (keptIn (x .hints) (t .hints)) (keptIn (y .hints) (u .hints)) d)
-      (p4 : Missed confirmedLsn confirmationOk confirmsAlso (confirmationsIn (x .confirmed) (t .confirmed)) (confirmationsIn (y .confirmed) (u .confirmed)) e) where
+      (p1 : b ≡ missed partKey (standsIn (x .frames) (t .frames) (t .store) (y .frames) (u .frames) (u .store)) (partsIn (x .parts) (t .parts)) (partsIn (y .parts) (u .parts)))
+      (p2 : c ≡ missed ownLsn eqb (lsnsIn (x .malformed) (t .malformed)) (lsnsIn (y .malformed) (u .malformed)))
+      (p3 : d ≡ missed hintLsn sameHint (keptIn (x .hints) (t .hints)) (keptIn (y .hints) (u .hints)))
+      (p4 : e ≡ missed confirmedLsn confirmsAlso (confirmationsIn (x .confirmed) (t .confirmed)) (confirmationsIn (y .confirmed) (u .confirmed))) where
     pub counts-are : _≡_ {A = Missing} (record { checkpoints = a; parts = b; malformed = c; hints = d; confirmed = e }) (countsIn x t y u)
     unfolding countsIn lacking malformedOk hintsOk confirmationsOk
     counts-are =
@@ -84,10 +85,10 @@ module _ {x y : AreaIndex} {t u : Tables} (j : Joins x t y u) where
         let g = hinting-is (j .own) in let h = hinting-is (j .other) in
         let e0 : a ≡ count (indexIn y u .scan) - count (indexIn x t .scan) =
         p0 ∙ sym (ap₂ (λ (p q : ℕ). q - p) (records-length 24 decodeCheckpoint (x .checkpoints) (t .checkpoints)) (records-length 24 decodeCheckpoint (y .checkpoints) (u .checkpoints))) in
-        let e1 = p1 0 0 (parts-rise _ _ _ _ _ _ (s .stretch .held)) (parts-rise _ _ _ _ _ _ (r .stretch .held)) in
-        let e2 = p2 _ _ _ _ (all→ _ (s .malformed) .1 .0) (all→ _ (r .malformed) .1 .0) in
-        let e3 = p3 _ _ _ _ (g .hints) (h .hints) in
-        let e4 = p4 _ _ _ _ (g .confirmed) (h .confirmed) in
+        let e1 = p1 ∙ parts-missed _ _ _ _ _ _ 0 0 _ _ (parts-rise _ _ _ _ _ _ (s .stretch .held)) (parts-rise _ _ _ _ _ _ (r .stretch .held)) in
+        let e2 = p2 ∙ missed-rising ownLsn eqb eqb-true anyLsn _ _ _ _ _ _ (all→ _ (s .malformed) .1 .0) (all→ _ (r .malformed) .1 .0) in
+        let e3 = p3 ∙ missed-rising hintLsn sameHint hint-key hintOk _ _ _ _ _ _ (g .hints) (h .hints) in
+        let e4 = p4 ∙ missed-rising confirmedLsn confirmsAlso confirmed-key confirmationOk _ _ _ _ _ _ (g .confirmed) (h .confirmed) in
         λ i. record { checkpoints = e0 i; parts = e1 i; malformed = e2 i; hints = e3 i; confirmed = e4 i }
 
 -- ---- with the numbers

@@ -1,5 +1,4 @@
 -- What another list holds and the own one does not, in tables.
-use Prim.Native.Nat.{ℕ}
 use mathlib.Core.Bool.{_&&_, not}
 use lib.Dec.{ltb}
 use Rattle.rules.specs.declared.AreaIndex.{AreaIndex}

@@ -1,6 +1,8 @@
 // What another list holds and the own one does not, decided over lent tables that are only read.
 use adds::has_id;
+use adds::keys::skip;
 use field::and;
+use field::read_u32;
 use index::is_complete;
 use index::is_stated;
 use merge::questions::merge_refuses;
@@ -17,19 +19,19 @@ use tables::read_held;
 use tables::read_hint;
 use tables::read_lsn;
 ghost use mathlib.Core.Path.{_≡_};
-ghost use mathlib.Core.Bool.{false, cond};
+ghost use mathlib.Core.Bool.{cond};
 ghost use Prim.Native.Nat.{_+_, _-_, _*_, _<_, _≤_};
-ghost use lib.Dec.{eqb};
-ghost use Rattle.index.specs.Index.{tables};
-ghost use Rattle.merge.specs.QuestionsNeeds.{Joins};
-ghost use Rattle.lacks.specs.Lacks.{lacksBy, countsIn, lackedOf, lacksIn};
 ghost use lib.ListN.{length, take, drop};
-ghost use Rattle.rules.specs.Sections.{hintLsn, hintOk, confirmedLsn, confirmationOk, ownLsn, anyLsn};
-ghost use Rattle.tables.specs.Tables.{confirmationsIn, lsnsIn, partsIn, keptIn};
-ghost use Rattle.rules_lacks.specs.Lacks.{sameHint, confirmsAlso, sameSigned};
-ghost use Rattle.lacks.specs.Pass.{fromKey, firstStands, missed, Missed, common};
+ghost use Rattle.tables.specs.Tables.{partsIn};
+ghost use Rattle.index.specs.Index.{tables};
 ghost use Rattle.parts.specs.Needs.{offsetTo};
-ghost use Rattle.lacks.specs.Parts.{nearestTo, FramesLent, PairIs, PairAt, samePartBy, partKey, PartWithin, PartsWithin, standsIn, StepIs, unpairedYet, PartsLent, PartsMissed};
+ghost use Rattle.merge.specs.QuestionsNeeds.{Joins};
+ghost use Rattle.rules_lacks.specs.Lacks.{sameHint, confirmsAlso, sameSigned};
+ghost use Rattle.lacks.specs.Lacks.{lacksBy, countsIn, lackedOf, lacksIn};
+ghost use Rattle.lacks.specs.Pass.{firstStands, missed, common};
+ghost use Rattle.lacks.specs.Sections.{widthOf, itemKey, standsFor, itemsIn, itemAt};
+ghost use Rattle.lacks.specs.Parts.{nearestTo, FramesLent, PairIs, PairAt, samePartBy, partKey};
+ghost use Rattle.lacks.specs.Parts.{PartWithin, PartsWithin, standsIn, StepIs, unpairedYet, PartsLent};
 
 // The number that refuses, or what is lacking.
 pub enum Lacked {
@@ -46,6 +48,13 @@ pub struct Missing {
     pub confirmed: u32,
 }
 
+// The sections whose records begin with an LSN, in their order.
+pub enum Section {
+    Malformed,
+    Hints,
+    Confirmed,
+}
+
 // Where a frame of each of two lists lies and, if known, how many bytes they begin with alike.
 pub struct Paired {
     pub known: bool,
@@ -56,85 +65,26 @@ pub struct Paired {
 
 // 0 where a part of the other list has one that stands for it, else 1; and the pair of frames that was looked at last.
 pub struct PartStep {
-    pub lacks: usize,
+    pub lacks: u32,
     pub pair: Paired,
 }
 
-// ---- hints
-// The first hint from number i on whose LSN is low or more.
-fn skip_hints(t: &[u8], n: usize, i: usize, low: u32) -> usize
-    requires { ⌜ (n * 8 ≤ length (now t)) × (i ≤ n) ⌝ }
-    ensures { λ r. ⌜ (r ≤ n) × (drop r (keptIn n (now (t .entry))) ≡ fromKey hintLsn low (drop i (keptIn n (now (t .entry))))) ⌝ }
+// ---- malformed LSNs, hints, confirmations
+// The bytes of a record of the section.
+fn width(s: Section) -> usize
+    ensures { λ r. ⌜ r ≡ widthOf s ⌝ }
 {
-    let mut k = i;
-    while k < n {
-        let h = read_hint(t, k);
-        if low <= h.lsn {
-            return k;
-        }
-        k += 1;
+    match s {
+        Section::Malformed => 4,
+        Section::Hints => 8,
+        Section::Confirmed => 16,
     }
-    k
 }
 
 fn same_hint(h: Hint, k: Hint) -> bool
     ensures { λ r. ⌜ r ≡ sameHint h k ⌝ }
 {
     and(h.lsn == k.lsn, h.number == k.number)
-}
-
-// 0 where hint number i stands for y, else 1.
-fn lacks_hint(t: &[u8], n: usize, i: usize, y: Hint) -> usize
-    requires { ⌜ (n * 8 ≤ length (now t)) × (i ≤ n) ⌝ }
-    ensures { λ r. ⌜ (r ≤ 1) × (r ≡ cond (firstStands sameHint (drop i (keptIn n (now (t .entry)))) y) 0 1) ⌝ }
-{
-    if n <= i {
-        return 1;
-    }
-    let h = read_hint(t, i);
-    if same_hint(h, y) { 0 } else { 1 }
-}
-
-// One pass over both lists.
-fn missing_hints(own: &[u8], n: usize, other: &[u8], m: usize) -> usize
-    requires { ⌜ (n * 8 ≤ length (now own)) × (m * 8 ≤ length (now other)) ⌝ }
-    ensures { λ r. ⌜ (r ≤ m) × (r ≡ missed hintLsn sameHint (keptIn n (now (own .entry))) (keptIn m (now (other .entry)))) ⌝ }
-{
-    let mut i = 0;
-    let mut j = 0;
-    let mut count = 0;
-    while j < m {
-        let y = read_hint(other, j);
-        i = skip_hints(own, n, i, y.lsn);
-        count += lacks_hint(own, n, i, y);
-        j += 1;
-    }
-    count
-}
-
-// How many of the m hints of another list the n own ones lack.
-pub fn lacks_hints(own: &[u8], n: u32, other: &[u8], m: u32) -> u32
-    requires { ⌜ (n * 8 ≤ length (now own)) × (m * 8 ≤ length (now other)) ⌝ }
-    ensures { λ r. ⌜ Missed hintLsn hintOk sameHint (keptIn n (now (own .entry))) (keptIn m (now (other .entry))) r ⌝ }
-{
-    missing_hints(own, n as usize, other, m as usize) as u32
-}
-
-// ---- confirmations
-// The first confirmation from number i on whose LSN is low or more.
-fn skip_confirmed(t: &[u8], n: usize, i: usize, low: u32) -> usize
-    requires { ⌜ (n * 16 ≤ length (now t)) × (i ≤ n) ⌝ }
-    ensures { λ r. ⌜ (r ≤ n) × (drop r (confirmationsIn n (now (t .entry))) ≡ fromKey confirmedLsn low (drop i (confirmationsIn n (now (t .entry))))) ⌝ }
-{
-    let mut k = i;
-    while k < n {
-        let h = read_confirmation(t, k);
-        if low <= h.lsn {
-            return k;
-        }
-        k += 1;
-    }
-    k
 }
 
 fn confirms_also(c: Confirmation, d: Confirmation) -> bool
@@ -146,95 +96,56 @@ fn confirms_also(c: Confirmation, d: Confirmation) -> bool
     )
 }
 
-// 0 where confirmation number i stands for y, else 1.
-fn lacks_confirmation(t: &[u8], n: usize, i: usize, y: Confirmation) -> usize
-    requires { ⌜ (n * 16 ≤ length (now t)) × (i ≤ n) ⌝ }
-    ensures { λ r. ⌜ (r ≤ 1) × (r ≡ cond (firstStands confirmsAlso (drop i (confirmationsIn n (now (t .entry)))) y) 0 1) ⌝ }
+// Does the own record number i stand for the other's number j?
+fn stands_for(s: Section, own: &[u8], i: usize, other: &[u8], j: usize) -> bool
+    requires { ⌜ (i * widthOf s + widthOf s ≤ length (now own)) × (j * widthOf s + widthOf s ≤ length (now other)) ⌝ }
+    ensures { λ r. ⌜ r ≡ standsFor s (itemAt s (now (own .entry)) i) (itemAt s (now (other .entry)) j) ⌝ }
+{
+    match s {
+        Section::Malformed => read_lsn(own, i) == read_lsn(other, j),
+        Section::Hints => same_hint(read_hint(own, i), read_hint(other, j)),
+        Section::Confirmed => confirms_also(read_confirmation(own, i), read_confirmation(other, j)),
+    }
+}
+
+fn one_unless(b: bool) -> u32
+    ensures { λ r. ⌜ (r ≤ 1) × (r ≡ cond b 0 1) ⌝ }
+{
+    if b { 0 } else { 1 }
+}
+
+// 0 where the own record number i, of n, stands for the other's number j, else 1.
+fn lacks_one(s: Section, own: &[u8], n: usize, i: usize, other: &[u8], j: usize) -> u32
+    requires { ⌜ (n * widthOf s ≤ length (now own)) × (j * widthOf s + widthOf s ≤ length (now other)) ⌝ }
+    ensures { λ r. ⌜ (r ≤ 1)
+        × (r ≡ cond (firstStands (standsFor s) (drop i (itemsIn s n (now (own .entry))))
+        (itemAt s (now (other .entry)) j)) 0 1) ⌝ }
 {
     if n <= i {
         return 1;
     }
-    let h = read_confirmation(t, i);
-    if confirms_also(h, y) { 0 } else { 1 }
+    one_unless(stands_for(s, own, i, other, j))
 }
 
-// One pass over both lists.
-fn missing_confirmed(own: &[u8], n: usize, other: &[u8], m: usize) -> usize
-    requires { ⌜ (n * 16 ≤ length (now own)) × (m * 16 ≤ length (now other)) ⌝ }
-    ensures { λ r. ⌜ (r ≤ m) × (r ≡ missed confirmedLsn confirmsAlso (confirmationsIn n (now (own .entry))) (confirmationsIn m (now (other .entry)))) ⌝ }
+// How many of the other's m records the n own ones lack: one pass over both tables.
+fn missing_records(s: Section, own: &[u8], n: u32, other: &[u8], m: u32) -> u32
+    requires { ⌜ (n * widthOf s ≤ length (now own)) × (m * widthOf s ≤ length (now other)) ⌝ }
+    ensures { λ r. ⌜ r ≡ missed (itemKey s) (standsFor s) (itemsIn s n (now (own .entry)))
+        (itemsIn s m (now (other .entry))) ⌝ }
 {
+    let w = width(s);
+    let a = n as usize;
+    let b = m as usize;
     let mut i = 0;
     let mut j = 0;
-    let mut count = 0;
-    while j < m {
-        let y = read_confirmation(other, j);
-        i = skip_confirmed(own, n, i, y.lsn);
-        count += lacks_confirmation(own, n, i, y);
+    let mut count: u32 = 0;
+    while j < b {
+        let low = read_u32(other, j * w);
+        i = skip(own, w, a, i, low);
+        count += lacks_one(s, own, a, i, other, j);
         j += 1;
     }
     count
-}
-
-// How many of the m confirmations of another list the n own ones lack.
-pub fn lacks_confirmed(own: &[u8], n: u32, other: &[u8], m: u32) -> u32
-    requires { ⌜ (n * 16 ≤ length (now own)) × (m * 16 ≤ length (now other)) ⌝ }
-    ensures { λ r. ⌜ Missed confirmedLsn confirmationOk confirmsAlso (confirmationsIn n (now (own .entry))) (confirmationsIn m (now (other .entry))) r ⌝ }
-{
-    missing_confirmed(own, n as usize, other, m as usize) as u32
-}
-
-// ---- malformed LSNs
-// The first malformed LSN from number i on whose LSN is low or more.
-fn skip_malformed(t: &[u8], n: usize, i: usize, low: u32) -> usize
-    requires { ⌜ (n * 4 ≤ length (now t)) × (i ≤ n) ⌝ }
-    ensures { λ r. ⌜ (r ≤ n) × (drop r (lsnsIn n (now (t .entry))) ≡ fromKey ownLsn low (drop i (lsnsIn n (now (t .entry))))) ⌝ }
-{
-    let mut k = i;
-    while k < n {
-        let h = read_lsn(t, k);
-        if low <= h {
-            return k;
-        }
-        k += 1;
-    }
-    k
-}
-
-// 0 where malformed LSN number i stands for y, else 1.
-fn lacks_lsn(t: &[u8], n: usize, i: usize, y: u32) -> usize
-    requires { ⌜ (n * 4 ≤ length (now t)) × (i ≤ n) ⌝ }
-    ensures { λ r. ⌜ (r ≤ 1) × (r ≡ cond (firstStands eqb (drop i (lsnsIn n (now (t .entry)))) y) 0 1) ⌝ }
-{
-    if n <= i {
-        return 1;
-    }
-    let h = read_lsn(t, i);
-    if h == y { 0 } else { 1 }
-}
-
-// One pass over both lists.
-fn missing_malformed(own: &[u8], n: usize, other: &[u8], m: usize) -> usize
-    requires { ⌜ (n * 4 ≤ length (now own)) × (m * 4 ≤ length (now other)) ⌝ }
-    ensures { λ r. ⌜ (r ≤ m) × (r ≡ missed ownLsn eqb (lsnsIn n (now (own .entry))) (lsnsIn m (now (other .entry)))) ⌝ }
-{
-    let mut i = 0;
-    let mut j = 0;
-    let mut count = 0;
-    while j < m {
-        let y = read_lsn(other, j);
-        i = skip_malformed(own, n, i, y);
-        count += lacks_lsn(own, n, i, y);
-        j += 1;
-    }
-    count
-}
-
-// How many of the m malformed LSNs of another list the n own ones lack.
-pub fn lacks_malformed(own: &[u8], n: u32, other: &[u8], m: u32) -> u32
-    requires { ⌜ (n * 4 ≤ length (now own)) × (m * 4 ≤ length (now other)) ⌝ }
-    ensures { λ r. ⌜ Missed ownLsn anyLsn eqb (lsnsIn n (now (own .entry))) (lsnsIn m (now (other .entry))) r ⌝ }
-{
-    missing_malformed(own, n as usize, other, m as usize) as u32
 }
 
 // ---- held parts
@@ -280,8 +191,10 @@ fn nearest(s: Source, g: u32) -> Source
 
 // From s to frame number g.
 fn source_to(frames: &[u8], f: usize, s: Source, g: u32) -> Source
-    requires { ⌜ (s .offset ≡ offsetTo f (now frames) (s .frame)) × (s .offset ≤ s .frame * 4294967295) × (f * 8 ≤ length (now frames)) ⌝ }
-    ensures { λ r. ⌜ (r .frame ≡ g) × (r .offset ≡ offsetTo f (now (frames .entry)) g) × (r .offset ≤ g * 4294967295) ⌝ }
+    requires { ⌜ (s .offset ≡ offsetTo f (now frames) (s .frame)) × (s .offset ≤ s .frame * 4294967295)
+        × (f * 8 ≤ length (now frames)) ⌝ }
+    ensures { λ r. ⌜ (r .frame ≡ g) × (r .offset ≡ offsetTo f (now (frames .entry)) g)
+        × (r .offset ≤ g * 4294967295) ⌝ }
 {
     let from = nearest(s, g);
     let mut k = from.frame;
@@ -306,8 +219,11 @@ fn pair_anew(
     other_store: &[u8],
     k: u32,
 ) -> Paired
-    requires { ⌜ PairIs f (now frames) (now store) m (now «other_frames») (now «other_store») s × FramesLent f (now frames) (now store) × FramesLent m (now «other_frames») (now «other_store») × (g < f) × (k < m) ⌝ }
-    ensures { λ r. ⌜ PairAt f (now (frames .entry)) (now (store .entry)) g m (now («other_frames» .entry)) (now («other_store» .entry)) k r ⌝ }
+    requires { ⌜ PairIs f (now frames) (now store) m (now «other_frames») (now «other_store») s
+        × FramesLent f (now frames) (now store) × FramesLent m (now «other_frames») (now «other_store»)
+        × (g < f) × (k < m) ⌝ }
+    ensures { λ r. ⌜ PairAt f (now (frames .entry)) (now (store .entry)) g m (now («other_frames» .entry))
+        (now («other_store» .entry)) k r ⌝ }
 {
     let a = s.own;
     let b = s.other;
@@ -343,8 +259,11 @@ fn pair_at(
     other_store: &[u8],
     k: u32,
 ) -> Paired
-    requires { ⌜ PairIs f (now frames) (now store) m (now «other_frames») (now «other_store») s × FramesLent f (now frames) (now store) × FramesLent m (now «other_frames») (now «other_store») × (g < f) × (k < m) ⌝ }
-    ensures { λ r. ⌜ PairAt f (now (frames .entry)) (now (store .entry)) g m (now («other_frames» .entry)) (now («other_store» .entry)) k r ⌝ }
+    requires { ⌜ PairIs f (now frames) (now store) m (now «other_frames») (now «other_store») s
+        × FramesLent f (now frames) (now store) × FramesLent m (now «other_frames») (now «other_store»)
+        × (g < f) × (k < m) ⌝ }
+    ensures { λ r. ⌜ PairAt f (now (frames .entry)) (now (store .entry)) g m (now («other_frames» .entry))
+        (now («other_store» .entry)) k r ⌝ }
 {
     let a = s.own;
     let b = s.other;
@@ -369,12 +288,6 @@ fn same_part(p: Held, q: Held, n: usize) -> bool
     and(p.at == q.at, and(p.len == q.len, and(same, rest)))
 }
 
-fn one_unless(b: bool) -> usize
-    ensures { λ r. ⌜ (r ≤ 1) × (r ≡ cond b 0 1) ⌝ }
-{
-    if b { 0 } else { 1 }
-}
-
 // Does part number i of n stand for q?
 fn lacks_part(
     parts: &[u8],
@@ -389,8 +302,13 @@ fn lacks_part(
     other_frames: &[u8],
     other_store: &[u8],
 ) -> PartStep
-    requires { ⌜ (n * 24 ≤ length (now parts)) × (i ≤ n) × PairIs f (now frames) (now store) m (now «other_frames») (now «other_store») s × FramesLent f (now frames) (now store) × FramesLent m (now «other_frames») (now «other_store») × PartsWithin f (now frames) (now store) (partsIn n (now parts)) × PartWithin m (now «other_frames») (now «other_store») q ⌝ }
-    ensures { λ r. ⌜ StepIs n (now (parts .entry)) i q f (now (frames .entry)) (now (store .entry)) m (now («other_frames» .entry)) (now («other_store» .entry)) r ⌝ }
+    requires { ⌜ (n * 24 ≤ length (now parts))
+        × PairIs f (now frames) (now store) m (now «other_frames») (now «other_store») s
+        × FramesLent f (now frames) (now store) × FramesLent m (now «other_frames») (now «other_store»)
+        × PartsWithin f (now frames) (now store) (partsIn n (now parts))
+        × PartWithin m (now «other_frames») (now «other_store») q ⌝ }
+    ensures { λ r. ⌜ StepIs n (now (parts .entry)) i q f (now (frames .entry)) (now (store .entry)) m
+        (now («other_frames» .entry)) (now («other_store» .entry)) r ⌝ }
 {
     if n <= i {
         return PartStep { lacks: 1, pair: s };
@@ -414,22 +332,6 @@ fn lacks_part(
     }
 }
 
-// The first part from number i on whose checkpoint is number low or later.
-fn skip_parts(t: &[u8], n: usize, i: usize, low: u32) -> usize
-    requires { ⌜ (n * 24 ≤ length (now t)) × (i ≤ n) ⌝ }
-    ensures { λ r. ⌜ (r ≤ n) × (drop r (partsIn n (now (t .entry))) ≡ fromKey partKey low (drop i (partsIn n (now (t .entry))))) ⌝ }
-{
-    let mut k = i;
-    while k < n {
-        let h = read_held(t, k);
-        if low <= h.at {
-            return k;
-        }
-        k += 1;
-    }
-    k
-}
-
 fn unpaired() -> Paired
     ensures { λ r. ⌜ r ≡ unpairedYet ⌝ }
 {
@@ -447,51 +349,8 @@ fn unpaired() -> Paired
     }
 }
 
-// One pass over both lists.
+// How many of the h parts of another list the n own ones lack: one pass over both tables.
 fn missing_parts(
-    n: usize,
-    parts: &[u8],
-    f: usize,
-    frames: &[u8],
-    store: &[u8],
-    h: usize,
-    theirs: &[u8],
-    m: usize,
-    other_frames: &[u8],
-    other_store: &[u8],
-) -> usize
-    requires { ⌜ PartsLent n (now parts) f (now frames) (now store) × PartsLent h (now theirs) m (now «other_frames») (now «other_store») ⌝ }
-    ensures { λ r. ⌜ (r ≤ h) × (r ≡ missed partKey (standsIn f (now (frames .entry)) (now (store .entry)) m (now («other_frames» .entry)) (now («other_store» .entry))) (partsIn n (now (parts .entry))) (partsIn h (now (theirs .entry)))) ⌝ }
-{
-    let mut i = 0;
-    let mut j = 0;
-    let mut count = 0;
-    let mut s = unpaired();
-    while j < h {
-        let q = read_held(theirs, j);
-        i = skip_parts(parts, n, i, q.at);
-        let t = lacks_part(
-            parts,
-            n,
-            i,
-            q,
-            s,
-            f,
-            frames,
-            store,
-            m,
-            other_frames,
-            other_store,
-        );
-        count += t.lacks;
-        s = t.pair;
-        j += 1;
-    }
-    count
-}
-
-// How many of the h parts of another list the n own ones lack.
-pub fn lacks_parts(
     n: u32,
     parts: &[u8],
     f: u32,
@@ -503,21 +362,38 @@ pub fn lacks_parts(
     other_frames: &[u8],
     other_store: &[u8],
 ) -> u32
-    requires { ⌜ PartsLent n (now parts) f (now frames) (now store) × PartsLent h (now theirs) m (now «other_frames») (now «other_store») ⌝ }
-    ensures { λ r. ⌜ PartsMissed (standsIn f (now (frames .entry)) (now (store .entry)) m (now («other_frames» .entry)) (now («other_store» .entry))) (partsIn n (now (parts .entry))) (partsIn h (now (theirs .entry))) r ⌝ }
+    requires { ⌜ PartsLent n (now parts) f (now frames) (now store)
+        × PartsLent h (now theirs) m (now «other_frames») (now «other_store») ⌝ }
+    ensures { λ r. ⌜ r ≡ missed partKey
+        (standsIn f (now (frames .entry)) (now (store .entry)) m (now («other_frames» .entry))
+        (now («other_store» .entry))) (partsIn n (now (parts .entry))) (partsIn h (now (theirs .entry))) ⌝ }
 {
-    missing_parts(
-        n as usize,
-        parts,
-        f as usize,
-        frames,
-        store,
-        h as usize,
-        theirs,
-        m as usize,
-        other_frames,
-        other_store,
-    ) as u32
+    let b = h as usize;
+    let mut i = 0;
+    let mut j = 0;
+    let mut count: u32 = 0;
+    let mut s = unpaired();
+    while j < b {
+        let q = read_held(theirs, j);
+        i = skip(parts, 24, n as usize, i, q.at);
+        let t = lacks_part(
+            parts,
+            n as usize,
+            i,
+            q,
+            s,
+            f as usize,
+            frames,
+            store,
+            m as usize,
+            other_frames,
+            other_store,
+        );
+        count += t.lacks;
+        s = t.pair;
+        j += 1;
+    }
+    count
 }
 
 // ---- the call
@@ -569,12 +445,21 @@ fn counts(
     other_hints: &[u8],
     other_confirmed: &[u8],
 ) -> Missing
-    requires { ⌜ Joins x (tables (now checkpoints) (now frames) (now store) (now parts) (now malformed) (now hints) (now confirmed)) y (tables (now «other_checkpoints») (now «other_frames») (now «other_store») (now «other_parts») (now «other_malformed») (now «other_hints») (now «other_confirmed»)) ⌝ }
-    ensures { λ r. ⌜ r ≡ countsIn x (tables (now (checkpoints .entry)) (now (frames .entry)) (now (store .entry)) (now (parts .entry)) (now (malformed .entry)) (now (hints .entry)) (now (confirmed .entry))) y (tables (now («other_checkpoints» .entry)) (now («other_frames» .entry)) (now («other_store» .entry)) (now («other_parts» .entry)) (now («other_malformed» .entry)) (now («other_hints» .entry)) (now («other_confirmed» .entry))) ⌝ }
+    requires { ⌜ Joins x
+        (tables (now checkpoints) (now frames) (now store) (now parts) (now malformed) (now hints)
+        (now confirmed)) y
+        (tables (now «other_checkpoints») (now «other_frames») (now «other_store») (now «other_parts»)
+        (now «other_malformed») (now «other_hints») (now «other_confirmed»)) ⌝ }
+    ensures { λ r. ⌜ r ≡ countsIn x
+        (tables (now (checkpoints .entry)) (now (frames .entry)) (now (store .entry)) (now (parts .entry))
+        (now (malformed .entry)) (now (hints .entry)) (now (confirmed .entry))) y
+        (tables (now («other_checkpoints» .entry)) (now («other_frames» .entry)) (now («other_store» .entry))
+        (now («other_parts» .entry)) (now («other_malformed» .entry)) (now («other_hints» .entry))
+        (now («other_confirmed» .entry))) ⌝ }
 {
     Missing {
         checkpoints: above(x.checkpoints, y.checkpoints),
-        parts: lacks_parts(
+        parts: missing_parts(
             x.parts,
             parts,
             x.frames,
@@ -586,9 +471,21 @@ fn counts(
             other_frames,
             other_store,
         ),
-        malformed: lacks_malformed(malformed, x.malformed, other_malformed, y.malformed),
-        hints: lacks_hints(hints, x.hints, other_hints, y.hints),
-        confirmed: lacks_confirmed(confirmed, x.confirmed, other_confirmed, y.confirmed),
+        malformed: missing_records(
+            Section::Malformed,
+            malformed,
+            x.malformed,
+            other_malformed,
+            y.malformed,
+        ),
+        hints: missing_records(Section::Hints, hints, x.hints, other_hints, y.hints),
+        confirmed: missing_records(
+            Section::Confirmed,
+            confirmed,
+            x.confirmed,
+            other_confirmed,
+            y.confirmed,
+        ),
     }
 }
 
@@ -611,7 +508,12 @@ pub fn lacks(
     other_hints: &[u8],
     other_confirmed: &[u8],
 ) -> Lacked
-    ensures { λ r. ⌜ lackedOf r ≡ lacksIn x (tables (now (checkpoints .entry)) (now (frames .entry)) (now (store .entry)) (now (parts .entry)) (now (malformed .entry)) (now (hints .entry)) (now (confirmed .entry))) y (tables (now («other_checkpoints» .entry)) (now («other_frames» .entry)) (now («other_store» .entry)) (now («other_parts» .entry)) (now («other_malformed» .entry)) (now («other_hints» .entry)) (now («other_confirmed» .entry))) ⌝ }
+    ensures { λ r. ⌜ lackedOf r ≡ lacksIn x
+        (tables (now (checkpoints .entry)) (now (frames .entry)) (now (store .entry)) (now (parts .entry))
+        (now (malformed .entry)) (now (hints .entry)) (now (confirmed .entry))) y
+        (tables (now («other_checkpoints» .entry)) (now («other_frames» .entry)) (now («other_store» .entry))
+        (now («other_parts» .entry)) (now («other_malformed» .entry)) (now («other_hints» .entry))
+        (now («other_confirmed» .entry))) ⌝ }
 {
     let number = merge_refuses(
         x,

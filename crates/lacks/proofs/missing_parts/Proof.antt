@@ -6,13 +6,13 @@ use Rattle.lacks.proofs.missing_parts.Statement.{statement}
 use Rattle.lacks.proofs.missing_parts.Tie as tie
 
 abbrev Inv-loop : tie.InvT-loop
-Inv-loop n parts f frames store h theirs m other-frames other-store i₀ j₀ count₀ s₀ i j count s = PartsCounting n parts f frames store h theirs m other-frames other-store i j count s
+Inv-loop n parts f frames store h theirs m other-frames other-store b i₀ j₀ count₀ s₀ i j count s = PartsCounting n parts f frames store h theirs m other-frames other-store i j count s
 
 abbrev μ-loop : tie.MeasureT-loop
-μ-loop n parts f frames store h theirs m other-frames other-store i₀ j₀ count₀ s₀ i j count s = h - j
+μ-loop n parts f frames store h theirs m other-frames other-store b i₀ j₀ count₀ s₀ i j count s = h - j
 
 abbrev begin : tie.At-loop Inv-loop μ-loop → tie.Start Inv-loop μ-loop
-begin p = p .before .before .before .before .before .before .before .before
+begin p = search
 
 loop-holds : tie.Need-loop-holds Inv-loop μ-loop
 loop-holds c = parts-start _ _ _ _ _ _ _ _ _ _ (c .unpaired .ensures)
@@ -24,21 +24,19 @@ read-held-requires c κs =
     let start = begin at-loop in
     let r = start .pre .1 .room in let l = in-loop .loop-test .taken in omega arith
 
-skip-parts-requires : tie.Need-skip-parts-requires Inv-loop μ-loop
-skip-parts-requires c κs =
+skip-requires : tie.Need-skip-requires Inv-loop μ-loop
+skip-requires c κs =
     let at-loop : tie.At-loop Inv-loop μ-loop = search in
     let start = begin at-loop in
-    (start .pre .0 .room, at-loop .loop .inv .counting .own)
+    (omega arith, start .pre .0 .room, at-loop .loop .inv .counting .own)
 
 lacks-part-requires : tie.Need-lacks-part-requires Inv-loop μ-loop
 lacks-part-requires c κs =
-    let skipped : tie.After-skip-parts Inv-loop μ-loop = search in
     let read : tie.After-read-held Inv-loop μ-loop = search in
     let in-loop : tie.In-loop Inv-loop μ-loop = search in
     let at-loop : tie.At-loop Inv-loop μ-loop = search in
     let start = begin at-loop in (
       start .pre .0 .room,
-      skipped .skip-parts .ensures .0,
       at-loop .loop .inv .pair,
       start .pre .0 .frames,
       start .pre .1 .frames,
@@ -69,17 +67,16 @@ loop-less c =
 loop-again : tie.Need-loop-again Inv-loop μ-loop
 loop-again c =
     let lacked : tie.After-lacks-part Inv-loop μ-loop = search in
-    let skipped : tie.After-skip-parts Inv-loop μ-loop = search in
+    let skip : tie.After-skip Inv-loop μ-loop = search in
     let read : tie.After-read-held Inv-loop μ-loop = search in
     let in-loop : tie.In-loop Inv-loop μ-loop = search in
     let at-loop : tie.At-loop Inv-loop μ-loop = search in
-    parts-on _ _ _ _ _ _ _ _ _ _ (at-loop .loop .inv) (in-loop .loop-test .taken) (read .read-held .ensures) (skipped .skip-parts .ensures) (lacked .lacks-part .ensures)
+    parts-on _ _ _ _ _ _ _ _ _ _ (at-loop .loop .inv) (in-loop .loop-test .taken) (read .read-held .ensures) (skip .skip .ensures) (lacked .lacks-part .ensures)
 
 returns : tie.Need-returns Inv-loop μ-loop
 returns c =
     let at-loop : tie.At-loop Inv-loop μ-loop = search in
-    let f = at-loop .loop .inv .counting .few in let o = at-loop .loop .inv .counting .other in
-    (omega arith, parts-end _ _ _ _ _ _ _ _ _ _ (at-loop .loop .inv) (c .loop-test .left))
+    parts-end _ _ _ _ _ _ _ _ _ _ (at-loop .loop .inv) (c .loop-test .left)
 
 pub missing-parts-spec : {M : Type 1} → statement M
 missing-parts-spec =
@@ -90,7 +87,7 @@ missing-parts-spec =
     (λ c κs. search needs)
     loop-holds
     read-held-requires
-    skip-parts-requires
+    skip-requires
     lacks-part-requires
     add-count
     add-j
