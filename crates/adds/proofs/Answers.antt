@@ -1,8 +1,8 @@
 -- What a merge would bring, from the numbers and the tables. Assumes nothing.
-use mathlib.Core.Path.{_≡_, refl, sym, ap, _∙_}
-use mathlib.Core.Bool.{Bool, true, false, _&&_, not, cond}
-use mathlib.Core.List.{List, [], _∷_}
-use Prim.Native.Nat.{ℕ, _+_, _*_, _<_, _≤_}
+use mathlib.Core.Path.{_≡_, sym, _∙_}
+use mathlib.Core.Bool.{Bool, _&&_, not, cond}
+use mathlib.Core.List.{[]}
+use Prim.Native.Nat.{ℕ, _*_, _≤_}
 use native.Mathlib.Omega.{arith}
 use lib.Dec.{eqb, ltb}
 use lib.ListN.{length}
@@ -15,7 +15,7 @@ use Rattle.rules.specs.Values.{Scan, isChecked, sameCheckpoint, sameEnd}
 use Rattle.rules.specs.File.{decodeCheckpoint, decodeConfirmation}
 use Rattle.rules.specs.Merge.{further, mergedScan, mergedFingerprint, merged}
 use Rattle.rules.proofs.Tests.{test}
-use Rattle.tables.specs.Tables.{lsnsIn, confirmationsIn, framesIn, partsIn, decodeKept, keptIn}
+use Rattle.tables.specs.Tables.{lsnsIn, confirmationsIn, decodeKept, keptIn}
 use Rattle.index.specs.Index.{Tables, indexIn}
 use Rattle.sections.specs.Numbers.{endIn, idIn}
 use Rattle.index.proofs.Questions.{passes-long, passes-hints}
@@ -45,9 +45,11 @@ module _ {x y : AreaIndex} {t u : Tables} (j : Joins x t y u) where
       let h = hinting-is (j .own) .few in let n = records-length 8 decodeKept (x .hints) (t .hints) in
       (passes-hints (j .own) .hints, passes-hints (j .other) .hints, omega arith)
 
-  pub confirmed-room : (x .confirmed * 16 ≤ length (t .confirmed)) × (y .confirmed * 16 ≤ length (u .confirmed)) × (x .confirmed ≤ x .most)
+  pub confirmed-room : (x .confirmed * 16 ≤ length (t .confirmed)) × (y .confirmed * 16 ≤ length (u .confirmed))
+      × (x .confirmed ≤ x .most)
   confirmed-room =
-      let h = hinting-is (j .own) .fewer in let n = records-length 16 decodeConfirmation (x .confirmed) (t .confirmed) in
+      let h = hinting-is (j .own) .fewer in
+      let n = records-length 16 decodeConfirmation (x .confirmed) (t .confirmed) in
       (passes-hints (j .own) .confirmed, passes-hints (j .other) .confirmed, omega arith)
 
   abbrev own : Scan
@@ -58,7 +60,8 @@ module _ {x y : AreaIndex} {t u : Tables} (j : Joins x t y u) where
 
   module _ {go : Bool} (g : go ≡ furtherIn x y) where
     pub parts-read : PartsRead go x y (partTables (t .frames) (t .store) (t .parts)) (partTables (u .frames) (u .store) (u .parts))
-    parts-read = record { own = passes-long (j .own) .frames; lent = lent j g; ready = λ c ef eh eu. room j g c ef eh eu .ready }
+    parts-read =
+        record { own = passes-long (j .own) .frames; lent = lent j g; ready = λ c ef eh eu. room j g c ef eh eu .ready }
 
     go-is : go ≡ further own other
     go-is = g ∙ further-is x t y u
@@ -66,7 +69,9 @@ module _ {x y : AreaIndex} {t u : Tables} (j : Joins x t y u) where
     parts-are : partsChange go x y (partTables (t .frames) (t .store) (t .parts)) (partTables (u .frames) (u .store) (u .parts))
         ≡ someStored (own .budget) (other .frames) (length (own .checkpoints)) (cond (further own other) (other .parts) []) (record { frames = own .frames; parts = own .parts })
     unfolding partsChange records
-    parts-are = rw (records-length 24 decodeCheckpoint (x .checkpoints) (t .checkpoints), go-is) (test (further own other) (λ e. rw e) (λ e. rw e))
+    parts-are =
+        rw (records-length 24 decodeCheckpoint (x .checkpoints) (t .checkpoints), go-is)
+        (test (further own other) (λ e. rw e) (λ e. rw e))
 
     module _ {a b c d e f h i l : Bool}
         (p0 : a ≡ (go && ltb (x .checkpoints) (y .checkpoints)))
@@ -85,9 +90,11 @@ module _ {x y : AreaIndex} {t u : Tables} (j : Joins x t y u) where
           let m = records-length 24 decodeCheckpoint (y .checkpoints) (u .checkpoints) in
           let e0 : a ≡ not (sameList sameCheckpoint (own .checkpoints) (mergedScan own other .checkpoints)) =
           p0 ∙ rw go-is (sym (rw (n, m) at (checkpoints-change own other))) in
-          let e1 : b ≡ not (sameKnown sameEnd (own .ending) (mergedScan own other .ending)) = p1 ∙ rw go-is (sym (ending-change own other)) in
+          let e1 : b ≡ not (sameKnown sameEnd (own .ending) (mergedScan own other .ending)) =
+          p1 ∙ rw go-is (sym (ending-change own other)) in
           let e2 = p2 ∙ parts-are ∙ sym (parts-change own other) in
-          let e3 : d ≡ not (sameList eqb (own .malformed) (mergedScan own other .malformed)) = p4 ∙ rw (p3, go-is) (sym (malformed-change own other)) in
+          let e3 : d ≡ not (sameList eqb (own .malformed) (mergedScan own other .malformed)) =
+          p4 ∙ rw (p3, go-is) (sym (malformed-change own other)) in
           let e4 = p5 (x .area) (hinting-is (j .own) .hints) (rw (areas j) (hinting-is (j .other) .hints)) in
           let e5 = p6 (x .area) (hinting-is (j .own) .confirmed) (rw (areas j) (hinting-is (j .other) .confirmed)) in
           λ k. record { checkpoints = e0 k; ending = e1 k; parts = e2 k; malformed = e3 k; hints = e4 k; confirmed = e5 k; fingerprint = p7 k; image = p8 k }

@@ -1,6 +1,6 @@
 -- Held parts change where one of the other's further parts is stored. Assumes nothing.
-use mathlib.Core.Path.{_≡_, refl, sym, ap, _∙_}
-use mathlib.Core.Bool.{Bool, true, false, _&&_, _||_, not, cond}
+use mathlib.Core.Path.{_≡_, refl, ap, _∙_}
+use mathlib.Core.Bool.{Bool, true, false, _&&_, not, cond}
 use mathlib.Core.List.{List, [], _∷_}
 use Prim.Native.Nat.{ℕ, _+_, _<_, _≤_}
 use native.Mathlib.Omega.{arith}
@@ -8,7 +8,7 @@ use lib.Dec.{ltb}
 use lib.ListN.{length, length-append}
 use Rattle.rules.specs.declared.Held.{Held}
 use Rattle.rules.specs.Values.{Frame, Scan, count, used}
-use Rattle.rules.specs.PartRule.{Stored, Piece, opens, stores, opened, grown, addPart, piece, addParts}
+use Rattle.rules.specs.PartRule.{Stored, Piece, opens, stores, addPart, piece, addParts}
 use Rattle.rules.specs.Merge.{further, mergedScan}
 use Rattle.rules.proofs.Tests.{test, never}
 use Rattle.laws.proofs.scans.PartRule.{addParts-skip, addParts-add}
@@ -17,7 +17,6 @@ use Rattle.adds.proofs.compare.Same.{differ, sameList-self, sameList-eq
 use Rattle.adds.specs.Brings.{sameFrame, sameHeld}
 use Rattle.rules.specs.declared.AreaIndex.{AreaIndex}
 use Rattle.tables.specs.Tables.{framesIn, partsIn}
-use Rattle.parts.specs.declared.Counts.{Counts}
 use Rattle.parts.specs.Parts.{PartTables, storedIn}
 use Rattle.parts.specs.Needs.{Lent, Ready}
 use Rattle.adds.specs.Needs.{someStored, PartsRead, partsChange}
@@ -44,7 +43,8 @@ module _ (budget : ℕ) (fs : List Frame) (n : ℕ) where
   adds-nil h = refl
 
   module _ (p : Held) (ps : List Held) (h : Stored) where
-    adds-pass : ltb (p .at) n ≡ false → stores budget h (piece fs p) ≡ false → addParts budget fs n (p ∷ ps) h ≡ addParts budget fs n ps h
+    adds-pass : ltb (p .at) n ≡ false → stores budget h (piece fs p) ≡ false
+        → addParts budget fs n (p ∷ ps) h ≡ addParts budget fs n ps h
     adds-pass e f = addParts-add budget fs n p ps h e ∙ ap (addParts budget fs n ps) (add-not budget h (piece fs p) f)
 
   adds-least : (ps : List Held) (h : Stored) → length (h .parts) ≤ length (addParts budget fs n ps h .parts)
@@ -60,7 +60,8 @@ module _ (budget : ℕ) (fs : List Frame) (n : ℕ) where
       test (ltb (p .at) n) (λ f. addParts-skip budget fs n p ps h f ∙ adds-none ps h (rw f at e))
       (λ f. test (stores budget h (piece fs p)) (λ g. never {b = true} refl (rw (f, g) at e)) (λ g. adds-pass p ps h f g ∙ adds-none ps h (rw (f, g) at e)))
 
-  adds-some : (ps : List Held) (h : Stored) → someStored budget fs n ps h ≡ true → length (h .parts) < length (addParts budget fs n ps h .parts)
+  adds-some : (ps : List Held) (h : Stored) → someStored budget fs n ps h ≡ true
+      → length (h .parts) < length (addParts budget fs n ps h .parts)
   unfolding someStored
   adds-some [] h e = never {b = false} e refl
   adds-some (p ∷ ps) h e =
@@ -84,9 +85,11 @@ held-more h k l =
     and-no (sameList sameFrame (h .frames) (k .frames)) (sameList sameHeld (h .parts) (k .parts))
     (differ (sameList sameHeld) (sameList-eq sameHeld sameHeld-eq) (h .parts) (k .parts) (λ z. let y : length (h .parts) ≡ length (k .parts) = ap length z in omega arith))
 
-stored-change : (budget : ℕ) (fs : List Frame) (n : ℕ) (ps : List Held) (h : Stored) → not (heldSame h (addParts budget fs n ps h)) ≡ someStored budget fs n ps h
+stored-change : (budget : ℕ) (fs : List Frame) (n : ℕ) (ps : List Held) (h : Stored)
+    → not (heldSame h (addParts budget fs n ps h)) ≡ someStored budget fs n ps h
 stored-change budget fs n ps h =
-    test (someStored budget fs n ps h) (λ e. rw (e, held-more h (addParts budget fs n ps h) (adds-some budget fs n ps h e)))
+    test (someStored budget fs n ps h)
+    (λ e. rw (e, held-more h (addParts budget fs n ps h) (adds-some budget fs n ps h e)))
     (λ e. rw (e, adds-none budget fs n ps h e, held-self h))
 
 -- ---- of a merged list
@@ -98,16 +101,20 @@ pub parts-change : (own other : Scan)
     ≡ someStored (own .budget) (other .frames) (count own) (cond (further own other) (other .parts) []) (storedOf own)
 unfolding mergedScan someStored
 parts-change own other =
-    test (further own other) (λ e. rw e (stored-change (own .budget) (other .frames) (count own) (other .parts) (storedOf own)))
+    test (further own other)
+    (λ e. rw e (stored-change (own .budget) (other .frames) (count own) (other .parts) (storedOf own)))
     (λ e. rw (e, sameList-self sameFrame sameFrame-self (own .frames), sameList-self sameHeld sameHeld-self (own .parts)))
 
 -- ---- in the tables
-module _ {go : Bool} {x y : AreaIndex} {t u : PartTables} {h : ℕ} (p : PartsRead go x y t u) (e : h ≡ cond go (y .parts) 0) where
+module _ {go : Bool} {x y : AreaIndex} {t u : PartTables} {h : ℕ} (p : PartsRead go x y t u)
+    (e : h ≡ cond go (y .parts) 0) where
   pub parts-asked : {n : ℕ} → n ≡ used (framesIn (x .frames) (t .frames) (t .store))
       → Lent (y .frames) h u × Ready (x .budget) (record { frames = x .frames; parts = x .parts; used = n }) t
   parts-asked {n} q = rw e (p .lent, p .ready (record { frames = x .frames; parts = x .parts; used = n }) refl refl q)
 
-  pub parts-answered : {b : Bool} → b ≡ someStored (x .budget) (framesIn (y .frames) (u .frames) (u .store)) (x .checkpoints) (partsIn h (u .parts)) (storedIn (x .frames) (x .parts) t)
+  pub parts-answered : {b : Bool}
+      → b
+      ≡ someStored (x .budget) (framesIn (y .frames) (u .frames) (u .store)) (x .checkpoints) (partsIn h (u .parts)) (storedIn (x .frames) (x .parts) t)
       → b ≡ partsChange go x y t u
   unfolding partsChange
   parts-answered q = q ∙ rw e

@@ -1,5 +1,5 @@
 -- The pass over another list's parts for one that would be stored. Assumes nothing.
-use mathlib.Core.Path.{_≡_, refl, sym, ap, _∙_}
+use mathlib.Core.Path.{_≡_, refl, sym, _∙_}
 use mathlib.Core.Bool.{Bool, true, false, _&&_, _||_, not}
 use mathlib.Core.List.{List, [], _∷_}
 use Prim.Native.Nat.{ℕ, _+_, _-_, _*_, _<_, _≤_}
@@ -8,7 +8,7 @@ use lib.Dec.{ltb}
 use lib.IntN.{ℤ}
 use lib.ListN.{length, take, drop, drop-of-length-le}
 use borrow.Author.Tests.{lt-ltb, le-ltb}
-use Rattle.field.specs.Records.{records, recordAt}
+use Rattle.field.specs.Records.{recordAt}
 use Rattle.field.proofs.Records.{records-length, records-at}
 use Rattle.rules.specs.declared.Held.{Held}
 use Rattle.rules.specs.Values.{Frame, frameAt, used}
@@ -19,8 +19,7 @@ use Rattle.tables.specs.Tables.{decodeHeader, headersIn, framesOf, framesIn, pa
 use Rattle.tables.proofs.Frames.{frames-length, frame-start}
 use Rattle.tables.proofs.Walk.{records-turn}
 use Rattle.parts.specs.declared.Source.{Source}
-use Rattle.parts.specs.declared.Counts.{Counts}
-use Rattle.parts.specs.Parts.{PartTables, storedIn}
+use Rattle.parts.specs.Parts.{PartTables}
 use Rattle.parts.specs.Needs.{InOrder, Lent, offsetTo, heldPiece}
 use Rattle.parts.proofs.Adding.{bytes-inside, bytes-there}
 use Rattle.adds.specs.Needs.{someStored}
@@ -34,9 +33,11 @@ passed-by {m} {n} x l = sym (rw (lt-ltb m n l))
 
 module _ (budget n : ℕ) (h : Stored) (p : Held) (start from e : ℕ) (other : List ℕ) where
   pub stored-by : {r : Bool} {z : ℤ} → z ≡ p .remaining → e ≡ from + p .len → n ≤ p .at
-      → r ≡ stores budget h (record { at = p .at; start = start; bytes = take (e - from) (drop from other); number = p .number; kind = p .kind; remaining = z })
+      → r
+      ≡ stores budget h (record { at = p .at; start = start; bytes = take (e - from) (drop from other); number = p .number; kind = p .kind; remaining = z })
       → r ≡ (not (ltb (p .at) n) && stores budget h (heldPiece p (p .at) start (take (p .len) (drop from other))))
-  stored-by {r} {z} q s l g = let k : e - from ≡ p .len = omega arith in (rw (q, k) at g) ∙ sym (rw (le-ltb (p .at) n l))
+  stored-by {r} {z} q s l g =
+      let k : e - from ≡ p .len = omega arith in (rw (q, k) at g) ∙ sym (rw (le-ltb (p .at) n l))
 
 -- ---- the loop
 module _ (budget n f h : ℕ) (o : PartTables) (own : Stored) where
@@ -72,13 +73,15 @@ module _ (budget n f h : ℕ) (o : PartTables) (own : Stored) where
       in-order : InOrder (at .frame) others (p ∷ drop (j + 1) parts)
       in-order = rw turn at (k .order)
 
-      pub source-ready : (at .offset ≡ offsetTo f (o .frames) (at .frame)) × (at .frame ≤ p .frame) × (p .frame ≤ at .frame + 1) × (p .frame < f) × (f * 8 ≤ length (o .frames))
+      pub source-ready : (at .offset ≡ offsetTo f (o .frames) (at .frame)) × (at .frame ≤ p .frame)
+          × (p .frame ≤ at .frame + 1) × (p .frame < f) × (f * 8 ≤ length (o .frames))
           × (at .offset ≤ length (o .store))
       source-ready =
           let q = in-order in
           (k .source, q .0, q .1, rw (count f (o .frames) (o .store)) at (q .2), l .frames, k .near)
 
-      module _ {at' : Source} (there : (at' .frame ≡ p .frame) × (at' .offset ≡ offsetTo f (o .frames) (p .frame))) where
+      module _ {at' : Source}
+          (there : (at' .frame ≡ p .frame) × (at' .offset ≡ offsetTo f (o .frames) (p .frame))) where
         pub part-inside : at' .offset + p .len ≤ length (o .store)
         part-inside = let q = in-order in bytes-inside f (o .frames) (o .store) (l .store) p (there .1) (q .2) (q .3)
 
@@ -88,10 +91,12 @@ module _ (budget n f h : ℕ) (o : PartTables) (own : Stored) where
               let q = in-order in
               let u : p .frame < f = rw (count f (o .frames) (o .store)) at (q .2) in
               let e : frameAt others (p .frame) .start ≡ g .start =
-              frame-start (headersIn f (o .frames)) (o .store) (p .frame) ∙ rw (records-at 8 decodeHeader f (o .frames) (p .frame) (record { start = 0; len = 0 }) u, header) in
+              frame-start (headersIn f (o .frames)) (o .store) (p .frame)
+              ∙ rw (records-at 8 decodeHeader f (o .frames) (p .frame) (record { start = 0; len = 0 }) u, header) in
               rw (e, bytes-there f (o .frames) (o .store) (l .store) p (there .1) (q .2) (q .3))
 
-          module _ {b : Bool} (asked : b ≡ (not (ltb (p .at) n) && stores budget own (heldPiece p (p .at) (g .start) (take (p .len) (drop (at' .offset) (o .store)))))) where
+          module _ {b : Bool}
+              (asked : b ≡ (not (ltb (p .at) n) && stores budget own (heldPiece p (p .at) (g .start) (take (p .len) (drop (at' .offset) (o .store)))))) where
             next : (b || someStored budget others n (drop (j + 1) parts) own) ≡ r
             unfolding someStored
             next = rw (asked, piece-is) (rw turn at (k .rest))

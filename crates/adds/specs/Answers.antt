@@ -34,8 +34,11 @@ pub record Turned (xs ys : List Hint) (n m i j : ℕ) (r : Turn) : Type 0 where
 
 -- would hints ys, without their marks, change the held xs? Of lists that pass question 4
 abbrev pub HintsAnswered : ℕ → List Hint → List Hint → Bool → Type 0
-HintsAnswered most xs ys r = (a : Area) → hintsOk a xs ≡ true → hintsOk a ys ≡ true → r ≡ not (sameList equalHint xs (joinedHints a most xs (unkept ys)))
+HintsAnswered most xs ys r =
+    (a : Area) → hintsOk a xs ≡ true → hintsOk a ys ≡ true
+    → r ≡ not (sameList equalHint xs (joinedHints a most xs (unkept ys)))
 
 abbrev pub ConfirmedAnswered : Bool → ℕ → List Confirmation → List Confirmation → Bool → Type 0
 ConfirmedAnswered checked most cs ds r =
-    (a : Area) → confirmationsOk a cs ≡ true → confirmationsOk a ds ≡ true → r ≡ not (sameList sameConfirmation cs (keepAll checked most cs ds))
+    (a : Area) → confirmationsOk a cs ≡ true → confirmationsOk a ds ≡ true
+    → r ≡ not (sameList sameConfirmation cs (keepAll checked most cs ds))

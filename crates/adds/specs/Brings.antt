@@ -1,7 +1,6 @@
 -- What a merge would bring: in what the list afterwards differs from the own one.
-use Prim.Native.Nat.{ℕ}
 use mathlib.Core.Bool.{Bool, true, false, _&&_, not}
-use mathlib.Core.List.{List, [], _∷_}
+use mathlib.Core.List.{[], _∷_}
 use mathlib.Core.Option.{Option, none, some}
 use lib.Dec.{eqb}
 use Rattle.field.specs.Number.{sameBytes}
@@ -53,7 +52,8 @@ bringsOf own x =
     record {
       checkpoints = not (sameList sameCheckpoint (own .scan .checkpoints) (x .scan .checkpoints));
       ending = not (sameKnown sameEnd (own .scan .ending) (x .scan .ending));
-      parts = not (sameList sameFrame (own .scan .frames) (x .scan .frames) && sameList sameHeld (own .scan .parts) (x .scan .parts));
+      parts =
+          not (sameList sameFrame (own .scan .frames) (x .scan .frames) && sameList sameHeld (own .scan .parts) (x .scan .parts));
       malformed = not (sameList eqb (own .scan .malformed) (x .scan .malformed));
       hints = not (sameList equalHint (own .hinting .hints) (x .hinting .hints));
       confirmed = not (sameList sameConfirmation (own .hinting .confirmed) (x .hinting .confirmed));

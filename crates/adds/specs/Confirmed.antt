@@ -21,7 +21,8 @@ absorbed (c ∷ cs) (d ∷ ds) =
 
 -- has d a later LSN than c, or the same one and c stays?
 unfoldable pub unmovedBy : Confirmation → Confirmation → Bool
-unmovedBy c d = cond (ltb (c .lsn) (d .lsn)) true (cond (ltb (d .lsn) (c .lsn)) false (sameConfirmation c (heldConfirmation c d)))
+unmovedBy c d =
+    cond (ltb (c .lsn) (d .lsn)) true (cond (ltb (d .lsn) (c .lsn)) false (sameConfirmation c (heldConfirmation c d)))
 
 -- what can change cs: where M are held, those below the lowest held one go again
 unfoldable pub arriving : ℕ → List Confirmation → List Confirmation → List Confirmation

@@ -27,11 +27,13 @@ someStored budget fs n (p ∷ ps) h = (not (ltb (p .at) n) && stores budget h (p
 pub record PartsRead (go : Bool) (x y : AreaIndex) (t u : PartTables) : Type 0 where
   pub own : x .frames * 8 ≤ length (t .frames)
   pub lent : Lent (y .frames) (cond go (y .parts) 0) u
-  pub ready : (c : Counts) → c .frames ≡ x .frames → c .parts ≡ x .parts → c .used ≡ used (framesIn (x .frames) (t .frames) (t .store)) → Ready (x .budget) c t
+  pub ready : (c : Counts) → c .frames ≡ x .frames → c .parts ≡ x .parts
+      → c .used ≡ used (framesIn (x .frames) (t .frames) (t .store)) → Ready (x .budget) c t
 
 unfoldable pub partsChange : Bool → AreaIndex → AreaIndex → PartTables → PartTables → Bool
 partsChange go x y t u =
-    someStored (x .budget) (framesIn (y .frames) (u .frames) (u .store)) (x .checkpoints) (partsIn (cond go (y .parts) 0) (u .parts)) (storedIn (x .frames) (x .parts) t)
+    someStored (x .budget) (framesIn (y .frames) (u .frames) (u .store)) (x .checkpoints)
+    (partsIn (cond go (y .parts) 0) (u .parts)) (storedIn (x .frames) (x .parts) t)
 
 -- ---- all of it
 unfoldable pub bringsIn : AreaIndex → Tables → AreaIndex → Tables → Brings

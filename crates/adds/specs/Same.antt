@@ -1,5 +1,4 @@
 -- Sameness of lists and of what they hold.
-use Prim.Native.Nat.{ℕ}
 use mathlib.Core.Bool.{Bool, true, false, _&&_}
 use mathlib.Core.List.{List, [], _∷_}
 use lib.Dec.{eqb}
@@ -14,4 +13,5 @@ sameList same (x ∷ xs) [] = false
 sameList same (x ∷ xs) (y ∷ ys) = same x y && sameList same xs ys
 
 unfoldable pub sameConfirmation : Confirmation → Confirmation → Bool
-sameConfirmation c d = all (eqb (c .lsn) (d .lsn) ∷ eqb (c .threshold) (d .threshold) ∷ eqb (c .digest) (d .digest) ∷ [])
+sameConfirmation c d =
+    all (eqb (c .lsn) (d .lsn) ∷ eqb (c .threshold) (d .threshold) ∷ eqb (c .digest) (d .digest) ∷ [])

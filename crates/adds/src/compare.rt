@@ -232,7 +232,8 @@ fn met(c: Confirmation, d: Confirmation, j: usize) -> usize
 // Is each of the other's confirmations from number first on held, which stays as it is?
 fn absorbs(own: &[u8], n: usize, other: &[u8], m: usize, first: usize) -> bool
     requires { ⌜ (n * 16 ≤ length (now own)) × (m * 16 ≤ length (now other)) × (first ≤ m) ⌝ }
-    ensures { λ r. ⌜ r ≡ absorbed (confirmationsIn n (now (own .entry))) (drop first (confirmationsIn m (now (other .entry)))) ⌝ }
+    ensures { λ r. ⌜ r ≡ absorbed (confirmationsIn n (now (own .entry)))
+        (drop first (confirmationsIn m (now (other .entry)))) ⌝ }
 {
     let mut i = 0;
     let mut j = first;
@@ -254,7 +255,9 @@ fn absorbs(own: &[u8], n: usize, other: &[u8], m: usize, first: usize) -> bool
 // The first of the other's confirmations that can change the held ones.
 fn first_arriving(most: u32, own: &[u8], n: u32, other: &[u8], m: u32) -> usize
     requires { ⌜ (n * 16 ≤ length (now own)) × (m * 16 ≤ length (now other)) × (1 ≤ most) ⌝ }
-    ensures { λ r. ⌜ (r ≤ m) × (drop r (confirmationsIn m (now (other .entry))) ≡ arriving most (confirmationsIn n (now (own .entry))) (confirmationsIn m (now (other .entry)))) ⌝ }
+    ensures { λ r. ⌜ (r ≤ m)
+        × (drop r (confirmationsIn m (now (other .entry))) ≡ arriving most
+        (confirmationsIn n (now (own .entry))) (confirmationsIn m (now (other .entry)))) ⌝ }
 {
     if n != most {
         return 0;
@@ -266,7 +269,8 @@ fn first_arriving(most: u32, own: &[u8], n: u32, other: &[u8], m: u32) -> usize
 // Would the m confirmations of another list change the n held ones, at the limit most?
 pub fn changes_confirmed(checked: bool, most: u32, own: &[u8], n: u32, other: &[u8], m: u32) -> bool
     requires { ⌜ (n * 16 ≤ length (now own)) × (m * 16 ≤ length (now other)) × (n ≤ most) ⌝ }
-    ensures { λ r. ⌜ ConfirmedAnswered checked most (confirmationsIn n (now (own .entry))) (confirmationsIn m (now (other .entry))) r ⌝ }
+    ensures { λ r. ⌜ ConfirmedAnswered checked most (confirmationsIn n (now (own .entry)))
+        (confirmationsIn m (now (other .entry))) r ⌝ }
 {
     if !checked {
         return false;

@@ -108,8 +108,13 @@ fn stores_one(
     store: &[u8],
     parts: &[u8],
 ) -> bool
-    requires { ⌜ Ready budget c (partTables (now frames) (now store) (now parts)) × (from + p .len ≤ length (now other)) ⌝ }
-    ensures { λ r. ⌜ r ≡ (not (ltb (p .at) n) && stores budget (storedIn (c .frames) (c .parts) (partTables (now (frames .entry)) (now (store .entry)) (now (parts .entry)))) (heldPiece p (p .at) start (take (p .len) (drop from (now (other .entry)))))) ⌝ }
+    requires { ⌜ Ready budget c (partTables (now frames) (now store) (now parts))
+        × (from + p .len ≤ length (now other)) ⌝ }
+    ensures { λ r. ⌜ r
+        ≡ (not (ltb (p .at) n) && stores budget
+        (storedIn (c .frames) (c .parts)
+        (partTables (now (frames .entry)) (now (store .entry)) (now (parts .entry))))
+        (heldPiece p (p .at) start (take (p .len) (drop from (now (other .entry)))))) ⌝ }
 {
     if p.at < n {
         return false;
@@ -140,8 +145,12 @@ fn stores_some(
     store: &[u8],
     parts: &[u8],
 ) -> bool
-    requires { ⌜ Lent f h (partTables (now headers) (now other) (now theirs)) × Ready budget c (partTables (now frames) (now store) (now parts)) ⌝ }
-    ensures { λ r. ⌜ r ≡ someStored budget (framesIn f (now (headers .entry)) (now (other .entry))) n (partsIn h (now (theirs .entry))) (storedIn (c .frames) (c .parts) (partTables (now (frames .entry)) (now (store .entry)) (now (parts .entry)))) ⌝ }
+    requires { ⌜ Lent f h (partTables (now headers) (now other) (now theirs))
+        × Ready budget c (partTables (now frames) (now store) (now parts)) ⌝ }
+    ensures { λ r. ⌜ r ≡ someStored budget (framesIn f (now (headers .entry)) (now (other .entry))) n
+        (partsIn h (now (theirs .entry)))
+        (storedIn (c .frames) (c .parts)
+        (partTables (now (frames .entry)) (now (store .entry)) (now (parts .entry)))) ⌝ }
 {
     let mut at = Source {
         frame: 0,
@@ -183,8 +192,11 @@ fn changes_parts(
     store: &[u8],
     parts: &[u8],
 ) -> bool
-    requires { ⌜ PartsRead go x y (partTables (now frames) (now store) (now parts)) (partTables (now headers) (now other) (now theirs)) ⌝ }
-    ensures { λ r. ⌜ r ≡ partsChange go x y (partTables (now (frames .entry)) (now (store .entry)) (now (parts .entry))) (partTables (now (headers .entry)) (now (other .entry)) (now (theirs .entry))) ⌝ }
+    requires { ⌜ PartsRead go x y (partTables (now frames) (now store) (now parts))
+        (partTables (now headers) (now other) (now theirs)) ⌝ }
+    ensures { λ r. ⌜ r ≡ partsChange go x y
+        (partTables (now (frames .entry)) (now (store .entry)) (now (parts .entry)))
+        (partTables (now (headers .entry)) (now (other .entry)) (now (theirs .entry))) ⌝ }
 {
     let c = Counts {
         frames: x.frames,
@@ -227,8 +239,17 @@ fn brought(
     other_hints: &[u8],
     other_confirmed: &[u8],
 ) -> Brings
-    requires { ⌜ Joins x (tables (now checkpoints) (now frames) (now store) (now parts) (now malformed) (now hints) (now confirmed)) y (tables (now «other_checkpoints») (now «other_frames») (now «other_store») (now «other_parts») (now «other_malformed») (now «other_hints») (now «other_confirmed»)) ⌝ }
-    ensures { λ r. ⌜ r ≡ bringsIn x (tables (now (checkpoints .entry)) (now (frames .entry)) (now (store .entry)) (now (parts .entry)) (now (malformed .entry)) (now (hints .entry)) (now (confirmed .entry))) y (tables (now («other_checkpoints» .entry)) (now («other_frames» .entry)) (now («other_store» .entry)) (now («other_parts» .entry)) (now («other_malformed» .entry)) (now («other_hints» .entry)) (now («other_confirmed» .entry))) ⌝ }
+    requires { ⌜ Joins x
+        (tables (now checkpoints) (now frames) (now store) (now parts) (now malformed) (now hints)
+        (now confirmed)) y
+        (tables (now «other_checkpoints») (now «other_frames») (now «other_store») (now «other_parts»)
+        (now «other_malformed») (now «other_hints») (now «other_confirmed»)) ⌝ }
+    ensures { λ r. ⌜ r ≡ bringsIn x
+        (tables (now (checkpoints .entry)) (now (frames .entry)) (now (store .entry)) (now (parts .entry))
+        (now (malformed .entry)) (now (hints .entry)) (now (confirmed .entry))) y
+        (tables (now («other_checkpoints» .entry)) (now («other_frames» .entry)) (now («other_store» .entry))
+        (now («other_parts» .entry)) (now («other_malformed» .entry)) (now («other_hints» .entry))
+        (now («other_confirmed» .entry))) ⌝ }
 {
     let go = further(x, y);
     let a = x.fingerprint;
@@ -284,7 +305,12 @@ pub fn adds(
     other_hints: &[u8],
     other_confirmed: &[u8],
 ) -> Added
-    ensures { λ r. ⌜ addsOf r ≡ addsIn x (tables (now (checkpoints .entry)) (now (frames .entry)) (now (store .entry)) (now (parts .entry)) (now (malformed .entry)) (now (hints .entry)) (now (confirmed .entry))) y (tables (now («other_checkpoints» .entry)) (now («other_frames» .entry)) (now («other_store» .entry)) (now («other_parts» .entry)) (now («other_malformed» .entry)) (now («other_hints» .entry)) (now («other_confirmed» .entry))) ⌝ }
+    ensures { λ r. ⌜ addsOf r ≡ addsIn x
+        (tables (now (checkpoints .entry)) (now (frames .entry)) (now (store .entry)) (now (parts .entry))
+        (now (malformed .entry)) (now (hints .entry)) (now (confirmed .entry))) y
+        (tables (now («other_checkpoints» .entry)) (now («other_frames» .entry)) (now («other_store» .entry))
+        (now («other_parts» .entry)) (now («other_malformed» .entry)) (now («other_hints» .entry))
+        (now («other_confirmed» .entry))) ⌝ }
 {
     let number = merge_refuses(
         x,

@@ -44,7 +44,8 @@ returns c =
     let after-further : tie.After-further = search in
     let start = begin after-further in
     brought-is (start .pre) (after-further .further .ensures) (after-and .and .ensures)
-    (rw (after-is-complete .is-complete .ensures) at (after-and2 .and2 .ensures)) (after-changes-parts .changes-parts .ensures)
+    (rw (after-is-complete .is-complete .ensures) at (after-and2 .and2 .ensures))
+    (after-changes-parts .changes-parts .ensures)
     (after-same-lsns .same-lsns .ensures) (after-and3 .and3 .ensures) (after-changes-hints .changes-hints .ensures)
     (rw (after-is-checked .is-checked .ensures) at (after-changes-confirmed .changes-confirmed .ensures))
     (after-fills-fingerprint .fills-fingerprint .ensures) (c .fills-image .ensures)

@@ -4,10 +4,14 @@ use Rattle.adds.proofs.changes_parts.Statement.{statement}
 use Rattle.adds.proofs.changes_parts.Tie as tie
 
 stores-some-requires : tie.Need-stores-some-requires
-stores-some-requires c κs = parts-asked (c .before .before .before .before .before .before .before .before .pre) (c .taken .ensures) (c .before .used-bytes .ensures _)
+stores-some-requires c κs =
+    let start : tie.Start = search in
+    parts-asked (start .pre) (c .taken .ensures) (c .before .used-bytes .ensures _)
 
 returns : tie.Need-returns
-returns c = parts-answered (c .before .before .before .before .before .before .before .before .before .pre) (c .before .taken .ensures) (c .stores-some .ensures)
+returns c =
+    let start : tie.Start = search in
+    parts-answered (start .pre) (c .before .taken .ensures) (c .stores-some .ensures)
 
 pub changes-parts-spec : {M : Type 1} → statement M
 changes-parts-spec =

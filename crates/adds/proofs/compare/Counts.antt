@@ -1,6 +1,6 @@
 -- Counting below a bound, and the places of a rising list that are kept. Assumes nothing.
 use mathlib.Core.Path.{_≡_, refl, sym, ap, _∙_}
-use mathlib.Core.Bool.{Bool, true, false, not}
+use mathlib.Core.Bool.{Bool, true, false}
 use mathlib.Core.List.{List, [], _∷_, _++_}
 use Prim.Native.Nat.{ℕ, zero, suc, _+_, _<_, _≤_}
 use native.Mathlib.Omega.{arith}
@@ -12,8 +12,8 @@ use Rattle.rules.specs.declared.Hint.{Hint}
 use Rattle.rules.specs.Values.{noHint}
 use Rattle.rules.specs.Sections.{hintLsn}
 use Rattle.rules.specs.Hints.{countOf, kept}
-use Rattle.rules.proofs.Tests.{test, never}
-use Rattle.laws.proofs.hint_lists.Lists.{All, all-sub, all-append}
+use Rattle.rules.proofs.Tests.{test}
+use Rattle.laws.proofs.hint_lists.Lists.{All, all-sub}
 use Rattle.laws.specs.Order.{Rises}
 use Rattle.laws.proofs.hint_lists.Rising.{rises-split}
 use Rattle.laws.proofs.hint_lists.Ranks.{one, count-next, count-none, count-le}
@@ -26,10 +26,12 @@ module _ (p q : ℕ → Bool) where
   pub count-under : (n : ℕ) → ((k : ℕ) → k < n → p k ≡ true → q k ≡ true) → countOf p n ≤ countOf q n
   count-under zero h = rw (count-none p, count-none q) (omega arith)
   count-under (suc n) h =
-      rw (count-next p n, count-next q n) (omega (arith, count-under n (λ k l. h k (omega arith)), one-under n (h n (omega arith))))
+      rw (count-next p n, count-next q n)
+      (omega (arith, count-under n (λ k l. h k (omega arith)), one-under n (h n (omega arith))))
 
   -- one that passes q alone
-  pub count-strict : (n i : ℕ) → i < n → ((k : ℕ) → k < n → p k ≡ true → q k ≡ true) → p i ≡ false → q i ≡ true → countOf p n < countOf q n
+  pub count-strict : (n i : ℕ) → i < n → ((k : ℕ) → k < n → p k ≡ true → q k ≡ true) → p i ≡ false → q i ≡ true
+      → countOf p n < countOf q n
   count-strict zero i l h e f = let z : ⊥ = omega arith in absurd z
   count-strict (suc n) i l h e f =
       test (eqb i n)
@@ -38,7 +40,8 @@ module _ (p q : ℕ → Bool) where
       rw (count-next p n, count-next q n, e', f') (omega (arith, count-under n (λ k m. h k (omega arith)))))
       (λ t. let z = eqb-false i n t in
       let m : i < n = omega (arith, z) in
-      rw (count-next p n, count-next q n) (omega (arith, count-strict n i m (λ k w. h k (omega arith)) e f, one-under n (h n (omega arith)))))
+      rw (count-next p n, count-next q n)
+      (omega (arith, count-strict n i m (λ k w. h k (omega arith)) e f, one-under n (h n (omega arith)))))
 
 -- a place below n that passes p
 pub record Passing (p : ℕ → Bool) (n : ℕ) : Type 0 where
@@ -61,7 +64,8 @@ count-full p (suc n) e k l =
     let c = count-next p n in let u = count-le p n in
     test (p n)
     (λ t. let e' : countOf p n ≡ n = let w : countOf p (suc n) ≡ countOf p n + 1 = rw t at c in omega arith in
-    test (eqb k n) (λ y. rw (eqb-true k n y) t) (λ y. let z = eqb-false k n y in count-full p n e' k (omega (arith, z))))
+    test (eqb k n) (λ y. rw (eqb-true k n y) t)
+    (λ y. let z = eqb-false k n y in count-full p n e' k (omega (arith, z))))
     (λ t. let w : countOf p (suc n) ≡ countOf p n + 0 = rw t at c in let z : ⊥ = omega arith in absurd z)
 
 none-snoc : (xs : List Hint) (h : Hint) → [] ≡ xs ++ (h ∷ []) → ⊥
@@ -77,7 +81,8 @@ snoc-eq (x ∷ xs) (y ∷ ys) h e = let p : x ≡ y = cc in let q = snoc-eq xs y
 module _ (b : ℕ) (hs : List Hint) (r : Rises hintLsn b hs) where
   before-below : (n : ℕ) → n < length hs → All (λ h. h .lsn < getD hs n noHint .lsn) (take n hs)
   before-below n l =
-      let s : take n hs ++ (getD hs n noHint ∷ drop (suc n) hs) ≡ hs = ap (λ (x : List Hint). take n hs ++ x) (sym (drop-cons hs n noHint l)) ∙ take-append-drop n hs in
+      let s : take n hs ++ (getD hs n noHint ∷ drop (suc n) hs) ≡ hs =
+      ap (λ (x : List Hint). take n hs ++ x) (sym (drop-cons hs n noHint l)) ∙ take-append-drop n hs in
       rises-split hintLsn b (take n hs) (getD hs n noHint) (drop (suc n) hs) (rw s r) .2
 
   kept-below : (p : ℕ → Bool) (n : ℕ) → n < length hs → All (λ h. h .lsn < getD hs n noHint .lsn) (kept p hs n)

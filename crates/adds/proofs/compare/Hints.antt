@@ -1,8 +1,8 @@
 -- Whether another list's hints change the held ones, by one pass over both. Assumes nothing.
-use mathlib.Core.Path.{_≡_, refl, sym, ap, _∙_}
-use mathlib.Core.Bool.{Bool, true, false, not, cond}
-use mathlib.Core.List.{List, [], _∷_}
-use Prim.Native.Nat.{ℕ, _+_, _-_, _/_, _<_, _≤_}
+use mathlib.Core.Path.{_≡_, sym, ap, _∙_}
+use mathlib.Core.Bool.{Bool, true, false, not}
+use mathlib.Core.List.{List}
+use Prim.Native.Nat.{ℕ, _-_, _/_, _<_, _≤_}
 use native.Mathlib.Omega.{arith}
 use lib.Dec.{eqb, leb}
 use lib.ListN.{length, getD, List·getD-eq-default}
@@ -10,13 +10,13 @@ use lib.Seq.{take-length}
 use borrow.Author.Tests.{eqb-true, eqb-false, leb-true, leb-false, ltb-true, ne-eqb, le-leb, lt-leb}
 use Rattle.rules.specs.declared.Area.{Area}
 use Rattle.rules.specs.declared.Hint.{Hint}
-use Rattle.rules.specs.Values.{noHint, lim, max32}
+use Rattle.rules.specs.Values.{noHint, lim}
 use Rattle.rules.specs.Sections.{hintLsn, hintOk, hintsOk}
 use Rattle.rules.specs.Hints.{countOf, kept, thin, insertAll, limitedTo, joinedHints, unkept}
 use Rattle.rules.proofs.Tests.{test}
 use Rattle.laws.specs.Order.{Rises}
 use Rattle.laws.proofs.Marks.{unkept-ok}
-use Rattle.laws.proofs.hint_lists.Lists.{All, all-map, all-at}
+use Rattle.laws.proofs.hint_lists.Lists.{all-map, all-at}
 use Rattle.laws.proofs.hint_lists.Rising.{rising→, rising-each}
 use Rattle.laws.proofs.hint_lists.Hints.{insertAll-keeps, hints-insert}
 use Rattle.laws.proofs.hint_lists.Adding.{insertAll-rising}
@@ -28,7 +28,7 @@ use Rattle.adds.specs.Same.{sameList}
 use Rattle.adds.specs.Marks.{marked, lower, unweighed, weighed, changedBy}
 use Rattle.adds.proofs.compare.Same.{differ, sameList-self, sameList-eq}
 use Rattle.adds.proofs.compare.Counts.{count-full}
-use Rattle.adds.proofs.compare.Marks.{hintsOf, noMark, newAt, someReplaced, hints-length, hints-at, marked-hints, kept-all-held, new-unkept}
+use Rattle.adds.proofs.compare.Marks.{hintsOf, newAt, someReplaced, hints-length, hints-at, marked-hints, kept-all-held, new-unkept}
 use Rattle.adds.proofs.compare.Weighing.{Numbered, NewUnkept, weighed-replaced, weighed-all, leaves, changes}
 use Rattle.adds.proofs.compare.Replaced.{replaced-changes}
 
@@ -39,7 +39,8 @@ unchanged : (hs l : List Hint) → l ≡ hs → not (sameList equalHint hs l) �
 unchanged hs l e = rw (e, sameList-self equalHint equalHint-self hs)
 
 -- where no number is replaced
-module _ (a : Area) (hs xs : List Hint) (h : hintsOk a hs ≡ true) (g : hintsOk a xs ≡ true) (none : someReplaced (marked hs xs) ≡ false)
+module _ (a : Area) (hs xs : List Hint) (h : hintsOk a hs ≡ true) (g : hintsOk a xs ≡ true)
+    (none : someReplaced (marked hs xs) ≡ false)
     (plain : NewUnkept (marked hs xs)) where
   abbrev all : List Hint
   all = hintsOf (marked hs xs)
@@ -118,8 +119,10 @@ module _ (a : Area) (hs xs : List Hint) (h : hintsOk a hs ≡ true) (g : hintsOk
         let y : length (thin (most - most / 4) all) ≡ length hs = ap length (sym (over l) ∙ z) in
         s (omega arith)))))))))
 
-pub hints-change : (a : Area) (hs ys : List Hint) → hintsOk a hs ≡ true → hintsOk a ys ≡ true → (most : ℕ) → length hs ≤ most → 1 ≤ most
-    → not (sameList equalHint hs (joinedHints a most hs (unkept ys))) ≡ changedBy (weighed unweighed (marked hs (unkept ys))) (length hs) most
+pub hints-change : (a : Area) (hs ys : List Hint) → hintsOk a hs ≡ true → hintsOk a ys ≡ true → (most : ℕ)
+    → length hs ≤ most → 1 ≤ most
+    → not (sameList equalHint hs (joinedHints a most hs (unkept ys)))
+    ≡ changedBy (weighed unweighed (marked hs (unkept ys))) (length hs) most
 unfolding changedBy
 hints-change a hs ys h g most few some =
     let xs = unkept ys in

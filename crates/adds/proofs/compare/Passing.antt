@@ -2,27 +2,23 @@
 use mathlib.Core.Path.{_≡_, refl, sym, ap, _∙_}
 use mathlib.Core.Bool.{Bool, true, false, _&&_, not, cond}
 use mathlib.Core.List.{List, [], _∷_}
-use Prim.Native.Nat.{ℕ, _+_, _-_, _*_, _/_, _<_, _≤_, min}
+use Prim.Native.Nat.{ℕ, _+_, _<_, _≤_, min}
 use native.Mathlib.Omega.{arith}
 use lib.Dec.{eqb, leb, ltb}
-use native.Mathlib.Numerals.{add-one}
 use lib.ListN.{length, getD, drop, drop-of-length-le}
-use lib.Seq.{drop-cons}
-use borrow.Author.Tests.{leb-true, leb-false, eqb-true, eqb-false, eq-eqb, ne-eqb, lt-ltb, le-ltb, le-leb, lt-leb, not-true, not-false}
-use Rattle.field.specs.Records.{records, recordAt}
+use borrow.Author.Tests.{leb-true, leb-false, eq-eqb, ne-eqb, not-true, not-false}
+use Rattle.field.specs.Records.{recordAt}
 use Rattle.field.proofs.Records.{records-length}
-use Rattle.rules.specs.declared.Area.{Area}
 use Rattle.rules.specs.declared.Confirmation.{Confirmation}
 use Rattle.rules.specs.declared.Hint.{Hint}
-use Rattle.rules.specs.Values.{max32, noHint, noConfirmation}
+use Rattle.rules.specs.Values.{max32, noConfirmation}
 use Rattle.rules.specs.Tests.{all}
-use Rattle.rules.specs.Sections.{hintsOk, confirmedLsn, confirmationsOk}
-use Rattle.rules.specs.File.{decodeConfirmation}
-use Rattle.rules.specs.Hints.{heldConfirmation, joinedHints, unkept, keepAll, keepsNothing}
+use Rattle.rules.specs.Sections.{confirmedLsn}
+use Rattle.rules.specs.Hints.{heldConfirmation, unkept}
 use Rattle.rules.proofs.Tests.{test, never}
 use Rattle.rules.proofs.Same.{eqb-self}
 use Rattle.laws.proofs.hint_lists.Hints.{joined-none}
-use Rattle.tables.specs.Tables.{confirmationsIn, decodeKept, keptIn}
+use Rattle.tables.specs.Tables.{decodeKept, keptIn}
 use Rattle.tables.proofs.Walk.{records-turn}
 use Rattle.add_hints.specs.Merged.{unkeptIn}
 use Rattle.add_hints.proofs.Arriving.{unkept-in}
@@ -31,7 +27,7 @@ use Rattle.rules_lacks.proofs.Laws.{equalHint-self}
 use Rattle.adds.specs.declared.compare.Turn.{Turn}
 use Rattle.adds.specs.declared.compare.Weighed.{Weighed}
 use Rattle.adds.specs.Keys.{fromKey}
-use Rattle.adds.specs.Same.{sameList, sameConfirmation}
+use Rattle.adds.specs.Same.{sameConfirmation}
 use Rattle.adds.specs.Marks.{mark, markBoth, marked, marksOf, lsnFrom, unweighed, weighOne, weighed, changedBy}
 use Rattle.adds.specs.Confirmed.{absorbed, unmovedBy, arriving, confirmedChange}
 use Rattle.adds.specs.Answers.{LsnAt, Turned, HintsAnswered, ConfirmedAnswered}
@@ -42,7 +38,8 @@ use Rattle.adds.proofs.compare.Confirmed.{confirmed-change}
 
 -- ---- the next of two lists of hints
 module _ (n : ℕ) (t : List ℕ) where
-  pub lsn-here : {h : Hint} (i : ℕ) → i < n → h ≡ recordAt 8 decodeKept t i → h .lsn < 4294967296 → LsnAt (keptIn n t) n i (h .lsn)
+  pub lsn-here : {h : Hint} (i : ℕ) → i < n → h ≡ recordAt 8 decodeKept t i → h .lsn < 4294967296
+      → LsnAt (keptIn n t) n i (h .lsn)
   unfolding lsnFrom
   lsn-here {h} i l e f = record {
     is = sym (rw (records-turn 8 decodeKept n t i l, ← e));
@@ -72,7 +69,9 @@ module _ {xs ys : List Hint} {n m i j a b : ℕ} (p : LsnAt xs n i a) (q : LsnAt
   other-inside h l =
       test (leb m j)
       (λ e. let u = q .past (leb-true m j e) in
-      let z : ⊥ = test (leb n i) (λ f. let v = p .past (leb-true n i f) in omega arith) (λ f. let v = p .inside (leb-false n i f) in omega arith) in absurd z)
+      let z : ⊥ =
+      test (leb n i) (λ f. let v = p .past (leb-true n i f) in omega arith)
+      (λ f. let v = p .inside (leb-false n i f) in omega arith) in absurd z)
       (λ e. leb-false m j e)
 
   -- else the own one does
@@ -80,16 +79,20 @@ module _ {xs ys : List Hint} {n m i j a b : ℕ} (p : LsnAt xs n i a) (q : LsnAt
   own-inside h g l =
       test (leb n i)
       (λ e. let u = p .past (leb-true n i e) in
-      let z : ⊥ = test (leb m j) (λ f. let v = leb-true m j f in let w = leb-true n i e in omega arith) (λ f. let v = q .inside (leb-false m j f) in omega arith) in absurd z)
+      let z : ⊥ =
+      test (leb m j) (λ f. let v = leb-true m j f in let w = leb-true n i e in omega arith)
+      (λ f. let v = q .inside (leb-false m j f) in omega arith) in absurd z)
       (λ e. leb-false n i e)
 
   pub both-inside : i < n → b ≤ a → a ≤ b → j < m
   both-inside h l g =
       let u = p .inside h in
-      test (leb m j) (λ f. let v = q .past (leb-true m j f) in let z : ⊥ = omega arith in absurd z) (λ f. leb-false m j f)
+      test (leb m j) (λ f. let v = q .past (leb-true m j f) in let z : ⊥ = omega arith in absurd z)
+      (λ f. leb-false m j f)
 
   module _ (hi : i ≤ n) (hj : j ≤ m) where
-    pub turn-new : {y : Hint} → b < a → drop j ys ≡ y ∷ drop (j + 1) ys → Turned xs ys n m i j (record { new = true; replaced = false; hint = y; own = i; other = j + 1 })
+    pub turn-new : {y : Hint} → b < a → drop j ys ≡ y ∷ drop (j + 1) ys
+        → Turned xs ys n m i j (record { new = true; replaced = false; hint = y; own = i; other = j + 1 })
     turn-new {y} l d =
         let k = other-inside hi l in
         let w : lsnFrom (y ∷ drop (j + 1) ys) < lsnFrom (drop i xs) = rw (← d, ← q .is, ← p .is) l in
@@ -105,7 +108,8 @@ module _ {xs ys : List Hint} {n m i j a b : ℕ} (p : LsnAt xs n i a) (q : LsnAt
         }
 
     module _ {x : Hint} (k : i < n) (d : drop i xs ≡ x ∷ drop (i + 1) xs) where
-      pub turn-held : a < b → Turned xs ys n m i j (record { new = false; replaced = false; hint = x; own = i + 1; other = j })
+      pub turn-held : a < b
+          → Turned xs ys n m i j (record { new = false; replaced = false; hint = x; own = i + 1; other = j })
       turn-held l =
           let w : lsnFrom (x ∷ drop (i + 1) xs) < lsnFrom (drop j ys) = rw (← d, ← q .is, ← p .is) l in
           record {
@@ -124,10 +128,13 @@ module _ {xs ys : List Hint} {n m i j a b : ℕ} (p : LsnAt xs n i a) (q : LsnAt
       turn-both {y} c l g =
           let z : a ≡ b = omega arith in
           let f = both-inside k l g in
-          let w : lsnFrom (x ∷ drop (i + 1) xs) ≡ lsnFrom (y ∷ drop (j + 1) ys) = sym (ap lsnFrom d) ∙ sym (p .is) ∙ z ∙ q .is ∙ ap lsnFrom c in
+          let w : lsnFrom (x ∷ drop (i + 1) xs) ≡ lsnFrom (y ∷ drop (j + 1) ys) =
+          sym (ap lsnFrom d) ∙ sym (p .is) ∙ z ∙ q .is ∙ ap lsnFrom c in
           record {
             first = markBoth x y;
-            next = ap (λ (u : List Hint). marked u (drop j ys)) d ∙ ap (marked (x ∷ drop (i + 1) xs)) c ∙ next-both x y (drop (i + 1) xs) (drop (j + 1) ys) w;
+            next =
+                ap (λ (u : List Hint). marked u (drop j ys)) d ∙ ap (marked (x ∷ drop (i + 1) xs)) c
+                ∙ next-both x y (drop (i + 1) xs) (drop (j + 1) ys) w;
             new = refl;
             replaced = refl;
             hint = refl;
@@ -150,17 +157,20 @@ weigh-place : (s : Weighed) (b c : Bool) (k : Hint) → weighOne s b c k .place 
 unfolding weighOne
 weigh-place s b c k = refl
 
-pub weigh-on : {xs ys : List Hint} {n m i j : ℕ} {s s' : Weighed} {r : Turn} → Weighing xs ys n m s i j → Turned xs ys n m i j r → s' ≡ weighOne s (r .new) (r .replaced) (r .hint)
+pub weigh-on : {xs ys : List Hint} {n m i j : ℕ} {s s' : Weighed} {r : Turn} → Weighing xs ys n m s i j
+    → Turned xs ys n m i j r → s' ≡ weighOne s (r .new) (r .replaced) (r .hint)
     → Weighing xs ys n m s' (r .own) (r .other)
 unfolding weighed
 weigh-on {xs} {ys} {n} {m} {i} {j} {s} {s'} {r} w t e =
     let f = w .few in let o = t .on in let q = weigh-place s (r .new) (r .replaced) (r .hint) in
     let z = sym (ap (weighed s) (t .next)) ∙ w .rest in
-    let y : weighed (weighOne s (r .new) (r .replaced) (r .hint)) (marked (drop (r .own) xs) (drop (r .other) ys)) ≡ weighed unweighed (marked xs ys) =
+    let y : weighed (weighOne s (r .new) (r .replaced) (r .hint)) (marked (drop (r .own) xs) (drop (r .other) ys))
+    ≡ weighed unweighed (marked xs ys) =
     rw (t .new, t .replaced, t .hint) at z in
     record { own = t .own; other = t .other; few = rw e (omega arith); rest = rw e y }
 
-pub weigh-end : {xs ys : List Hint} {n m i j : ℕ} {s : Weighed} → length xs ≡ n → length ys ≡ m → Weighing xs ys n m s i j → n + m ≤ i + j → s ≡ weighed unweighed (marked xs ys)
+pub weigh-end : {xs ys : List Hint} {n m i j : ℕ} {s : Weighed} → length xs ≡ n → length ys ≡ m
+    → Weighing xs ys n m s i j → n + m ≤ i + j → s ≡ weighed unweighed (marked xs ys)
 unfolding weighed marked marksOf
 weigh-end {xs} {ys} {n} {m} {i} {j} {s} f g w l =
     let o = w .own in let p = w .other in
@@ -172,11 +182,14 @@ module _ {most : ℕ} (xs ys : List Hint) where
   pub hints-none : most ≡ 0 → HintsAnswered most xs ys false
   hints-none e a h g = sym (rw (e, joined-none a xs (unkept ys), sameList-self equalHint equalHint-self xs))
 
-  pub hints-answered : {w : Weighed} {r : Bool} {n : ℕ} {zs : List Hint} → length xs ≡ n → n ≤ most → (most ≡ 0 → ⊥) → w ≡ weighed unweighed (marked xs zs) → zs ≡ unkept ys → r ≡ changedBy w n most → HintsAnswered most xs ys r
-  hints-answered {w} {r} {n} k l z e d f a h g = f ∙ rw (e, d, ← k) (sym (hints-change a xs ys h g most (omega arith) (omega (arith, z))))
+  pub hints-answered : {w : Weighed} {r : Bool} {n : ℕ} {zs : List Hint} → length xs ≡ n → n ≤ most → (most ≡ 0 → ⊥)
+      → w ≡ weighed unweighed (marked xs zs) → zs ≡ unkept ys → r ≡ changedBy w n most → HintsAnswered most xs ys r
+  hints-answered {w} {r} {n} k l z e d f a h g =
+      f ∙ rw (e, d, ← k) (sym (hints-change a xs ys h g most (omega arith) (omega (arith, z))))
 
 -- ---- confirmations
-pub stays-is : (c d : Confirmation) → (eqb (c .digest) (d .digest) && leb (c .threshold) (d .threshold)) ≡ sameConfirmation c (heldConfirmation c d)
+pub stays-is : (c d : Confirmation)
+    → (eqb (c .digest) (d .digest) && leb (c .threshold) (d .threshold)) ≡ sameConfirmation c (heldConfirmation c d)
 unfolding sameConfirmation heldConfirmation all
 stays-is c d =
     test (eqb (c .digest) (d .digest))
@@ -215,7 +228,8 @@ module _ {cs ds : List Confirmation} {r : Bool} {n m i j : ℕ} (w : Absorbing c
           test (ltb (c .lsn) (d .lsn)) (λ a. never {b = true} refl (rw a at g))
           (λ a. test (ltb (d .lsn) (c .lsn)) (λ b. rw (a, b) at z) (λ b. let h : sameConfirmation c (heldConfirmation c d) ≡ false = rw (a, b) at g in rw (a, b, h) at z))
 
-      pub absorb-on : {u : Bool} {k : ℕ} → i < n → j < m → u ≡ unmovedBy c d → not u ≡ false → k ≡ cond (ltb (c .lsn) (d .lsn)) j (j + 1) → Absorbing cs ds r n m (i + 1) k
+      pub absorb-on : {u : Bool} {k : ℕ} → i < n → j < m → u ≡ unmovedBy c d → not u ≡ false
+          → k ≡ cond (ltb (c .lsn) (d .lsn)) j (j + 1) → Absorbing cs ds r n m (i + 1) k
       unfolding unmovedBy absorbed
       absorb-on {u} {k} li lj e f g =
           let h : unmovedBy c d ≡ true = sym e ∙ not-false u f in
@@ -231,7 +245,8 @@ module _ (most n : ℕ) (cs ds : List Confirmation) (k : length cs ≡ n) where
   unfolding arriving
   arriving-all h = sym (rw (k, ne-eqb n most h))
 
-  pub arriving-low : {c : Confirmation} {x : List Confirmation} → n ≡ most → 1 ≤ most → drop 0 cs ≡ c ∷ drop 1 cs → x ≡ fromKey confirmedLsn (c .lsn) ds → x ≡ arriving most cs ds
+  pub arriving-low : {c : Confirmation} {x : List Confirmation} → n ≡ most → 1 ≤ most → drop 0 cs ≡ c ∷ drop 1 cs
+      → x ≡ fromKey confirmedLsn (c .lsn) ds → x ≡ arriving most cs ds
   unfolding arriving
   arriving-low {c} h l p e =
       let z : getD cs 0 noConfirmation ≡ c = ap (λ (y : List Confirmation). getD y 0 noConfirmation) p in
@@ -249,6 +264,7 @@ module _ (checked : Bool) {most n : ℕ} (cs ds : List Confirmation) (k : length
   unfolding confirmedChange
   confirmed-none e = answered-by (sym (test checked (λ f. rw (f, e)) (λ f. rw f)))
 
-  pub confirmed-some : {from : List Confirmation} {u : Bool} → not checked ≡ false → (most ≡ 0 → ⊥) → from ≡ arriving most cs ds → u ≡ absorbed cs from → ConfirmedAnswered checked most cs ds (not u)
+  pub confirmed-some : {from : List Confirmation} {u : Bool} → not checked ≡ false → (most ≡ 0 → ⊥)
+      → from ≡ arriving most cs ds → u ≡ absorbed cs from → ConfirmedAnswered checked most cs ds (not u)
   unfolding confirmedChange
   confirmed-some e z f g = answered-by (sym (rw (e, ne-eqb most 0 z, ← f, ← g)))

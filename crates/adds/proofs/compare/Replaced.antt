@@ -27,11 +27,13 @@ abbrev merged : List Hint → List Hint → List Hint
 merged xs ys = mergedWith hintLsn arrivedHint xs ys
 
 -- what holds of each of both lists holds of each of the merged one
-all-merged : (P : Hint → Type 0) → ((x y : Hint) → P x → P y → P (arrivedHint x y)) → (xs ys : List Hint) → All P xs → All P ys → All P (merged xs ys)
+all-merged : (P : Hint → Type 0) → ((x y : Hint) → P x → P y → P (arrivedHint x y)) → (xs ys : List Hint) → All P xs
+    → All P ys → All P (merged xs ys)
 all-merged P m [] ys h k = rw (nil-with hintLsn arrivedHint ys) k
 all-merged P m (x ∷ xs) [] h k = rw (with-nil hintLsn arrivedHint (x ∷ xs)) h
 all-merged P m (x ∷ xs) (y ∷ ys) h k =
-    with-cases hintLsn arrivedHint (All P) x y xs ys (λ l. (h .0, all-merged P m xs (y ∷ ys) (h .1) k)) (λ l. (k .0, all-merged P m (x ∷ xs) ys h (k .1)))
+    with-cases hintLsn arrivedHint (All P) x y xs ys (λ l. (h .0, all-merged P m xs (y ∷ ys) (h .1) k))
+    (λ l. (k .0, all-merged P m (x ∷ xs) ys h (k .1)))
     (λ e. (m x y (h .0) (k .0), all-merged P m xs ys (h .1) (k .1)))
 
 -- an LSN, b or more, at which all has one number, and xs another
@@ -47,7 +49,8 @@ unfolding marksOf
 none-replaced b [] = refl
 none-replaced b (h ∷ hs) = none-replaced b hs
 
-differ-at : (b : ℕ) (xs ys : List Hint) → Rises hintLsn b xs → Rises hintLsn b ys → someReplaced (marked xs ys) ≡ true → Differ b xs (merged xs ys)
+differ-at : (b : ℕ) (xs ys : List Hint) → Rises hintLsn b xs → Rises hintLsn b ys → someReplaced (marked xs ys) ≡ true
+    → Differ b xs (merged xs ys)
 differ-at b [] ys r s f = never f (rw (nil-marked ys) (none-replaced true ys))
 differ-at b (x ∷ xs) [] r s f = never f (rw (marked-nil (x ∷ xs)) (none-replaced false (x ∷ xs)))
 differ-at b (x ∷ xs) (y ∷ ys) r s f =
@@ -76,7 +79,8 @@ differ-at b (x ∷ xs) (y ∷ ys) r s f =
     ⊎-elim
     (λ n. let d = eqb-false (x .number) (y .number) (not-true (eqb (x .number) (y .number)) n) in
     let later : All (λ h. suc (y .lsn) ≤ h .lsn) (merged xs ys) =
-    all-merged (λ h. suc (y .lsn) ≤ h .lsn) (λ x y p q. q) xs ys (rises-all hintLsn (suc (y .lsn)) xs r') (rises-all hintLsn (suc (y .lsn)) ys (s .1)) in
+    all-merged (λ h. suc (y .lsn) ≤ h .lsn) (λ x y p q. q) xs ys (rises-all hintLsn (suc (y .lsn)) xs r')
+    (rises-all hintLsn (suc (y .lsn)) ys (s .1)) in
     record {
       lsn = y .lsn;
       number = y .number;
@@ -96,14 +100,17 @@ differ-at b (x ∷ xs) (y ∷ ys) r s f =
     })
     (or-cases (not (eqb (x .number) (y .number))) (someReplaced (marked xs ys)) g))
 
-pub replaced-changes : (a : Area) (most : ℕ) (hs xs : List Hint) → hintsOk a hs ≡ true → hintsOk a xs ≡ true → 1 ≤ most → someReplaced (marked hs xs) ≡ true
+pub replaced-changes : (a : Area) (most : ℕ) (hs xs : List Hint) → hintsOk a hs ≡ true → hintsOk a xs ≡ true
+    → 1 ≤ most → someReplaced (marked hs xs) ≡ true
     → joinedHints a most hs xs ≡ hs → ⊥
 unfolding joinedHints hintsOk
 replaced-changes a most hs xs h g some f e =
     let c =
-    differ-at (a .start) hs xs (rising→ hintLsn hintOk (a .start) (a .end) hs h .order) (rising→ hintLsn hintOk (a .start) (a .end) xs g .order) f in
+    differ-at (a .start) hs xs (rising→ hintLsn hintOk (a .start) (a .end) hs h .order)
+    (rising→ hintLsn hintOk (a .start) (a .end) xs g .order) f in
     let P : Hint → Type 0 = λ k. k .lsn ≡ c .lsn → k .number ≡ c .number in
     let m : All P (insertAll a hs xs) = rw (insertAll-rising a (a .start) hs xs (omega arith) g) (c .here) in
     let q : All P (joinedHints a most hs xs) =
-    rw (ne-eqb most 0 (λ z. omega arith)) (limitedTo-keeps a (All P) (λ n l k. all-sub P (thin-sub n l) k) most (insertAll a hs xs) m) in
+    rw (ne-eqb most 0 (λ z. omega arith))
+    (limitedTo-keeps a (All P) (λ n l k. all-sub P (thin-sub n l) k) most (insertAll a hs xs) m) in
     c .there (subst (λ (l : List Hint). All P l) e q)

@@ -1,8 +1,7 @@
 -- Lists that are the same are equal, and the other way round. Assumes nothing.
-use mathlib.Core.Path.{_≡_, refl, ap, sym, _∙_}
-use mathlib.Core.Bool.{Bool, true, false, _&&_, not}
+use mathlib.Core.Path.{_≡_, refl}
+use mathlib.Core.Bool.{Bool, true, false}
 use mathlib.Core.List.{List, [], _∷_}
-use lib.ListN.{length}
 use borrow.Author.Tests.{eqb-true}
 use Rattle.rules.specs.declared.Confirmation.{Confirmation}
 use Rattle.rules.proofs.Tests.{never, test, and-left, and-right, both, all→, →all}
@@ -10,7 +9,8 @@ use Rattle.rules.proofs.Same.{eqb-self}
 use Rattle.adds.specs.Same.{sameList, sameConfirmation}
 
 -- a test that fails where two values differ
-pub differ : {A : Type 0} (same : A → A → Bool) → ((a b : A) → same a b ≡ true → a ≡ b) → (a b : A) → (a ≡ b → ⊥) → same a b ≡ false
+pub differ : {A : Type 0} (same : A → A → Bool) → ((a b : A) → same a b ≡ true → a ≡ b) → (a b : A) → (a ≡ b → ⊥)
+    → same a b ≡ false
 differ same eq a b h = test (same a b) (λ e. absurd (h (eq a b e))) (λ e. e)
 
 module _ {A : Type 0} (same : A → A → Bool) where

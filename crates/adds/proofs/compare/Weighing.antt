@@ -1,6 +1,6 @@
 -- What one pass over the marked list finds: whether thinning drops exactly the new hints. Assumes nothing.
 use mathlib.Core.Path.{_≡_, refl, sym, ap, subst, _∙_}
-use mathlib.Core.Bool.{Bool, true, false, _&&_, _||_, not, cond}
+use mathlib.Core.Bool.{Bool, true, false, _||_, not}
 use mathlib.Core.Logic.{_⊎_, inl, inr, ⊎-elim}
 use mathlib.Core.List.{List, [], _∷_}
 use Prim.Native.Nat.{ℕ, zero, suc, _+_, _-_, _<_, _≤_}
@@ -9,9 +9,9 @@ use native.Mathlib.Numerals.{add-one}
 use lib.Dec.{eqb, leb, ltb}
 use lib.ListN.{length, getD, drop, length-drop}
 use lib.Seq.{drop-cons}
-use borrow.Author.Tests.{eqb-true, eqb-false, leb-true, leb-false, ltb-true, ltb-false, le-ltb, le-leb, lt-leb, not-true}
+use borrow.Author.Tests.{eqb-true, eqb-false, leb-true, leb-false, ltb-true, ltb-false, le-ltb, le-leb, lt-leb}
 use Rattle.rules.specs.declared.Hint.{Hint}
-use Rattle.rules.specs.Values.{noHint, max32}
+use Rattle.rules.specs.Values.{max32}
 use Rattle.rules.specs.Sections.{hintLsn, isKept}
 use Rattle.rules.specs.Hints.{countOf, rise, riseAt, gap, sooner, rank, kept, thin}
 use Rattle.thin.specs.Thin.{gapFrom}
@@ -30,7 +30,8 @@ use Rattle.adds.proofs.compare.Marks.{hintsOf, noMark, newAt, replacedA
 rise-some : (p t : ℕ) → t ≤ max32 → (1 ≤ rise p t) × (rise p t ≤ max32)
 unfolding rise
 rise-some p t h =
-    test (ltb p t) (λ e. let w = ltb-true p t e in rw e (omega arith, omega arith)) (λ e. rw e (omega arith, omega arith))
+    test (ltb p t) (λ e. let w = ltb-true p t e in rw e (omega arith, omega arith))
+    (λ e. rw e (omega arith, omega arith))
 
 -- numbers are no more than 32 bits
 abbrev pub Numbered : List Marked → Type 0
@@ -52,10 +53,13 @@ or-assoc false b c = refl
 pub weighed-replaced : (s : Weighed) (ms : List Marked) → weighed s ms .replaced ≡ (s .replaced || someReplaced ms)
 unfolding weighed weighOne
 weighed-replaced s [] = or-nothing (s .replaced)
-weighed-replaced s (m ∷ ms) = weighed-replaced (weighOne s (m .new) (m .replaced) (m .hint)) ms ∙ or-assoc (s .replaced) (m .replaced) (someReplaced ms)
+weighed-replaced s (m ∷ ms) =
+    weighed-replaced (weighOne s (m .new) (m .replaced) (m .hint)) ms
+    ∙ or-assoc (s .replaced) (m .replaced) (someReplaced ms)
 
 -- pairs in order: the first no larger than the second, that smaller than the third, and that no larger than the fourth
-between : {g i n p h q m k : ℕ} → (g < n) ⊎ ((g ≡ n) × (i ≤ p)) → (n < h) ⊎ ((n ≡ h) × (p < q)) → (h < m) ⊎ ((m ≡ h) × (q ≤ k)) → (g < m) ⊎ ((g ≡ m) × (i < k))
+between : {g i n p h q m k : ℕ} → (g < n) ⊎ ((g ≡ n) × (i ≤ p)) → (n < h) ⊎ ((n ≡ h) × (p < q))
+    → (h < m) ⊎ ((m ≡ h) × (q ≤ k)) → (g < m) ⊎ ((g ≡ m) × (i < k))
 between (inl a) (inl b) (inl c) = inl (omega arith)
 between (inl a) (inl b) (inr c) = inl (omega arith)
 between (inl a) (inr b) (inl c) = inl (omega arith)
@@ -89,7 +93,8 @@ module _ (ms : List Marked) (small : Numbered ms) where
   unfolding gapFrom
   gap-range i =
       let r = rise-some (before i) (number i) (small i) in let low = r .0 in let high = r .1 in
-      rw (gap-is i) (test (isKept (getD ms i noMark .hint)) (λ e. rw e (omega arith, omega arith)) (λ e. rw e (omega arith, omega arith)))
+      rw (gap-is i)
+      (test (isKept (getD ms i noMark .hint)) (λ e. rw e (omega arith, omega arith)) (λ e. rw e (omega arith, omega arith)))
 
   gap-low : (i : ℕ) → isKept (getD ms i noMark .hint) ≡ false → gap us i ≤ max32
   unfolding gapFrom
@@ -99,9 +104,11 @@ module _ (ms : List Marked) (small : Numbered ms) where
   record Upto (s : Weighed) : Type 0 where
     within : s .place ≤ length ms
     last : s .before ≡ before (s .place)
-    new-most : (i : ℕ) → i < s .place → newAt ms i ≡ true → (gap us i < s .new .gap) ⊎ ((gap us i ≡ s .new .gap) × (i ≤ s .new .place))
+    new-most : (i : ℕ) → i < s .place → newAt ms i ≡ true
+        → (gap us i < s .new .gap) ⊎ ((gap us i ≡ s .new .gap) × (i ≤ s .new .place))
     new-is : (s .new .gap ≡ 0) ⊎ ((s .new .place < s .place) × (newAt ms (s .new .place) ≡ true) × (gap us (s .new .place) ≡ s .new .gap))
-    held-least : (i : ℕ) → i < s .place → newAt ms i ≡ false → (s .held .gap < gap us i) ⊎ ((gap us i ≡ s .held .gap) × (s .held .place ≤ i))
+    held-least : (i : ℕ) → i < s .place → newAt ms i ≡ false
+        → (s .held .gap < gap us i) ⊎ ((gap us i ≡ s .held .gap) × (s .held .place ≤ i))
     held-is : ((s .held .gap ≡ max32 + 1) × (s .held .place ≡ 0)) ⊎ ((s .held .place < s .place) × (newAt ms (s .held .place) ≡ false) × (gap us (s .held .place) ≡ s .held .gap))
 
   none-yet : Upto unweighed
@@ -116,17 +123,20 @@ module _ (ms : List Marked) (small : Numbered ms) where
 
   -- one place more: it is the next, or was passed
   upto : {P : ℕ → Type 0} (p : ℕ) → P p → ((i : ℕ) → i < p → P i) → (i : ℕ) → i < p + 1 → P i
-  upto {P} p h f i l = test (eqb i p) (λ e. rw (eqb-true i p e) h) (λ e. let z = eqb-false i p e in f i (omega (arith, z)))
+  upto {P} p h f i l =
+      test (eqb i p) (λ e. rw (eqb-true i p e) h) (λ e. let z = eqb-false i p e in f i (omega (arith, z)))
 
   at-most : (a g i p : ℕ) → a ≤ g → i ≤ p → (a < g) ⊎ ((a ≡ g) × (i ≤ p))
-  at-most a g i p h l = test (ltb a g) (λ e. inl (ltb-true a g e)) (λ e. let w = ltb-false a g e in inr (omega arith, l))
+  at-most a g i p h l =
+      test (ltb a g) (λ e. inl (ltb-true a g e)) (λ e. let w = ltb-false a g e in inr (omega arith, l))
 
   module _ (s : Weighed) (u : Upto s) (l : s .place < length ms) where
     abbrev p : ℕ
     p = s .place
 
     abbrev goes : Pair → Pair → Weighed
-    goes new held = record { place = p + 1; before = number p; new = new; held = held; replaced = s .replaced || replacedAt ms p }
+    goes new held =
+        record { place = p + 1; before = number p; new = new; held = held; replaced = s .replaced || replacedAt ms p }
 
     new-was : (s .new .gap ≡ 0) ⊎ ((s .new .place < p + 1) × (newAt ms (s .new .place) ≡ true) × (gap us (s .new .place) ≡ s .new .gap))
     new-was = ⊎-elim (λ z. inl z) (λ t. let w = t .0 in inr (omega arith, t .1, t .2)) (u .new-is)
@@ -138,15 +148,22 @@ module _ (ms : List Marked) (small : Numbered ms) where
     on = rw (add-one p)
 
     module _ (e : newAt ms p ≡ true) where
-      held-passed : (i : ℕ) → i < p + 1 → newAt ms i ≡ false → (s .held .gap < gap us i) ⊎ ((gap us i ≡ s .held .gap) × (s .held .place ≤ i))
-      held-passed = upto {P = λ i. newAt ms i ≡ false → (s .held .gap < gap us i) ⊎ ((gap us i ≡ s .held .gap) × (s .held .place ≤ i))} p (λ f. never e f) (u .held-least)
+      held-passed : (i : ℕ) → i < p + 1 → newAt ms i ≡ false
+          → (s .held .gap < gap us i) ⊎ ((gap us i ≡ s .held .gap) × (s .held .place ≤ i))
+      held-passed =
+          upto {P =
+          λ i. newAt ms i
+          ≡ false
+          → (s .held .gap < gap us i) ⊎ ((gap us i ≡ s .held .gap) × (s .held .place ≤ i))} p (λ f. never e f) (u .held-least)
 
       new-larger : s .new .gap ≤ gap us p → Upto (goes (pair (gap us p) p) (s .held))
       new-larger h = record {
         within = omega arith;
         last = sym on;
         new-most =
-            upto {P = λ i. newAt ms i ≡ true → (gap us i < gap us p) ⊎ ((gap us i ≡ gap us p) × (i ≤ p))} p (λ f. inr (refl, omega arith))
+            upto {P =
+            λ i. newAt ms i
+            ≡ true → (gap us i < gap us p) ⊎ ((gap us i ≡ gap us p) × (i ≤ p))} p (λ f. inr (refl, omega arith))
             (λ i k f. at-most (gap us i) (gap us p) i p (⊎-elim (λ a. let w : gap us i < s .new .gap = a in omega arith) (λ a. let w = a .0 in omega arith) (u .new-most i k f)) (omega arith));
         new-is = inr (omega arith, e, refl);
         held-least = held-passed;
@@ -157,15 +174,24 @@ module _ (ms : List Marked) (small : Numbered ms) where
       new-smaller h = record {
         within = omega arith;
         last = sym on;
-        new-most = upto {P = λ i. newAt ms i ≡ true → (gap us i < s .new .gap) ⊎ ((gap us i ≡ s .new .gap) × (i ≤ s .new .place))} p (λ f. inl h) (u .new-most);
+        new-most =
+            upto {P =
+            λ i. newAt ms i
+            ≡ true
+            → (gap us i < s .new .gap) ⊎ ((gap us i ≡ s .new .gap) × (i ≤ s .new .place))} p (λ f. inl h) (u .new-most);
         new-is = new-was;
         held-least = held-passed;
         held-is = held-was;
       }
 
     module _ (e : newAt ms p ≡ false) where
-      new-passed : (i : ℕ) → i < p + 1 → newAt ms i ≡ true → (gap us i < s .new .gap) ⊎ ((gap us i ≡ s .new .gap) × (i ≤ s .new .place))
-      new-passed = upto {P = λ i. newAt ms i ≡ true → (gap us i < s .new .gap) ⊎ ((gap us i ≡ s .new .gap) × (i ≤ s .new .place))} p (λ f. never f e) (u .new-most)
+      new-passed : (i : ℕ) → i < p + 1 → newAt ms i ≡ true
+          → (gap us i < s .new .gap) ⊎ ((gap us i ≡ s .new .gap) × (i ≤ s .new .place))
+      new-passed =
+          upto {P =
+          λ i. newAt ms i
+          ≡ true
+          → (gap us i < s .new .gap) ⊎ ((gap us i ≡ s .new .gap) × (i ≤ s .new .place))} p (λ f. never f e) (u .new-most)
 
       held-smaller : gap us p < s .held .gap → Upto (goes (s .new) (pair (gap us p) p))
       held-smaller h = record {
@@ -174,21 +200,26 @@ module _ (ms : List Marked) (small : Numbered ms) where
         new-most = new-passed;
         new-is = new-was;
         held-least =
-            upto {P = λ i. newAt ms i ≡ false → (gap us p < gap us i) ⊎ ((gap us i ≡ gap us p) × (p ≤ i))} p (λ f. inr (refl, omega arith))
+            upto {P =
+            λ i. newAt ms i
+            ≡ false → (gap us p < gap us i) ⊎ ((gap us i ≡ gap us p) × (p ≤ i))} p (λ f. inr (refl, omega arith))
             (λ i k f. inl (⊎-elim (λ a. let w : s .held .gap < gap us i = a in omega arith) (λ a. let w = a .0 in omega arith) (u .held-least i k f)));
         held-is = inr (omega arith, e, refl);
       }
 
       held-larger : s .held .gap ≤ gap us p → Upto (goes (s .new) (s .held))
       held-larger h =
-          let q : s .held .place ≤ p = ⊎-elim (λ z. let w = z .1 in omega arith) (λ t. let w = t .0 in omega arith) (u .held-is) in
+          let q : s .held .place ≤ p =
+          ⊎-elim (λ z. let w = z .1 in omega arith) (λ t. let w = t .0 in omega arith) (u .held-is) in
           record {
             within = omega arith;
             last = sym on;
             new-most = new-passed;
             new-is = new-was;
             held-least =
-                upto {P = λ i. newAt ms i ≡ false → (s .held .gap < gap us i) ⊎ ((gap us i ≡ s .held .gap) × (s .held .place ≤ i))} p
+                upto {P =
+                λ i. newAt ms i
+                ≡ false → (s .held .gap < gap us i) ⊎ ((gap us i ≡ s .held .gap) × (s .held .place ≤ i))} p
                 (λ f. ⊎-elim (λ a. inl a) (λ a. let w : s .held .gap ≡ gap us p = a .0 in inr (sym w, q)) (at-most (s .held .gap) (gap us p) (s .held .place) p h q)) (u .held-least);
             held-is = held-was;
           }
@@ -213,15 +244,19 @@ module _ (ms : List Marked) (small : Numbered ms) where
 
   weigh-from : (rest : List Marked) (s : Weighed) → Upto s → drop (s .place) ms ≡ rest → Whole (weighed s rest)
   unfolding weighed
-  weigh-from [] s u e = let n = length-drop (s .place) ms in let z : length (drop (s .place) ms) ≡ 0 = ap length e in let w = u .within in (u, omega arith)
+  weigh-from [] s u e =
+      let n = length-drop (s .place) ms in let z : length (drop (s .place) ms) ≡ 0 = ap length e in
+      let w = u .within in (u, omega arith)
   weigh-from (m ∷ rest) s u e =
       let n = length-drop (s .place) ms in
       let z : length (drop (s .place) ms) ≡ suc (length rest) = ap length e in
       let l : s .place < length ms = omega arith in
-      let d : getD ms (s .place) noMark ∷ drop (suc (s .place)) ms ≡ m ∷ rest = sym (drop-cons ms (s .place) noMark l) ∙ e in
+      let d : getD ms (s .place) noMark ∷ drop (suc (s .place)) ms ≡ m ∷ rest =
+      sym (drop-cons ms (s .place) noMark l) ∙ e in
       let q : getD ms (s .place) noMark ≡ m = cc in
       let r : drop (suc (s .place)) ms ≡ rest = cc in
-      let u' : Upto (weighOne s (m .new) (m .replaced) (m .hint)) = subst (λ (x : Marked). Upto (weighOne s (x .new) (x .replaced) (x .hint))) q (step s u l) in
+      let u' : Upto (weighOne s (m .new) (m .replaced) (m .hint)) =
+      subst (λ (x : Marked). Upto (weighOne s (x .new) (x .replaced) (x .hint))) q (step s u l) in
       weigh-from rest (weighOne s (m .new) (m .replaced) (m .hint)) u' (rw (next-place s m) r)
 
   abbrev all-weighed : Weighed
@@ -236,7 +271,8 @@ module _ (ms : List Marked) (small : Numbered ms) where
   -- ---- where every new one goes before every held one
   before-not : (i k : ℕ) → sooner us i k ≡ true → sooner us k i ≡ true → ⊥
   before-not i k e f =
-      ⊎-elim (λ (a : gap us k < gap us i). ⊎-elim (λ (b : gap us i < gap us k). omega arith) (λ (b : (gap us i ≡ gap us k) × (i < k)). omega arith) (sooner→ us k i f))
+      ⊎-elim
+      (λ (a : gap us k < gap us i). ⊎-elim (λ (b : gap us i < gap us k). omega arith) (λ (b : (gap us i ≡ gap us k) × (i < k)). omega arith) (sooner→ us k i f))
       (λ (a : (gap us k ≡ gap us i) × (k < i)). ⊎-elim (λ (b : gap us i < gap us k). omega arith) (λ (b : (gap us i ≡ gap us k) × (i < k)). omega arith) (sooner→ us k i f))
       (sooner→ us i k e)
 
@@ -258,7 +294,8 @@ module _ (ms : List Marked) (small : Numbered ms) where
       let every : countOf (λ i. true) (length ms) ≡ length ms = count-every (λ i. true) (length ms) (λ k l. refl) in
       omega arith
 
-  module _ (sep : (i k : ℕ) → i < length ms → k < length ms → newAt ms i ≡ true → newAt ms k ≡ false → sooner us k i ≡ true) where
+  module _
+      (sep : (i k : ℕ) → i < length ms → k < length ms → newAt ms i ≡ true → newAt ms k ≡ false → sooner us k i ≡ true) where
     new-low : (i : ℕ) → i < length ms → newAt ms i ≡ true → rank us i < fresh
     unfolding rank fresh
     new-low i l e =
@@ -272,7 +309,8 @@ module _ (ms : List Marked) (small : Numbered ms) where
 
     apart : (i : ℕ) → i < length ms → leb fresh (rank us i) ≡ stays i
     apart i l =
-        test (newAt ms i) (λ e. rw (e, lt-leb fresh (rank us i) (new-low i l e))) (λ e. rw (e, le-leb fresh (rank us i) (held-high i l e)))
+        test (newAt ms i) (λ e. rw (e, lt-leb fresh (rank us i) (new-low i l e)))
+        (λ e. rw (e, le-leb fresh (rank us i) (held-high i l e)))
 
     -- thinning leaves the held ones
     thin-leaves : (hs : List Hint) → kept stays us (length ms) ≡ hs → thin (length hs) us ≡ hs
@@ -283,12 +321,15 @@ module _ (ms : List Marked) (small : Numbered ms) where
         rw (hints-length ms, q) (kept-same (λ i. leb fresh (rank us i)) stays us (length ms) apart ∙ e)
 
   -- ---- where a held one goes before a new one
-  module _ (b : ℕ) (r : Rises hintLsn b us) (i k : ℕ) (li : i < length ms) (lk : k < length ms) (ei : newAt ms i ≡ true) (ek : newAt ms k ≡ false) (f : sooner us i k ≡ true) where
+  module _ (b : ℕ) (r : Rises hintLsn b us) (i k : ℕ) (li : i < length ms) (lk : k < length ms)
+      (ei : newAt ms i ≡ true) (ek : newAt ms k ≡ false) (f : sooner us i k ≡ true) where
     chain : (j : ℕ) → sooner us k j ≡ true → sooner us i j ≡ true
     chain j g =
-        ⊎-elim (λ (a : gap us k < gap us i). ⊎-elim (λ (c : gap us j < gap us k). sooner-less us i j (omega arith)) (λ (c : (gap us j ≡ gap us k) × (j < k)). sooner-less us i j (omega arith)) (sooner→ us k j g))
+        ⊎-elim
+        (λ (a : gap us k < gap us i). ⊎-elim (λ (c : gap us j < gap us k). sooner-less us i j (omega arith)) (λ (c : (gap us j ≡ gap us k) × (j < k)). sooner-less us i j (omega arith)) (sooner→ us k j g))
         (λ (a : (gap us k ≡ gap us i) × (k < i)).
-        ⊎-elim (λ (c : gap us j < gap us k). sooner-less us i j (omega arith)) (λ (c : (gap us j ≡ gap us k) × (j < k)). sooner-level us i j (omega arith) (omega arith)) (sooner→ us k j g))
+        ⊎-elim (λ (c : gap us j < gap us k). sooner-less us i j (omega arith))
+        (λ (c : (gap us j ≡ gap us k) × (j < k)). sooner-level us i j (omega arith) (omega arith)) (sooner→ us k j g))
         (sooner→ us i k f)
 
     rank-order : rank us k ≤ rank us i
@@ -301,7 +342,8 @@ module _ (ms : List Marked) (small : Numbered ms) where
         let c = fresh-count hs e in
         let q : length ms - length hs ≡ fresh = omega arith in
         let n = hints-length ms in
-        let t' : kept (λ j. leb fresh (rank us j)) us (length ms) ≡ kept stays us (length ms) = (rw (n, q) at t) ∙ sym e in
+        let t' : kept (λ j. leb fresh (rank us j)) us (length ms) ≡ kept stays us (length ms) =
+        (rw (n, q) at t) ∙ sym e in
         let same = kept-places b us r (λ j. leb fresh (rank us j)) stays (length ms) (omega arith) t' in
         let hk : leb fresh (rank us k) ≡ true = same k lk ∙ rw ek in
         let hi : leb fresh (rank us i) ≡ false = same i li ∙ rw ei in
@@ -312,7 +354,8 @@ module _ (ms : List Marked) (small : Numbered ms) where
 
   -- ---- the largest of the new and the smallest of the held decide
   module _ (b : ℕ) (r : Rises hintLsn b us) (hs : List Hint) (e : kept stays us (length ms) ≡ hs) where
-    some-sooner : lower (all-weighed .new) (all-weighed .held) ≡ true → (i k : ℕ) → i < length ms → k < length ms → newAt ms i ≡ true → newAt ms k ≡ false → sooner us k i ≡ true
+    some-sooner : lower (all-weighed .new) (all-weighed .held) ≡ true → (i k : ℕ) → i < length ms → k < length ms
+        → newAt ms i ≡ true → newAt ms k ≡ false → sooner us k i ≡ true
     unfolding lower
     some-sooner h i k li lk ei ek =
         let w = whole .0 in let n = whole .1 in
@@ -320,7 +363,8 @@ module _ (ms : List Marked) (small : Numbered ms) where
         let x = w .new-most i (omega arith) ei in
         let y = w .held-least k (omega arith) ek in
         let z : (s .new .gap < s .held .gap) ⊎ ((s .new .gap ≡ s .held .gap) × (s .new .place < s .held .place)) =
-        ⊎-elim (λ a. inl (ltb-true _ _ a)) (λ a. inr (eqb-true _ _ (and-left _ (ltb (s .new .place) (s .held .place)) a), ltb-true _ _ (and-right (eqb (s .new .gap) (s .held .gap)) _ a))) (or-cases _ _ h) in
+        ⊎-elim (λ a. inl (ltb-true _ _ a))
+        (λ a. inr (eqb-true _ _ (and-left _ (ltb (s .new .place) (s .held .place)) a), ltb-true _ _ (and-right (eqb (s .new .gap) (s .held .gap)) _ a))) (or-cases _ _ h) in
         ⊎-elim (λ a. sooner-less us k i a) (λ a. sooner-level us k i (a .0) (a .1)) (between x z y)
 
     pub leaves : lower (all-weighed .new) (all-weighed .held) ≡ true → thin (length hs) us ≡ hs
@@ -331,7 +375,8 @@ module _ (ms : List Marked) (small : Numbered ms) where
       unfolding fresh
       new-found = let c = fresh-count hs e in count-some (newAt ms) (length ms) (omega arith)
 
-      largest-new : (all-weighed .new .place < length ms) × (newAt ms (all-weighed .new .place) ≡ true) × (gap us (all-weighed .new .place) ≡ all-weighed .new .gap)
+      largest-new : (all-weighed .new .place < length ms) × (newAt ms (all-weighed .new .place) ≡ true)
+          × (gap us (all-weighed .new .place) ≡ all-weighed .new .gap)
       largest-new =
           let w = whole .0 in let n = whole .1 in
           let f = new-found in let fi = f .inside in let g = gap-range (f .place) .0 in
@@ -341,19 +386,24 @@ module _ (ms : List Marked) (small : Numbered ms) where
 
       -- the largest pair of a new one is below that of a held one that is not known, or of a kept one
       new-below : all-weighed .new .gap ≤ max32
-      new-below = let a = largest-new in let x = a .2 in let y = gap-low (all-weighed .new .place) (plain (all-weighed .new .place) (a .1)) in omega arith
+      new-below =
+          let a = largest-new in let x = a .2 in
+          let y = gap-low (all-weighed .new .place) (plain (all-weighed .new .place) (a .1)) in omega arith
 
       smallest-held : lower (all-weighed .new) (all-weighed .held) ≡ false
-          → (all-weighed .held .place < length ms) × (newAt ms (all-weighed .held .place) ≡ false) × (gap us (all-weighed .held .place) ≡ all-weighed .held .gap)
+          → (all-weighed .held .place < length ms) × (newAt ms (all-weighed .held .place) ≡ false)
+          × (gap us (all-weighed .held .place) ≡ all-weighed .held .gap)
       unfolding lower
       smallest-held h =
           let w = whole .0 in let n = whole .1 in
           let o = or-none (ltb (all-weighed .new .gap) (all-weighed .held .gap)) _ h in
           let u = ltb-false (all-weighed .new .gap) (all-weighed .held .gap) (o .0) in
           let below = new-below in
-          ⊎-elim (λ z. let g = z .0 in let x : ⊥ = omega arith in absurd x) (λ t. let x = t .0 in (omega arith, t .1, t .2)) (w .held-is)
+          ⊎-elim (λ z. let g = z .0 in let x : ⊥ = omega arith in absurd x)
+          (λ t. let x = t .0 in (omega arith, t .1, t .2)) (w .held-is)
 
-      held-sooner : lower (all-weighed .new) (all-weighed .held) ≡ false → sooner us (all-weighed .new .place) (all-weighed .held .place) ≡ true
+      held-sooner : lower (all-weighed .new) (all-weighed .held) ≡ false
+          → sooner us (all-weighed .new .place) (all-weighed .held .place) ≡ true
       unfolding lower
       held-sooner h =
           let s = all-weighed in
@@ -372,4 +422,5 @@ module _ (ms : List Marked) (small : Numbered ms) where
       pub changes : lower (all-weighed .new) (all-weighed .held) ≡ false → thin (length hs) us ≡ hs → ⊥
       changes h =
           let n = largest-new in let k = smallest-held h in
-          thin-changes b r (all-weighed .new .place) (all-weighed .held .place) (n .0) (k .0) (n .1) (k .1) (held-sooner h) hs e
+          thin-changes b r (all-weighed .new .place) (all-weighed .held .place) (n .0) (k .0) (n .1) (k .1)
+          (held-sooner h) hs e

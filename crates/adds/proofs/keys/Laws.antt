@@ -18,7 +18,8 @@ use Rattle.tables.proofs.Walk.{records-turn}
 use Rattle.adds.specs.Keys.{keyOf, keysIn, below, fromKey}
 
 -- a record that was read is the next of its list
-pub read-turn : {A : Type 0} {x : A} (w : ℕ) (d : List ℕ → A) (n : ℕ) (t : List ℕ) (i : ℕ) → i < n → x ≡ recordAt w d t i
+pub read-turn : {A : Type 0} {x : A} (w : ℕ) (d : List ℕ → A) (n : ℕ) (t : List ℕ) (i : ℕ) → i < n
+    → x ≡ recordAt w d t i
     → drop i (records w d n t) ≡ x ∷ drop (i + 1) (records w d n t)
 read-turn w d n t i l e = records-turn w d n t i l ∙ rw (← e)
 
@@ -55,10 +56,12 @@ module _ {low : ℕ} {ks : List ℕ} {n i k : ℕ} (s : Skipping low ks n i k) w
 below-length : (low : ℕ) (ks : List ℕ) → below low ks ≤ length ks
 unfolding below
 below-length low [] = omega arith
-below-length low (k ∷ ks) = let h = below-length low ks in test (ltb k low) (λ e. rw e (omega arith)) (λ e. rw e (omega arith))
+below-length low (k ∷ ks) =
+    let h = below-length low ks in test (ltb k low) (λ e. rw e (omega arith)) (λ e. rw e (omega arith))
 
 module _ {A : Type 0} (key : A → ℕ) (w : ℕ) (d : List ℕ → A) (first : (b : List ℕ) → key (d b) ≡ keyOf b) where
-  from-below : (low n : ℕ) (t : List ℕ) → drop (below low (keysIn w n t)) (records w d n t) ≡ fromKey key low (records w d n t)
+  from-below : (low n : ℕ) (t : List ℕ)
+      → drop (below low (keysIn w n t)) (records w d n t) ≡ fromKey key low (records w d n t)
   unfolding below fromKey records
   from-below low zero t = refl
   from-below low (suc n) t =
@@ -71,13 +74,16 @@ module _ {A : Type 0} (key : A → ℕ) (w : ℕ) (d : List ℕ → A) (first : 
       let m = length-drop i (keysIn w n t) in
       let k = records-length w keyOf n t in (
         omega arith,
-        ap (λ (j : ℕ). drop j (records w d n t)) e ∙ sym (drop-drop (below low (drop i (keysIn w n t))) i (records w d n t))
+        ap (λ (j : ℕ). drop j (records w d n t)) e
+            ∙ sym (drop-drop (below low (drop i (keysIn w n t))) i (records w d n t))
             ∙ rw (drop-records w d i n t l, drop-records w keyOf i n t l) (from-below low (n - i) (drop (i * w) t)),
       )
 
 -- what is left of a rising list begins at low or later
-pub from-rises : {A : Type 0} (key : A → ℕ) (b low : ℕ) (xs : List A) → Rises key b xs → Rises key low (fromKey key low xs)
+pub from-rises : {A : Type 0} (key : A → ℕ) (b low : ℕ) (xs : List A) → Rises key b xs
+    → Rises key low (fromKey key low xs)
 unfolding fromKey
 from-rises key b low [] r = tt
 from-rises key b low (x ∷ xs) r =
-    test (ltb (key x) low) (λ e. rw e (from-rises key (suc (key x)) low xs (r .1))) (λ e. rw e (ltb-false (key x) low e, r .1))
+    test (ltb (key x) low) (λ e. rw e (from-rises key (suc (key x)) low xs (r .1)))
+    (λ e. rw e (ltb-false (key x) low e, r .1))

@@ -9,7 +9,10 @@ use Rattle.adds.proofs.stores_some.Statement.{statement}
 use Rattle.adds.proofs.stores_some.Tie as tie
 
 abbrev Inv-loop : tie.InvT-loop
-Inv-loop budget n c f h headers other theirs frames store parts at₀ j₀ at j = Seeking budget n f h (partTables headers other theirs) (storedIn (c .frames) (c .parts) (partTables frames store parts)) (someStored budget (framesIn f headers other) n (partsIn h theirs) (storedIn (c .frames) (c .parts) (partTables frames store parts))) j at
+Inv-loop budget n c f h headers other theirs frames store parts at₀ j₀ at j =
+    Seeking budget n f h (partTables headers other theirs)
+    (storedIn (c .frames) (c .parts) (partTables frames store parts))
+    (someStored budget (framesIn f headers other) n (partsIn h theirs) (storedIn (c .frames) (c .parts) (partTables frames store parts))) j at
 
 abbrev μ-loop : tie.MeasureT-loop
 μ-loop budget n c f h headers other theirs frames store parts at₀ j₀ at j = h - j
@@ -27,7 +30,8 @@ source-at-requires c κs =
     let in-loop : tie.In-loop Inv-loop μ-loop = search in
     let at-loop : tie.At-loop Inv-loop μ-loop = search in
     let start : tie.Start Inv-loop μ-loop = search in
-    let s = source-ready _ _ _ _ _ _ (start .pre .0) (at-loop .loop .inv) (in-loop .loop-test .taken) (c .read-held .ensures) in
+    let s =
+    source-ready _ _ _ _ _ _ (start .pre .0) (at-loop .loop .inv) (in-loop .loop-test .taken) (c .read-held .ensures) in
     (s .0, s .1, s .2, s .3, s .4, (let z = s .5 in omega arith))
 
 read-header-requires : tie.Need-read-header-requires Inv-loop μ-loop
@@ -36,7 +40,9 @@ read-header-requires c κs =
     let in-loop : tie.In-loop Inv-loop μ-loop = search in
     let at-loop : tie.At-loop Inv-loop μ-loop = search in
     let start = begin at-loop in
-    let s = source-ready _ _ _ _ _ _ (start .pre .0) (at-loop .loop .inv) (in-loop .loop-test .taken) (after-read-held .read-held .ensures) in
+    let s =
+    source-ready _ _ _ _ _ _ (start .pre .0) (at-loop .loop .inv) (in-loop .loop-test .taken)
+    (after-read-held .read-held .ensures) in
     let a = s .3 in let b = s .4 in omega arith
 
 stores-one-requires : tie.Need-stores-one-requires Inv-loop μ-loop
@@ -47,7 +53,8 @@ stores-one-requires c κs =
     let at-loop : tie.At-loop Inv-loop μ-loop = search in
     let start = begin at-loop in (
       start .pre .1,
-      part-inside _ _ _ _ _ _ (start .pre .0) (at-loop .loop .inv) (in-loop .loop-test .taken) (after-read-held .read-held .ensures)
+      part-inside _ _ _ _ _ _ (start .pre .0) (at-loop .loop .inv) (in-loop .loop-test .taken)
+          (after-read-held .read-held .ensures)
           (after-source-at .source-at .ensures),
     )
 
@@ -60,8 +67,10 @@ returns c =
     let in-loop : tie.In-loop Inv-loop μ-loop = search in
     let at-loop : tie.At-loop Inv-loop μ-loop = search in
     let start = begin at-loop in
-    seek-found _ _ _ _ _ _ (start .pre .0) (at-loop .loop .inv) (in-loop .loop-test .taken) (after-read-held .read-held .ensures)
-    (after-source-at .source-at .ensures) (after-read-header .read-header .ensures) (after-stores-one .stores-one .ensures) (c .if1 .taken)
+    seek-found _ _ _ _ _ _ (start .pre .0) (at-loop .loop .inv) (in-loop .loop-test .taken)
+    (after-read-held .read-held .ensures)
+    (after-source-at .source-at .ensures) (after-read-header .read-header .ensures)
+    (after-stores-one .stores-one .ensures) (c .if1 .taken)
 
 add-j : tie.Need-add-j Inv-loop μ-loop
 add-j c =
@@ -79,8 +88,10 @@ loop-again c =
     let in-loop : tie.In-loop Inv-loop μ-loop = search in
     let at-loop : tie.At-loop Inv-loop μ-loop = search in
     let start = begin at-loop in
-    seek-on _ _ _ _ _ _ (start .pre .0) (at-loop .loop .inv) (in-loop .loop-test .taken) (after-read-held .read-held .ensures)
-    (after-source-at .source-at .ensures) (after-read-header .read-header .ensures) (after-stores-one .stores-one .ensures) (c .if1 .left)
+    seek-on _ _ _ _ _ _ (start .pre .0) (at-loop .loop .inv) (in-loop .loop-test .taken)
+    (after-read-held .read-held .ensures)
+    (after-source-at .source-at .ensures) (after-read-header .read-header .ensures)
+    (after-stores-one .stores-one .ensures) (c .if1 .left)
 
 returns-2 : tie.Need-returns-2 Inv-loop μ-loop
 returns-2 c =

@@ -14,7 +14,9 @@ use Rattle.adds.proofs.compare.absorbs.Statement.{statement}
 use Rattle.adds.proofs.compare.absorbs.Tie as tie
 
 abbrev Inv-loop : tie.InvT-loop
-Inv-loop own n other m first i₀ j₀ i j = Absorbing (confirmationsIn n own) (confirmationsIn m other) (absorbed (confirmationsIn n own) (drop first (confirmationsIn m other))) n m i j
+Inv-loop own n other m first i₀ j₀ i j =
+    Absorbing (confirmationsIn n own) (confirmationsIn m other)
+    (absorbed (confirmationsIn n own) (drop first (confirmationsIn m other))) n m i j
 
 abbrev μ-loop : tie.MeasureT-loop
 μ-loop own n other m first i₀ j₀ i j = n - i
@@ -39,7 +41,8 @@ returns-2 c =
     let at-loop : tie.At-loop Inv-loop μ-loop = search in
     absorb-moved (at-loop .loop .inv)
     (read-turn 16 decodeConfirmation _ _ _ (in-loop .loop-test .taken) (after-read-confirmation2 .read-confirmation2 .ensures))
-    (read-turn 16 decodeConfirmation _ _ _ (else1 .if1 .left) (after-read-confirmation .read-confirmation .ensures)) (after-unmoved .unmoved .ensures)
+    (read-turn 16 decodeConfirmation _ _ _ (else1 .if1 .left) (after-read-confirmation .read-confirmation .ensures))
+    (after-unmoved .unmoved .ensures)
     (c .if2 .taken)
 
 loop-again : tie.Need-loop-again Inv-loop μ-loop
@@ -53,7 +56,8 @@ loop-again c =
     let at-loop : tie.At-loop Inv-loop μ-loop = search in
     absorb-on (at-loop .loop .inv)
     (read-turn 16 decodeConfirmation _ _ _ (in-loop .loop-test .taken) (after-read-confirmation2 .read-confirmation2 .ensures))
-    (read-turn 16 decodeConfirmation _ _ _ (else1 .if1 .left) (after-read-confirmation .read-confirmation .ensures)) (else1 .if1 .left)
+    (read-turn 16 decodeConfirmation _ _ _ (else1 .if1 .left) (after-read-confirmation .read-confirmation .ensures))
+    (else1 .if1 .left)
     (in-loop .loop-test .taken) (after-unmoved .unmoved .ensures) (else2 .if2 .left) (c .met .ensures)
 
 returns-3 : tie.Need-returns-3 Inv-loop μ-loop

@@ -1,5 +1,5 @@
 use Rattle.adds.specs.Marks.{changedBy}
-use mathlib.Core.Path.{sym, _∙_}
+use mathlib.Core.Path.{sym}
 use borrow.Author.Tests.{eq-eqb, ne-eqb, le-leb, lt-leb}
 use borrow.Author.Needs.{needs}
 use Rattle.adds.proofs.compare.changed_by.Statement.{statement}
@@ -11,19 +11,34 @@ returns c = rw (c .if1 .taken)
 
 returns-2 : tie.Need-returns-2
 unfolding changedBy
-returns-2 c = rw (c .before .before .if1 .left, eq-eqb _ _ (c .if2 .taken))
+returns-2 c =
+    let one : tie.Else1 = search in
+    rw (one .if1 .left, eq-eqb _ _ (c .if2 .taken))
 
 returns-3 : tie.Need-returns-3
 unfolding changedBy
-returns-3 c = rw (c .before .before .before .before .if1 .left, ne-eqb _ _ (c .before .before .if2 .left), le-leb _ _ (c .if3 .taken))
+returns-3 c =
+    let one : tie.Else1 = search in
+    let two : tie.Else2 = search in
+    rw (one .if1 .left, ne-eqb _ _ (two .if2 .left), le-leb _ _ (c .if3 .taken))
 
 returns-4 : tie.Need-returns-4
 unfolding changedBy
-returns-4 c = rw (c .before .before .before .before .before .if1 .left, ne-eqb _ _ (c .before .before .before .if2 .left), lt-leb _ _ (c .before .if3 .left), ne-eqb _ _ (c .if4 .taken))
+returns-4 c =
+    let one : tie.Else1 = search in
+    let two : tie.Else2 = search in
+    let three : tie.Else3 = search in
+    rw (one .if1 .left, ne-eqb _ _ (two .if2 .left), lt-leb _ _ (three .if3 .left), ne-eqb _ _ (c .if4 .taken))
 
 returns-5 : tie.Need-returns-5
 unfolding changedBy
-returns-5 c = rw (c .lower-pair .ensures) (sym (rw (c .before .before .before .before .before .before .before .before .if1 .left, ne-eqb _ _ (c .before .before .before .before .before .before .if2 .left), lt-leb _ _ (c .before .before .before .before .if3 .left), eq-eqb _ _ (c .before .before .before .if4 .left))))
+returns-5 c =
+    let one : tie.Else1 = search in
+    let two : tie.Else2 = search in
+    let three : tie.Else3 = search in
+    let four : tie.Else4 = search in
+    rw (c .lower-pair .ensures)
+    (sym (rw (one .if1 .left, ne-eqb _ _ (two .if2 .left), lt-leb _ _ (three .if3 .left), eq-eqb _ _ (four .if4 .left))))
 
 pub changed-by-spec : {M : Type 1} → statement M
 changed-by-spec =

@@ -14,7 +14,8 @@ returns-2 c =
     let after-weigh : tie.After-weigh = search in
     let else1 : tie.Else1 = search in
     let start : tie.Start = search in
-    hints-answered _ _ (records-length 8 decodeKept _ _) (start .pre .2) (else1 .if1 .left) (after-weigh .weigh .ensures) (unkept-in _ _) (c .changed-by .ensures)
+    hints-answered _ _ (records-length 8 decodeKept _ _) (start .pre .2) (else1 .if1 .left)
+    (after-weigh .weigh .ensures) (unkept-in _ _) (c .changed-by .ensures)
 
 pub changes-hints-spec : {M : Type 1} → statement M
 changes-hints-spec = tie.close (tie.spec returns (λ c κs. search needs) (λ c κs. search needs) returns-2)

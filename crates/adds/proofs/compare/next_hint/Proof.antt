@@ -12,7 +12,9 @@ read-arriving-requires c κs =
     let after-lsn-at2 : tie.After-lsn-at2 = search in
     let after-lsn-at : tie.After-lsn-at = search in
     let start : tie.Start = search in
-    let l = other-inside (after-lsn-at .lsn-at .ensures) (unkept-at _ _ (after-lsn-at2 .lsn-at2 .ensures)) (start .pre .2) (c .if1 .taken) in omega (arith, l)
+    let l =
+    other-inside (after-lsn-at .lsn-at .ensures) (unkept-at _ _ (after-lsn-at2 .lsn-at2 .ensures)) (start .pre .2)
+    (c .if1 .taken) in omega (arith, l)
 
 returns : tie.Need-returns
 returns c =
@@ -20,7 +22,8 @@ returns c =
     let after-lsn-at2 : tie.After-lsn-at2 = search in
     let after-lsn-at : tie.After-lsn-at = search in
     let start : tie.Start = search in
-    turn-new (after-lsn-at .lsn-at .ensures) (unkept-at _ _ (after-lsn-at2 .lsn-at2 .ensures)) (start .pre .2) (start .pre .3) (then1 .if1 .taken)
+    turn-new (after-lsn-at .lsn-at .ensures) (unkept-at _ _ (after-lsn-at2 .lsn-at2 .ensures)) (start .pre .2)
+    (start .pre .3) (then1 .if1 .taken)
     (read-turn 8 decodeUnkept _ _ _ (other-inside (after-lsn-at .lsn-at .ensures) (unkept-at _ _ (after-lsn-at2 .lsn-at2 .ensures)) (start .pre .2) (then1 .if1 .taken))
     (c .read-arriving .ensures))
 
@@ -29,7 +32,9 @@ read-hint-requires c κs =
     let after-lsn-at2 : tie.After-lsn-at2 = search in
     let after-lsn-at : tie.After-lsn-at = search in
     let start : tie.Start = search in
-    let l = own-inside (after-lsn-at .lsn-at .ensures) (unkept-at _ _ (after-lsn-at2 .lsn-at2 .ensures)) (start .pre .3) (start .pre .4) (c .if1 .left) in
+    let l =
+    own-inside (after-lsn-at .lsn-at .ensures) (unkept-at _ _ (after-lsn-at2 .lsn-at2 .ensures)) (start .pre .3)
+    (start .pre .4) (c .if1 .left) in
     omega (arith, l)
 
 returns-2 : tie.Need-returns-2
@@ -39,8 +44,11 @@ returns-2 c =
     let after-lsn-at2 : tie.After-lsn-at2 = search in
     let after-lsn-at : tie.After-lsn-at = search in
     let start : tie.Start = search in
-    let l = own-inside (after-lsn-at .lsn-at .ensures) (unkept-at _ _ (after-lsn-at2 .lsn-at2 .ensures)) (start .pre .3) (start .pre .4) (else1 .if1 .left) in
-    turn-held (after-lsn-at .lsn-at .ensures) (unkept-at _ _ (after-lsn-at2 .lsn-at2 .ensures)) (start .pre .2) (start .pre .3) l
+    let l =
+    own-inside (after-lsn-at .lsn-at .ensures) (unkept-at _ _ (after-lsn-at2 .lsn-at2 .ensures)) (start .pre .3)
+    (start .pre .4) (else1 .if1 .left) in
+    turn-held (after-lsn-at .lsn-at .ensures) (unkept-at _ _ (after-lsn-at2 .lsn-at2 .ensures)) (start .pre .2)
+    (start .pre .3) l
     (read-turn 8 decodeKept _ _ _ l (after-read-hint .read-hint .ensures)) (c .if2 .taken)
 
 read-arriving-requires-2 : tie.Need-read-arriving-requires-2
@@ -49,8 +57,12 @@ read-arriving-requires-2 c κs =
     let after-lsn-at2 : tie.After-lsn-at2 = search in
     let after-lsn-at : tie.After-lsn-at = search in
     let start : tie.Start = search in
-    let l = own-inside (after-lsn-at .lsn-at .ensures) (unkept-at _ _ (after-lsn-at2 .lsn-at2 .ensures)) (start .pre .3) (start .pre .4) (else1 .if1 .left) in
-    let g = both-inside (after-lsn-at .lsn-at .ensures) (unkept-at _ _ (after-lsn-at2 .lsn-at2 .ensures)) l (c .if2 .left) (else1 .if1 .left) in
+    let l =
+    own-inside (after-lsn-at .lsn-at .ensures) (unkept-at _ _ (after-lsn-at2 .lsn-at2 .ensures)) (start .pre .3)
+    (start .pre .4) (else1 .if1 .left) in
+    let g =
+    both-inside (after-lsn-at .lsn-at .ensures) (unkept-at _ _ (after-lsn-at2 .lsn-at2 .ensures)) l (c .if2 .left)
+    (else1 .if1 .left) in
     omega (arith, g)
 
 returns-3 : tie.Need-returns-3
@@ -62,10 +74,17 @@ returns-3 c =
     let after-lsn-at2 : tie.After-lsn-at2 = search in
     let after-lsn-at : tie.After-lsn-at = search in
     let start : tie.Start = search in
-    let l = own-inside (after-lsn-at .lsn-at .ensures) (unkept-at _ _ (after-lsn-at2 .lsn-at2 .ensures)) (start .pre .3) (start .pre .4) (else1 .if1 .left) in
-    let g = both-inside (after-lsn-at .lsn-at .ensures) (unkept-at _ _ (after-lsn-at2 .lsn-at2 .ensures)) l (else2 .if2 .left) (else1 .if1 .left) in
-    turn-both (after-lsn-at .lsn-at .ensures) (unkept-at _ _ (after-lsn-at2 .lsn-at2 .ensures)) (start .pre .2) (start .pre .3) l
-    (read-turn 8 decodeKept _ _ _ l (after-read-hint .read-hint .ensures)) (read-turn 8 decodeUnkept _ _ _ g (after-read-arriving2 .read-arriving2 .ensures)) (else2 .if2 .left) (else1 .if1 .left)
+    let l =
+    own-inside (after-lsn-at .lsn-at .ensures) (unkept-at _ _ (after-lsn-at2 .lsn-at2 .ensures)) (start .pre .3)
+    (start .pre .4) (else1 .if1 .left) in
+    let g =
+    both-inside (after-lsn-at .lsn-at .ensures) (unkept-at _ _ (after-lsn-at2 .lsn-at2 .ensures)) l (else2 .if2 .left)
+    (else1 .if1 .left) in
+    turn-both (after-lsn-at .lsn-at .ensures) (unkept-at _ _ (after-lsn-at2 .lsn-at2 .ensures)) (start .pre .2)
+    (start .pre .3) l
+    (read-turn 8 decodeKept _ _ _ l (after-read-hint .read-hint .ensures))
+    (read-turn 8 decodeUnkept _ _ _ g (after-read-arriving2 .read-arriving2 .ensures)) (else2 .if2 .left)
+    (else1 .if1 .left)
 
 pub next-hint-spec : {M : Type 1} → statement M
 next-hint-spec =

@@ -11,11 +11,16 @@ returns c = rw (lt-ltb _ _ (c .if1 .taken))
 
 returns-2 : tie.Need-returns-2
 unfolding unmovedBy
-returns-2 c = rw (le-ltb _ _ (c .before .before .before .if1 .left), lt-ltb _ _ (c .if2 .taken))
+returns-2 c =
+    let one : tie.Else1 = search in
+    rw (le-ltb _ _ (one .if1 .left), lt-ltb _ _ (c .if2 .taken))
 
 returns-3 : tie.Need-returns-3
 unfolding unmovedBy
-returns-3 c = (c .stays .ensures) ∙ sym (rw (le-ltb _ _ (c .before .before .before .before .if1 .left), le-ltb _ _ (c .before .if2 .left)))
+returns-3 c =
+    let one : tie.Else1 = search in
+    let two : tie.Else2 = search in
+    (c .stays .ensures) ∙ sym (rw (le-ltb _ _ (one .if1 .left), le-ltb _ _ (two .if2 .left)))
 
 pub unmoved-spec : {M : Type 1} → statement M
 unmoved-spec = tie.close (tie.spec returns returns-2 (λ c κs. search needs) returns-3)

@@ -2,7 +2,6 @@ use Rattle.adds.proofs.compare.Passing.{Weighing, weigh-start, weigh-on
 use Rattle.tables.specs.Tables.{decodeKept, keptIn}
 use Rattle.add_hints.specs.Merged.{decodeUnkept, unkeptIn}
 use Rattle.field.proofs.Records.{records-length}
-use native.Mathlib.Omega.{arith}
 use Prim.Native.Nat.{_+_, _-_}
 use borrow.Author.Needs.{needs}
 use Rattle.adds.proofs.compare.weigh.Statement.{statement}
@@ -21,7 +20,9 @@ loop-again : tie.Need-loop-again Inv-loop μ-loop
 loop-again c = weigh-on (c .before .before .before .loop .inv) (c .before .next-hint .ensures) (c .weigh-one .ensures)
 
 returns : tie.Need-returns Inv-loop μ-loop
-returns c = weigh-end (records-length 8 decodeKept _ _) (records-length 8 decodeUnkept _ _) (c .before .loop .inv) (c .loop-test .left)
+returns c =
+    weigh-end (records-length 8 decodeKept _ _) (records-length 8 decodeUnkept _ _) (c .before .loop .inv)
+    (c .loop-test .left)
 
 pub weigh-spec : {M : Type 1} → statement M
 weigh-spec =

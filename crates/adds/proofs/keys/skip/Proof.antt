@@ -21,13 +21,16 @@ mul-read-u32 : tie.Need-mul-read-u32 Inv-loop μ-loop
 mul-read-u32 c =
     let start : tie.Start Inv-loop μ-loop = search in
     let in-loop : tie.In-loop Inv-loop μ-loop = search in
-    let f = row-fits (start .args .w) _ (start .args .n) (start .args .t .now) (in-loop .loop-test .taken) (start .pre .1) in omega arith
+    let f =
+    row-fits (start .args .w) _ (start .args .n) (start .args .t .now) (in-loop .loop-test .taken) (start .pre .1) in
+    omega arith
 
 read-u32-requires : tie.Need-read-u32-requires Inv-loop μ-loop
 read-u32-requires c κs =
     let start : tie.Start Inv-loop μ-loop = search in
     let in-loop : tie.In-loop Inv-loop μ-loop = search in
-    let f = row-fits (start .args .w) _ (start .args .n) (start .args .t .now) (in-loop .loop-test .taken) (start .pre .1) in
+    let f =
+    row-fits (start .args .w) _ (start .args .n) (start .args .t .now) (in-loop .loop-test .taken) (start .pre .1) in
     let h = start .pre .0 in omega arith
 
 returns : tie.Need-returns Inv-loop μ-loop
