@@ -47,15 +47,19 @@ walk-within a k cs f headers store o [] e = tt
 walk-within a k cs f headers store o (p ∷ ps) e =
     let fs = framesIn f headers store in
     let h = part→ a k 0 cs fs o p (walk-head (partOk a k 0 cs fs) keep o p ps e) .0 in
-    let l = h .frame in let n = frames-length (headersIn f headers) store in let m = records-length 8 decodeHeader f headers in
+    let l = h .frame in let n = frames-length (headersIn f headers) store in
+    let m = records-length 8 decodeHeader f headers in
     ((omega arith, h .len), walk-within a k cs f headers store (some p) ps (walk-tail (partOk a k 0 cs fs) keep o p ps e))
 
-pub parts-lent : {x : AreaIndex} {t : Tables} → Passes x t → PartsLent (x .parts) (t .parts) (x .frames) (t .frames) (t .store)
+pub parts-lent : {x : AreaIndex} {t : Tables} → Passes x t
+    → PartsLent (x .parts) (t .parts) (x .frames) (t .frames) (t .store)
 parts-lent {x} {t} p =
     record {
       room = passes-long p .parts;
       frames = record { room = passes-long p .frames; bytes = passes-store p };
-      within = walk-within (x .area) (x .interval) (indexIn x t .scan .checkpoints) (x .frames) (t .frames) (t .store) none (partsIn (x .parts) (t .parts)) (scan-is p .stretch .held .parts);
+      within =
+          walk-within (x .area) (x .interval) (indexIn x t .scan .checkpoints) (x .frames) (t .frames) (t .store) none
+          (partsIn (x .parts) (t .parts)) (scan-is p .stretch .held .parts);
     }
 
 module _ {x y : AreaIndex} {t u : Tables} (j : Joins x t y u) where
@@ -68,7 +72,8 @@ module _ {x y : AreaIndex} {t u : Tables} (j : Joins x t y u) where
   pub confirmed-room : (x .confirmed * 16 ≤ length (t .confirmed)) × (y .confirmed * 16 ≤ length (u .confirmed))
   confirmed-room = (passes-hints (j .own) .confirmed, passes-hints (j .other) .confirmed)
 
-  pub both-lent : PartsLent (x .parts) (t .parts) (x .frames) (t .frames) (t .store) × PartsLent (y .parts) (u .parts) (y .frames) (u .frames) (u .store)
+  pub both-lent : PartsLent (x .parts) (t .parts) (x .frames) (t .frames) (t .store)
+      × PartsLent (y .parts) (u .parts) (y .frames) (u .frames) (u .store)
   both-lent = (parts-lent (j .own), parts-lent (j .other))
 
   -- ---- the counts
@@ -84,16 +89,25 @@ module _ {x y : AreaIndex} {t u : Tables} (j : Joins x t y u) where
         let s = scan-is (j .own) in let r = scan-is (j .other) in
         let g = hinting-is (j .own) in let h = hinting-is (j .other) in
         let e0 : a ≡ count (indexIn y u .scan) - count (indexIn x t .scan) =
-        p0 ∙ sym (ap₂ (λ (p q : ℕ). q - p) (records-length 24 decodeCheckpoint (x .checkpoints) (t .checkpoints)) (records-length 24 decodeCheckpoint (y .checkpoints) (u .checkpoints))) in
-        let e1 = p1 ∙ parts-missed _ _ _ _ _ _ 0 0 _ _ (parts-rise _ _ _ _ _ _ (s .stretch .held)) (parts-rise _ _ _ _ _ _ (r .stretch .held)) in
-        let e2 = p2 ∙ missed-rising ownLsn eqb eqb-true anyLsn _ _ _ _ _ _ (all→ _ (s .malformed) .1 .0) (all→ _ (r .malformed) .1 .0) in
+        p0 ∙ sym
+        (ap₂ (λ (p q : ℕ). q - p) (records-length 24 decodeCheckpoint (x .checkpoints) (t .checkpoints)) (records-length 24 decodeCheckpoint (y .checkpoints) (u .checkpoints))) in
+        let e1 =
+        p1 ∙ parts-missed _ _ _ _ _ _ 0 0 _ _ (parts-rise _ _ _ _ _ _ (s .stretch .held))
+        (parts-rise _ _ _ _ _ _ (r .stretch .held)) in
+        let e2 =
+        p2 ∙ missed-rising ownLsn eqb eqb-true anyLsn _ _ _ _ _ _ (all→ _ (s .malformed) .1 .0)
+        (all→ _ (r .malformed) .1 .0) in
         let e3 = p3 ∙ missed-rising hintLsn sameHint hint-key hintOk _ _ _ _ _ _ (g .hints) (h .hints) in
-        let e4 = p4 ∙ missed-rising confirmedLsn confirmsAlso confirmed-key confirmationOk _ _ _ _ _ _ (g .confirmed) (h .confirmed) in
+        let e4 =
+        p4 ∙ missed-rising confirmedLsn confirmsAlso confirmed-key confirmationOk _ _ _ _ _ _ (g .confirmed)
+        (h .confirmed) in
         λ i. record { checkpoints = e0 i; parts = e1 i; malformed = e2 i; hints = e3 i; confirmed = e4 i }
 
 -- ---- with the numbers
-pub lacks-by-is : {e1 e2 a1 k1 k2 a2 h1 h2 a3 : Bool} (x y : AreaIndex) (c : Missing) → e1 ≡ isSome (endIn (y .ending)) → e2 ≡ isSome (endIn (x .ending)) → a1 ≡ (e1 && not e2)
-    → k1 ≡ isSome (stated (y .fingerprint)) → k2 ≡ isSome (stated (x .fingerprint)) → a2 ≡ (k1 && not k2) → h1 ≡ isSome (idIn (y .image)) → h2 ≡ isSome (idIn (x .image)) → a3 ≡ (h1 && not h2)
+pub lacks-by-is : {e1 e2 a1 k1 k2 a2 h1 h2 a3 : Bool} (x y : AreaIndex) (c : Missing)
+    → e1 ≡ isSome (endIn (y .ending)) → e2 ≡ isSome (endIn (x .ending)) → a1 ≡ (e1 && not e2)
+    → k1 ≡ isSome (stated (y .fingerprint)) → k2 ≡ isSome (stated (x .fingerprint)) → a2 ≡ (k1 && not k2)
+    → h1 ≡ isSome (idIn (y .image)) → h2 ≡ isSome (idIn (x .image)) → a3 ≡ (h1 && not h2)
     → _≡_ {A = Lacks}
     (record {
       checkpoints = c .checkpoints;
@@ -125,7 +139,8 @@ lacks-by-is {a1 = a1} {a2 = a2} {a3 = a3} x y c p0 p1 p2 p3 p4 p5 p6 p7 p8 =
       most = ltb (x .most) (y .most);
     }
 
-counted : (x : AreaIndex) (t : Tables) (y : AreaIndex) (u : Tables) → lacksBy x y (countsIn x t y u) ≡ lacking (indexIn x t) (indexIn y u)
+counted : (x : AreaIndex) (t : Tables) (y : AreaIndex) (u : Tables)
+    → lacksBy x y (countsIn x t y u) ≡ lacking (indexIn x t) (indexIn y u)
 unfolding lacksBy countsIn lacking
 counted x t y u = refl
 
@@ -139,6 +154,7 @@ module _ (x : AreaIndex) (t : Tables) (y : AreaIndex) (u : Tables) {n : ℕ} (e 
   unfolding lackedOf after
   lacks-refused h = sym (call-is ∙ rw (ne-eqb n 0 h))
 
-  pub lacks-done : {b : Lacks} {c : Missing} → n ≡ 0 → c ≡ countsIn x t y u → b ≡ lacksBy x y c → lackedOf (lacked.Lacks b) ≡ lacksIn x t y u
+  pub lacks-done : {b : Lacks} {c : Missing} → n ≡ 0 → c ≡ countsIn x t y u → b ≡ lacksBy x y c
+      → lackedOf (lacked.Lacks b) ≡ lacksIn x t y u
   unfolding lackedOf after
   lacks-done h g q = sym (call-is ∙ rw (eq-eqb n 0 h, q, g, counted x t y u))

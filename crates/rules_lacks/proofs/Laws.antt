@@ -52,7 +52,8 @@ module _ {A : Type 0} (d : A) where
   covers→ stands xs ys e i l =
       any→ d (λ x. stands x (getD ys i d)) xs (each-at (λ y. anyOf (λ x. stands x y) xs) d ys i e l)
 
-  pub →covers : (stands : A → A → Bool) (xs ys : List A) → ((i : ℕ) → i < length ys → Found d (λ x. stands x (getD ys i d)) xs)
+  pub →covers : (stands : A → A → Bool) (xs ys : List A)
+      → ((i : ℕ) → i < length ys → Found d (λ x. stands x (getD ys i d)) xs)
       → covers stands xs ys ≡ true
   unfolding covers
   →covers stands xs ys f =
@@ -61,9 +62,11 @@ module _ {A : Type 0} (d : A) where
 
   -- each list covers itself, and covering goes on
   pub covers-self : (stands : A → A → Bool) → ((x : A) → stands x x ≡ true) → (xs : List A) → covers stands xs xs ≡ true
-  covers-self stands self xs = →covers stands xs xs (λ i l. record { place = i; inside = l; holds = self (getD xs i d) })
+  covers-self stands self xs =
+      →covers stands xs xs (λ i l. record { place = i; inside = l; holds = self (getD xs i d) })
 
-  pub covers-on : (f g h : A → A → Bool) → ((x y z : A) → f x y ≡ true → g y z ≡ true → h x z ≡ true) → (xs ys zs : List A)
+  pub covers-on : (f g h : A → A → Bool) → ((x y z : A) → f x y ≡ true → g y z ≡ true → h x z ≡ true)
+      → (xs ys zs : List A)
       → covers f xs ys ≡ true → covers g ys zs ≡ true → covers h xs zs ≡ true
   covers-on f g h on xs ys zs a b =
       →covers h xs zs
@@ -84,7 +87,8 @@ sameSigned-eq (negsuc a) (pos b) e = never {b = false} e refl
 sameSigned-eq (negsuc a) (negsuc b) e = ap negsuc (eqb-true a b e)
 
 -- ---- parts: the same checkpoint and content
-pub samePart→ : (fs gs : List Frame) (p q : Held) → samePart fs gs p q ≡ true → (p .at ≡ q .at) × (contentOf fs p ≡ contentOf gs q)
+pub samePart→ : (fs gs : List Frame) (p q : Held) → samePart fs gs p q ≡ true
+    → (p .at ≡ q .at) × (contentOf fs p ≡ contentOf gs q)
 unfolding samePart
 samePart→ fs gs p q e =
     let t = all→ _ e in
@@ -95,7 +99,8 @@ samePart→ fs gs p q e =
     let e4 : partBytes fs p ≡ partBytes gs q = same-true _ _ (t .1 .1 .1 .1 .0) in
     (e0, λ i. record { bytes = e4 i; number = e1 i; kind = e2 i; remaining = e3 i })
 
-pub →samePart : (fs gs : List Frame) (p q : Held) → p .at ≡ q .at → contentOf fs p ≡ contentOf gs q → samePart fs gs p q ≡ true
+pub →samePart : (fs gs : List Frame) (p q : Held) → p .at ≡ q .at → contentOf fs p ≡ contentOf gs q
+    → samePart fs gs p q ≡ true
 unfolding samePart
 →samePart fs gs p q a c =
     let e1 : p .number ≡ q .number = λ i. c i .number in
@@ -104,7 +109,8 @@ unfolding samePart
     let e4 : partBytes fs p ≡ partBytes gs q = λ i. c i .bytes in
     →all _ (rw a (eqb-self (q .at)), (rw e1 (eqb-self (q .number)), (rw e2 (sameKind-self (q .kind)), (rw e3 (sameSigned-self (q .remaining)), (rw e4 (same-refl (partBytes gs q)), tt)))))
 
-pub samePart-on : (fs gs hs : List Frame) (p q r : Held) → samePart fs gs p q ≡ true → samePart gs hs q r ≡ true → samePart fs hs p r ≡ true
+pub samePart-on : (fs gs hs : List Frame) (p q r : Held) → samePart fs gs p q ≡ true → samePart gs hs q r ≡ true
+    → samePart fs hs p r ≡ true
 samePart-on fs gs hs p q r a b =
     let x = samePart→ fs gs p q a in let y = samePart→ gs hs q r b in →samePart fs hs p r (x .0 ∙ y .0) (x .1 ∙ y .1)
 
@@ -153,7 +159,9 @@ pub record ConfirmsAlso (c d : Confirmation) : Type 0 where
 
 pub confirms→ : (c d : Confirmation) → confirmsAlso c d ≡ true → ConfirmsAlso c d
 unfolding confirmsAlso
-confirms→ c d e = let t = all→ _ e in record { lsn = eqb-true _ _ (t .0); digest = eqb-true _ _ (t .1 .0); threshold = leb-true _ _ (t .1 .1 .0) }
+confirms→ c d e =
+    let t = all→ _ e in
+    record { lsn = eqb-true _ _ (t .0); digest = eqb-true _ _ (t .1 .0); threshold = leb-true _ _ (t .1 .1 .0) }
 
 pub →confirms : (c d : Confirmation) → ConfirmsAlso c d → confirmsAlso c d ≡ true
 unfolding confirmsAlso
@@ -166,12 +174,14 @@ confirms-on c d e a b =
     →confirms c e (record { lsn = x .lsn ∙ y .lsn; digest = x .digest ∙ y .digest; threshold = omega arith })
 
 -- ---- counts
-pub covers-count : {A : Type 0} (stands : A → A → Bool) (xs ys : List A) → covers stands xs ys ≡ eqb (missing stands xs ys) 0
+pub covers-count : {A : Type 0} (stands : A → A → Bool) (xs ys : List A)
+    → covers stands xs ys ≡ eqb (missing stands xs ys) 0
 unfolding covers missing each
 covers-count stands xs [] = refl
 covers-count stands xs (y ∷ ys) =
     test (anyOf (λ x. stands x y) xs) (λ e. rw (e, zero-add (missing stands xs ys)) (covers-count stands xs ys))
     (λ e. rw (e, ne-eqb (1 + missing stands xs ys) 0 (λ z. omega arith)))
 
-pub none-missing : {A : Type 0} (stands : A → A → Bool) (xs ys : List A) → covers stands xs ys ≡ true → missing stands xs ys ≡ 0
+pub none-missing : {A : Type 0} (stands : A → A → Bool) (xs ys : List A) → covers stands xs ys ≡ true
+    → missing stands xs ys ≡ 0
 none-missing stands xs ys e = eqb-true (missing stands xs ys) 0 (sym (covers-count stands xs ys) ∙ e)

@@ -76,7 +76,8 @@ malformedAt lsn =
 -- checkpoints, ending, parts, malformed; hints, confirmed, fingerprint; image, budget, most
 unfoldable pub lacksNumbers : Lacks → List ℕ
 lacksNumbers l =
-    l .checkpoints ∷ bit (l .ending) ∷ l .parts ∷ l .malformed ∷ l .hints ∷ l .confirmed ∷ bit (l .fingerprint) ∷ bit (l .image) ∷ bit (l .budget) ∷ bit (l .most) ∷ []
+    l .checkpoints ∷ bit (l .ending) ∷ l .parts ∷ l .malformed ∷ l .hints ∷ l .confirmed ∷ bit (l .fingerprint)
+    ∷ bit (l .image) ∷ bit (l .budget) ∷ bit (l .most) ∷ []
 
 abbrev pub lacked : Index → Index → List ℕ
 lacked own other = numbersOf lacksNumbers (lacks ample own ample other)
@@ -100,28 +101,37 @@ lists =
     ∷ example (lacked three (closed three)) (0 ∷ 0 ∷ 1 ∷ 0 ∷ 0 ∷ 0 ∷ 0 ∷ 0 ∷ 0 ∷ 0 ∷ 0 ∷ [])
     ∷ example (lacked (closed three) first) (0 ∷ 0 ∷ 0 ∷ 0 ∷ 0 ∷ 0 ∷ 0 ∷ 0 ∷ 0 ∷ 0 ∷ 0 ∷ [])
     -- a part for a checkpoint that both have: with another byte, or with fewer; not with a longer frame behind its bytes
-    ∷ example (lacked (heldWith (bytesFrom (1 ∷ 2 ∷ 9 ∷ 4 ∷ [])) (partAt 1 3 ∷ []) []) (heldWith (bytesFrom (1 ∷ 2 ∷ 3 ∷ [])) (partAt 1 3 ∷ []) [])) (0 ∷ 0 ∷ 0 ∷ 1 ∷ 0 ∷ 0 ∷ 0 ∷ 0 ∷ 0 ∷ 0 ∷ 0 ∷ [])
-    ∷ example (lacked (heldWith (bytesFrom (1 ∷ 2 ∷ 3 ∷ [])) (partAt 1 2 ∷ []) []) (heldWith (bytesFrom (1 ∷ 2 ∷ 3 ∷ [])) (partAt 1 3 ∷ []) [])) (0 ∷ 0 ∷ 0 ∷ 1 ∷ 0 ∷ 0 ∷ 0 ∷ 0 ∷ 0 ∷ 0 ∷ 0 ∷ [])
-    ∷ example (lacked whole (heldWith (bytesFrom (1 ∷ 2 ∷ 3 ∷ [])) (partAt 1 3 ∷ []) [])) (0 ∷ 0 ∷ 0 ∷ 0 ∷ 0 ∷ 0 ∷ 0 ∷ 0 ∷ 0 ∷ 0 ∷ 0 ∷ [])
+    ∷ example
+    (lacked (heldWith (bytesFrom (1 ∷ 2 ∷ 9 ∷ 4 ∷ [])) (partAt 1 3 ∷ []) []) (heldWith (bytesFrom (1 ∷ 2 ∷ 3 ∷ [])) (partAt 1 3 ∷ []) [])) (0 ∷ 0 ∷ 0 ∷ 1 ∷ 0 ∷ 0 ∷ 0 ∷ 0 ∷ 0 ∷ 0 ∷ 0 ∷ [])
+    ∷ example
+    (lacked (heldWith (bytesFrom (1 ∷ 2 ∷ 3 ∷ [])) (partAt 1 2 ∷ []) []) (heldWith (bytesFrom (1 ∷ 2 ∷ 3 ∷ [])) (partAt 1 3 ∷ []) [])) (0 ∷ 0 ∷ 0 ∷ 1 ∷ 0 ∷ 0 ∷ 0 ∷ 0 ∷ 0 ∷ 0 ∷ 0 ∷ [])
+    ∷ example (lacked whole (heldWith (bytesFrom (1 ∷ 2 ∷ 3 ∷ [])) (partAt 1 3 ∷ []) []))
+    (0 ∷ 0 ∷ 0 ∷ 0 ∷ 0 ∷ 0 ∷ 0 ∷ 0 ∷ 0 ∷ 0 ∷ 0 ∷ [])
     -- a malformed LSN
     ∷ example (lacked (malformedAt 1050) (malformedAt 1060)) (0 ∷ 0 ∷ 0 ∷ 0 ∷ 1 ∷ 0 ∷ 0 ∷ 0 ∷ 0 ∷ 0 ∷ 0 ∷ [])
     -- a hint at the same LSN with another number
-    ∷ example (lacked (hinting Unknown 2048 (hintAt 10 5 ∷ []) []) (hinting Unknown 2048 (hintAt 10 6 ∷ []) [])) (0 ∷ 0 ∷ 0 ∷ 0 ∷ 0 ∷ 1 ∷ 0 ∷ 0 ∷ 0 ∷ 0 ∷ 0 ∷ [])
+    ∷ example (lacked (hinting Unknown 2048 (hintAt 10 5 ∷ []) []) (hinting Unknown 2048 (hintAt 10 6 ∷ []) []))
+    (0 ∷ 0 ∷ 0 ∷ 0 ∷ 0 ∷ 1 ∷ 0 ∷ 0 ∷ 0 ∷ 0 ∷ 0 ∷ [])
     -- a confirmation, though the fingerprint is unchecked and no merge would take it
     ∷ example (lacked (hinting (fingerprint.Held 77) 2048 (hintAt 10 5 ∷ hintAt 20 8 ∷ []) [])
-    (hinting (fingerprint.Held 77) 2048 (hintAt 10 5 ∷ hintAt 20 8 ∷ []) (confirmedAt 10 4 1 ∷ []))) (0 ∷ 0 ∷ 0 ∷ 0 ∷ 0 ∷ 0 ∷ 1 ∷ 0 ∷ 0 ∷ 0 ∷ 0 ∷ [])
+    (hinting (fingerprint.Held 77) 2048 (hintAt 10 5 ∷ hintAt 20 8 ∷ []) (confirmedAt 10 4 1 ∷ []))) (0 ∷ 0 ∷ 0 ∷ 0
+    ∷ 0 ∷ 0 ∷ 1 ∷ 0 ∷ 0 ∷ 0 ∷ 0 ∷ [])
     -- a lower threshold is lacking, a higher one not; another digest is
     ∷ example (lacked (confirmedOnce 5 1) (confirmedOnce 4 1)) (0 ∷ 0 ∷ 0 ∷ 0 ∷ 0 ∷ 0 ∷ 1 ∷ 0 ∷ 0 ∷ 0 ∷ 0 ∷ [])
     ∷ example (lacked (confirmedOnce 4 1) (confirmedOnce 5 1)) (0 ∷ 0 ∷ 0 ∷ 0 ∷ 0 ∷ 0 ∷ 0 ∷ 0 ∷ 0 ∷ 0 ∷ 0 ∷ [])
     ∷ example (lacked (confirmedOnce 4 1) (confirmedOnce 4 2)) (0 ∷ 0 ∷ 0 ∷ 0 ∷ 0 ∷ 0 ∷ 1 ∷ 0 ∷ 0 ∷ 0 ∷ 0 ∷ [])
     -- a fingerprint that is not stated; the checked mark is no matter
-    ∷ example (lacked (hinting Unknown 2048 [] []) (hinting (fingerprint.Held 77) 2048 [] [])) (0 ∷ 0 ∷ 0 ∷ 0 ∷ 0 ∷ 0 ∷ 0 ∷ 1 ∷ 0 ∷ 0 ∷ 0 ∷ [])
-    ∷ example (lacked (hinting (fingerprint.Held 77) 2048 [] []) (hinting (Checked 77) 2048 [] [])) (0 ∷ 0 ∷ 0 ∷ 0 ∷ 0 ∷ 0 ∷ 0 ∷ 0 ∷ 0 ∷ 0 ∷ 0 ∷ [])
+    ∷ example (lacked (hinting Unknown 2048 [] []) (hinting (fingerprint.Held 77) 2048 [] []))
+    (0 ∷ 0 ∷ 0 ∷ 0 ∷ 0 ∷ 0 ∷ 0 ∷ 1 ∷ 0 ∷ 0 ∷ 0 ∷ [])
+    ∷ example (lacked (hinting (fingerprint.Held 77) 2048 [] []) (hinting (Checked 77) 2048 [] []))
+    (0 ∷ 0 ∷ 0 ∷ 0 ∷ 0 ∷ 0 ∷ 0 ∷ 0 ∷ 0 ∷ 0 ∷ 0 ∷ [])
     -- the image id; room
     ∷ example (lacked first (ofImage 5 first)) (0 ∷ 0 ∷ 0 ∷ 0 ∷ 0 ∷ 0 ∷ 0 ∷ 0 ∷ 1 ∷ 0 ∷ 0 ∷ [])
-    ∷ example (lacked (hinting Unknown 4 [] []) (hinting Unknown 5 [] [])) (0 ∷ 0 ∷ 0 ∷ 0 ∷ 0 ∷ 0 ∷ 0 ∷ 0 ∷ 0 ∷ 0 ∷ 1 ∷ [])
+    ∷ example (lacked (hinting Unknown 4 [] []) (hinting Unknown 5 [] []))
+    (0 ∷ 0 ∷ 0 ∷ 0 ∷ 0 ∷ 0 ∷ 0 ∷ 0 ∷ 0 ∷ 0 ∷ 1 ∷ [])
     -- image ids keep no order through a list without one: 42
-    ∷ example (numberOf (lacks ample (ofImage 5 first) ample first) ∷ numberOf (lacks ample first ample (ofImage 6 first))
+    ∷ example
+    (numberOf (lacks ample (ofImage 5 first) ample first) ∷ numberOf (lacks ample first ample (ofImage 6 first))
     ∷ numberOf (lacks ample (ofImage 5 first) ample (ofImage 6 first)) ∷ [])
     (0 ∷ 0 ∷ 42 ∷ [])
     -- nothing but image id and room is lacking, or more

@@ -31,7 +31,8 @@ returns c =
     let parts : tie.After-missing-parts = search in
     let first : tie.After-above = search in
     let start = begin first in
-    counts-are (start .pre) (first .above .ensures) (parts .missing-parts .ensures) (malformed .missing-records .ensures)
+    counts-are (start .pre) (first .above .ensures) (parts .missing-parts .ensures)
+    (malformed .missing-records .ensures)
     (hints .missing-records2 .ensures) (c .missing-records3 .ensures)
 
 pub counts-spec : {M : Type 1} → statement M

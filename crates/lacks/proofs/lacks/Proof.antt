@@ -11,7 +11,9 @@ counts-requires : tie.Need-counts-requires
 counts-requires c κs = joins _ _ _ _ (c .before .merge-refuses .ensures) (c .if1 .left)
 
 returns-2 : tie.Need-returns-2
-returns-2 c = lacks-done _ _ _ _ (c .before .before .before .merge-refuses .ensures) (c .before .before .if1 .left) (c .before .counts .ensures) (c .lacks-by .ensures)
+returns-2 c =
+    lacks-done _ _ _ _ (c .before .before .before .merge-refuses .ensures) (c .before .before .if1 .left)
+    (c .before .counts .ensures) (c .lacks-by .ensures)
 
 pub lacks-spec : {M : Type 1} → statement M
 lacks-spec = tie.close (tie.spec (λ c κs. search needs) returns counts-requires (λ c κs. search needs) returns-2)

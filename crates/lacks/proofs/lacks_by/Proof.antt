@@ -14,7 +14,8 @@ returns c =
     let a1 = k1 .before in
     let e2 = a1 .before in
     let e1 = e2 .before in
-    lacks-by-is _ _ _ (e1 .is-complete .ensures) (e2 .is-complete2 .ensures) (a1 .and .ensures) (k1 .is-stated .ensures) (k2 .is-stated2 .ensures) (a2 .and2 .ensures) (h1 .has-id .ensures)
+    lacks-by-is _ _ _ (e1 .is-complete .ensures) (e2 .is-complete2 .ensures) (a1 .and .ensures)
+    (k1 .is-stated .ensures) (k2 .is-stated2 .ensures) (a2 .and2 .ensures) (h1 .has-id .ensures)
     (h2 .has-id2 .ensures) (a3 .and3 .ensures)
 
 pub lacks-by-spec : {M : Type 1} → statement M

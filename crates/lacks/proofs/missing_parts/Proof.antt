@@ -6,7 +6,8 @@ use Rattle.lacks.proofs.missing_parts.Statement.{statement}
 use Rattle.lacks.proofs.missing_parts.Tie as tie
 
 abbrev Inv-loop : tie.InvT-loop
-Inv-loop n parts f frames store h theirs m other-frames other-store b i₀ j₀ count₀ s₀ i j count s = PartsCounting n parts f frames store h theirs m other-frames other-store i j count s
+Inv-loop n parts f frames store h theirs m other-frames other-store b i₀ j₀ count₀ s₀ i j count s =
+    PartsCounting n parts f frames store h theirs m other-frames other-store i j count s
 
 abbrev μ-loop : tie.MeasureT-loop
 μ-loop n parts f frames store h theirs m other-frames other-store b i₀ j₀ count₀ s₀ i j count s = h - j
@@ -50,7 +51,8 @@ add-count c =
     let in-loop : tie.In-loop Inv-loop μ-loop = search in
     let at-loop : tie.At-loop Inv-loop μ-loop = search in
     let start = begin at-loop in
-    let a = at-loop .loop .inv .counting .few in let b = lacked .lacks-part .ensures .few in let l = in-loop .loop-test .taken in let z = start .fits .h .fits in omega arith
+    let a = at-loop .loop .inv .counting .few in let b = lacked .lacks-part .ensures .few in
+    let l = in-loop .loop-test .taken in let z = start .fits .h .fits in omega arith
 
 add-j : tie.Need-add-j Inv-loop μ-loop
 add-j c =
@@ -71,7 +73,8 @@ loop-again c =
     let read : tie.After-read-held Inv-loop μ-loop = search in
     let in-loop : tie.In-loop Inv-loop μ-loop = search in
     let at-loop : tie.At-loop Inv-loop μ-loop = search in
-    parts-on _ _ _ _ _ _ _ _ _ _ (at-loop .loop .inv) (in-loop .loop-test .taken) (read .read-held .ensures) (skip .skip .ensures) (lacked .lacks-part .ensures)
+    parts-on _ _ _ _ _ _ _ _ _ _ (at-loop .loop .inv) (in-loop .loop-test .taken) (read .read-held .ensures)
+    (skip .skip .ensures) (lacked .lacks-part .ensures)
 
 returns : tie.Need-returns Inv-loop μ-loop
 returns c =

@@ -23,7 +23,8 @@ mul-read-u32 c =
     let in-loop : tie.In-loop Inv-loop μ-loop = search in
     let a = start .args in
     let f =
-    row-inside (a .s) (a .n) (a .m) (a .own .now) (a .other .now) (wide .width .ensures) (in-loop .loop-test .taken) (start .pre .1) .0 in
+    row-inside (a .s) (a .n) (a .m) (a .own .now) (a .other .now) (wide .width .ensures) (in-loop .loop-test .taken)
+    (start .pre .1) .0 in
     omega arith
 
 read-u32-requires : tie.Need-read-u32-requires Inv-loop μ-loop
@@ -32,7 +33,8 @@ read-u32-requires c κs =
     let wide : tie.After-width Inv-loop μ-loop = search in
     let in-loop : tie.In-loop Inv-loop μ-loop = search in
     let a = start .args in
-    row-inside (a .s) (a .n) (a .m) (a .own .now) (a .other .now) (wide .width .ensures) (in-loop .loop-test .taken) (start .pre .1) .0
+    row-inside (a .s) (a .n) (a .m) (a .own .now) (a .other .now) (wide .width .ensures) (in-loop .loop-test .taken)
+    (start .pre .1) .0
 
 skip-requires : tie.Need-skip-requires Inv-loop μ-loop
 skip-requires c κs =
@@ -50,7 +52,8 @@ lacks-one-requires c κs =
     let in-loop : tie.In-loop Inv-loop μ-loop = search in
     let a = start .args in
     let f =
-    row-inside (a .s) (a .n) (a .m) (a .own .now) (a .other .now) (wide .width .ensures) (in-loop .loop-test .taken) (start .pre .1) .1 in
+    row-inside (a .s) (a .n) (a .m) (a .own .now) (a .other .now) (wide .width .ensures) (in-loop .loop-test .taken)
+    (start .pre .1) .1 in
     (start .pre .0, f)
 
 add-count : tie.Need-add-count Inv-loop μ-loop
@@ -72,7 +75,8 @@ loop-again c =
     let skip : tie.After-skip Inv-loop μ-loop = search in
     let lacked : tie.After-lacks-one Inv-loop μ-loop = search in
     let a = start .args in
-    item-on (a .s) (a .n) (a .m) (a .own .now) (a .other .now) (wide .width .ensures) (at-loop .loop .inv) (in-loop .loop-test .taken) (read .read-u32 .ensures) (skip .skip .ensures)
+    item-on (a .s) (a .n) (a .m) (a .own .now) (a .other .now) (wide .width .ensures) (at-loop .loop .inv)
+    (in-loop .loop-test .taken) (read .read-u32 .ensures) (skip .skip .ensures)
     (lacked .lacks-one .ensures)
 
 returns : tie.Need-returns Inv-loop μ-loop
@@ -81,7 +85,8 @@ returns c =
     let wide : tie.After-width Inv-loop μ-loop = search in
     let at-loop : tie.At-loop Inv-loop μ-loop = search in
     let a = start .args in
-    item-end (a .s) (a .n) (a .m) (a .own .now) (a .other .now) (wide .width .ensures) (at-loop .loop .inv) (c .loop-test .left)
+    item-end (a .s) (a .n) (a .m) (a .own .now) (a .other .now) (wide .width .ensures) (at-loop .loop .inv)
+    (c .loop-test .left)
 
 pub missing-records-spec : {M : Type 1} → statement M
 missing-records-spec =

@@ -34,16 +34,19 @@ read-confirmation-requires-2 c κs =
     rw (c .before .enum-told3 .given .1) at (start .pre .1)
 
 returns : tie.Need-returns
-returns c = lsn-stands _ _ _ _ (c .before .before .enum-told .given .1) (c .before .read-lsn .ensures) (c .read-lsn2 .ensures)
+returns c =
+    lsn-stands _ _ _ _ (c .before .before .enum-told .given .1) (c .before .read-lsn .ensures) (c .read-lsn2 .ensures)
 
 returns-2 : tie.Need-returns-2
 returns-2 c =
-    hint-stands _ _ _ _ (c .before .before .before .enum-told2 .given .1) (c .before .before .read-hint .ensures) (c .before .read-hint2 .ensures)
+    hint-stands _ _ _ _ (c .before .before .before .enum-told2 .given .1) (c .before .before .read-hint .ensures)
+    (c .before .read-hint2 .ensures)
     (c .same-hint .ensures)
 
 returns-3 : tie.Need-returns-3
 returns-3 c =
-    confirmed-stands _ _ _ _ (c .before .before .before .enum-told3 .given .1) (c .before .before .read-confirmation .ensures)
+    confirmed-stands _ _ _ _ (c .before .before .before .enum-told3 .given .1)
+    (c .before .before .read-confirmation .ensures)
     (c .before .read-confirmation2 .ensures) (c .confirms-also .ensures)
 
 pub stands-for-spec : {M : Type 1} → statement M
