@@ -59,15 +59,18 @@ module _ {x y : AreaIndex} {t u : Tables} (j : Joins x t y u) where
   other = indexIn y u .scan
 
   module _ {go : Bool} (g : go ≡ furtherIn x y) where
-    pub parts-read : PartsRead go x y (partTables (t .frames) (t .store) (t .parts)) (partTables (u .frames) (u .store) (u .parts))
+    pub parts-read : PartsRead go x y (partTables (t .frames) (t .store) (t .parts))
+        (partTables (u .frames) (u .store) (u .parts))
     parts-read =
         record { own = passes-long (j .own) .frames; lent = lent j g; ready = λ c ef eh eu. room j g c ef eh eu .ready }
 
     go-is : go ≡ further own other
     go-is = g ∙ further-is x t y u
 
-    parts-are : partsChange go x y (partTables (t .frames) (t .store) (t .parts)) (partTables (u .frames) (u .store) (u .parts))
-        ≡ someStored (own .budget) (other .frames) (length (own .checkpoints)) (cond (further own other) (other .parts) []) (record { frames = own .frames; parts = own .parts })
+    parts-are : partsChange go x y (partTables (t .frames) (t .store) (t .parts))
+        (partTables (u .frames) (u .store) (u .parts))
+        ≡ someStored (own .budget) (other .frames) (length (own .checkpoints))
+        (cond (further own other) (other .parts) []) (record { frames = own .frames; parts = own .parts })
     unfolding partsChange records
     parts-are =
         rw (records-length 24 decodeCheckpoint (x .checkpoints) (t .checkpoints), go-is)
@@ -76,14 +79,26 @@ module _ {x y : AreaIndex} {t u : Tables} (j : Joins x t y u) where
     module _ {a b c d e f h i l : Bool}
         (p0 : a ≡ (go && ltb (x .checkpoints) (y .checkpoints)))
         (p1 : b ≡ (go && isSome (endIn (y .ending))))
-        (p2 : c ≡ partsChange go x y (partTables (t .frames) (t .store) (t .parts)) (partTables (u .frames) (u .store) (u .parts)))
+        (p2 : c ≡ partsChange go x y (partTables (t .frames) (t .store) (t .parts))
+        (partTables (u .frames) (u .store) (u .parts)))
         (p3 : l ≡ sameList eqb (lsnsIn (x .malformed) (t .malformed)) (lsnsIn (y .malformed) (u .malformed)))
         (p4 : d ≡ (go && not l))
         (p5 : HintsAnswered (x .most) (keptIn (x .hints) (t .hints)) (keptIn (y .hints) (u .hints)) e)
-        (p6 : ConfirmedAnswered (isChecked (x .fingerprint)) (x .most) (confirmationsIn (x .confirmed) (t .confirmed)) (confirmationsIn (y .confirmed) (u .confirmed)) f)
+        (p6 : ConfirmedAnswered (isChecked (x .fingerprint)) (x .most) (confirmationsIn (x .confirmed) (t .confirmed))
+        (confirmationsIn (y .confirmed) (u .confirmed)) f)
         (p7 : h ≡ not (sameFingerprint (x .fingerprint) (mergedFingerprint (x .fingerprint) (y .fingerprint))))
         (p8 : i ≡ not (sameKnown eqb (idIn (x .image)) (orElse (idIn (x .image)) (idIn (y .image))))) where
-      pub brought-is : _≡_ {A = Brings} (record { checkpoints = a; ending = b; parts = c; malformed = d; hints = e; confirmed = f; fingerprint = h; image = i }) (bringsIn x t y u)
+      pub brought-is : _≡_ {A = Brings}
+          (record {
+            checkpoints = a;
+            ending = b;
+            parts = c;
+            malformed = d;
+            hints = e;
+            confirmed = f;
+            fingerprint = h;
+            image = i;
+          }) (bringsIn x t y u)
       unfolding bringsIn bringsOf merged
       brought-is =
           let n = records-length 24 decodeCheckpoint (x .checkpoints) (t .checkpoints) in
@@ -97,7 +112,16 @@ module _ {x y : AreaIndex} {t u : Tables} (j : Joins x t y u) where
           p4 ∙ rw (p3, go-is) (sym (malformed-change own other)) in
           let e4 = p5 (x .area) (hinting-is (j .own) .hints) (rw (areas j) (hinting-is (j .other) .hints)) in
           let e5 = p6 (x .area) (hinting-is (j .own) .confirmed) (rw (areas j) (hinting-is (j .other) .confirmed)) in
-          λ k. record { checkpoints = e0 k; ending = e1 k; parts = e2 k; malformed = e3 k; hints = e4 k; confirmed = e5 k; fingerprint = p7 k; image = p8 k }
+          λ k. record {
+            checkpoints = e0 k;
+            ending = e1 k;
+            parts = e2 k;
+            malformed = e3 k;
+            hints = e4 k;
+            confirmed = e5 k;
+            fingerprint = p7 k;
+            image = p8 k;
+          }
 
 -- ---- the call
 module _ (x : AreaIndex) (t : Tables) (y : AreaIndex) (u : Tables) {n : ℕ} (e : n ≡ mergeRefusal x t y u) where

@@ -49,7 +49,12 @@ module _ (own other : Scan) where
   unfolding mergedScan
   checkpoints-change =
       test (further own other)
-      (λ e. rw (e, more-same sameCheckpoint sameCheckpoint-self (own .checkpoints) (drop (count own) (other .checkpoints)), length-drop (count own) (other .checkpoints)) (rest-none (count own) (count other)))
+      (λ e. rw (
+        e,
+        more-same sameCheckpoint sameCheckpoint-self (own .checkpoints) (drop (count own) (other .checkpoints)),
+        length-drop (count own) (other .checkpoints),
+      )
+      (rest-none (count own) (count other)))
       (λ e. rw (e, sameList-self sameCheckpoint sameCheckpoint-self (own .checkpoints)))
 
   -- ---- the end state

@@ -51,14 +51,16 @@ module _ (budget : ℕ) (fs : List Frame) (n : ℕ) where
   adds-least [] h = rw (adds-nil h) (omega arith)
   adds-least (p ∷ ps) h =
       test (ltb (p .at) n) (λ e. rw (addParts-skip budget fs n p ps h e) (adds-least ps h))
-      (λ e. rw (addParts-add budget fs n p ps h e) (let a = add-least budget h (piece fs p) in let b = adds-least ps (addPart budget h (piece fs p)) in omega arith))
+      (λ e. rw (addParts-add budget fs n p ps h e)
+      (let a = add-least budget h (piece fs p) in let b = adds-least ps (addPart budget h (piece fs p)) in omega arith))
 
   adds-none : (ps : List Held) (h : Stored) → someStored budget fs n ps h ≡ false → addParts budget fs n ps h ≡ h
   unfolding addParts someStored
   adds-none [] h e = refl
   adds-none (p ∷ ps) h e =
       test (ltb (p .at) n) (λ f. addParts-skip budget fs n p ps h f ∙ adds-none ps h (rw f at e))
-      (λ f. test (stores budget h (piece fs p)) (λ g. never {b = true} refl (rw (f, g) at e)) (λ g. adds-pass p ps h f g ∙ adds-none ps h (rw (f, g) at e)))
+      (λ f. test (stores budget h (piece fs p)) (λ g. never {b = true} refl (rw (f, g) at e))
+      (λ g. adds-pass p ps h f g ∙ adds-none ps h (rw (f, g) at e)))
 
   adds-some : (ps : List Held) (h : Stored) → someStored budget fs n ps h ≡ true
       → length (h .parts) < length (addParts budget fs n ps h .parts)
@@ -67,7 +69,9 @@ module _ (budget : ℕ) (fs : List Frame) (n : ℕ) where
   adds-some (p ∷ ps) h e =
       test (ltb (p .at) n) (λ f. rw (addParts-skip budget fs n p ps h f) (adds-some ps h (rw f at e)))
       (λ f. test (stores budget h (piece fs p))
-      (λ g. rw (addParts-add budget fs n p ps h f) (let a = add-more budget h (piece fs p) g in let b = adds-least ps (addPart budget h (piece fs p)) in omega arith))
+      (λ g. rw (addParts-add budget fs n p ps h f)
+      (let a = add-more budget h (piece fs p) g in let b = adds-least ps (addPart budget h (piece fs p)) in
+      omega arith))
       (λ g. rw (adds-pass p ps h f g) (adds-some ps h (rw (f, g) at e))))
 
 abbrev heldSame : Stored → Stored → Bool
@@ -83,7 +87,8 @@ and-no false b e = refl
 held-more : (h k : Stored) → length (h .parts) < length (k .parts) → heldSame h k ≡ false
 held-more h k l =
     and-no (sameList sameFrame (h .frames) (k .frames)) (sameList sameHeld (h .parts) (k .parts))
-    (differ (sameList sameHeld) (sameList-eq sameHeld sameHeld-eq) (h .parts) (k .parts) (λ z. let y : length (h .parts) ≡ length (k .parts) = ap length z in omega arith))
+    (differ (sameList sameHeld) (sameList-eq sameHeld sameHeld-eq) (h .parts) (k .parts)
+    (λ z. let y : length (h .parts) ≡ length (k .parts) = ap length z in omega arith))
 
 stored-change : (budget : ℕ) (fs : List Frame) (n : ℕ) (ps : List Held) (h : Stored)
     → not (heldSame h (addParts budget fs n ps h)) ≡ someStored budget fs n ps h
@@ -97,13 +102,18 @@ abbrev pub storedOf : Scan → Stored
 storedOf x = record { frames = x .frames; parts = x .parts }
 
 pub parts-change : (own other : Scan)
-    → not (sameList sameFrame (own .frames) (mergedScan own other .frames) && sameList sameHeld (own .parts) (mergedScan own other .parts))
+    → not (sameList sameFrame (own .frames) (mergedScan own other .frames) && sameList sameHeld (own .parts)
+    (mergedScan own other .parts))
     ≡ someStored (own .budget) (other .frames) (count own) (cond (further own other) (other .parts) []) (storedOf own)
 unfolding mergedScan someStored
 parts-change own other =
     test (further own other)
     (λ e. rw e (stored-change (own .budget) (other .frames) (count own) (other .parts) (storedOf own)))
-    (λ e. rw (e, sameList-self sameFrame sameFrame-self (own .frames), sameList-self sameHeld sameHeld-self (own .parts)))
+    (λ e. rw (
+      e,
+      sameList-self sameFrame sameFrame-self (own .frames),
+      sameList-self sameHeld sameHeld-self (own .parts),
+    ))
 
 -- ---- in the tables
 module _ {go : Bool} {x y : AreaIndex} {t u : PartTables} {h : ℕ} (p : PartsRead go x y t u)
@@ -114,7 +124,8 @@ module _ {go : Bool} {x y : AreaIndex} {t u : PartTables} {h : ℕ} (p : PartsRe
 
   pub parts-answered : {b : Bool}
       → b
-      ≡ someStored (x .budget) (framesIn (y .frames) (u .frames) (u .store)) (x .checkpoints) (partsIn h (u .parts)) (storedIn (x .frames) (x .parts) t)
+      ≡ someStored (x .budget) (framesIn (y .frames) (u .frames) (u .store)) (x .checkpoints) (partsIn h (u .parts))
+      (storedIn (x .frames) (x .parts) t)
       → b ≡ partsChange go x y t u
   unfolding partsChange
   parts-answered q = q ∙ rw e

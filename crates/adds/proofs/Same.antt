@@ -42,7 +42,16 @@ sameFrame-eq f g e =
 pub sameHeld-self : (p : Held) → sameHeld p p ≡ true
 unfolding sameHeld
 sameHeld-self p =
-    →all _ (eqb-self (p .at), (eqb-self (p .frame), (eqb-self (p .len), (eqb-self (p .number), (sameKind-self (p .kind), (sameSigned-self (p .remaining), tt))))))
+    →all _ (
+      eqb-self (p .at),
+      (
+        eqb-self (p .frame),
+        (
+          eqb-self (p .len),
+          (eqb-self (p .number), (sameKind-self (p .kind), (sameSigned-self (p .remaining), tt))),
+        ),
+      ),
+    )
 
 pub sameHeld-eq : (p q : Held) → sameHeld p q ≡ true → p ≡ q
 unfolding sameHeld

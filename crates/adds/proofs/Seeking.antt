@@ -34,7 +34,14 @@ passed-by {m} {n} x l = sym (rw (lt-ltb m n l))
 module _ (budget n : ℕ) (h : Stored) (p : Held) (start from e : ℕ) (other : List ℕ) where
   pub stored-by : {r : Bool} {z : ℤ} → z ≡ p .remaining → e ≡ from + p .len → n ≤ p .at
       → r
-      ≡ stores budget h (record { at = p .at; start = start; bytes = take (e - from) (drop from other); number = p .number; kind = p .kind; remaining = z })
+      ≡ stores budget h (record {
+        at = p .at;
+        start = start;
+        bytes = take (e - from) (drop from other);
+        number = p .number;
+        kind = p .kind;
+        remaining = z;
+      })
       → r ≡ (not (ltb (p .at) n) && stores budget h (heldPiece p (p .at) start (take (p .len) (drop from other))))
   stored-by {r} {z} q s l g =
       let k : e - from ≡ p .len = omega arith in (rw (q, k) at g) ∙ sym (rw (le-ltb (p .at) n l))
@@ -96,7 +103,8 @@ module _ (budget n f h : ℕ) (o : PartTables) (own : Stored) where
               rw (e, bytes-there f (o .frames) (o .store) (l .store) p (there .1) (q .2) (q .3))
 
           module _ {b : Bool}
-              (asked : b ≡ (not (ltb (p .at) n) && stores budget own (heldPiece p (p .at) (g .start) (take (p .len) (drop (at' .offset) (o .store)))))) where
+              (asked : b ≡ (not (ltb (p .at) n) && stores budget own
+              (heldPiece p (p .at) (g .start) (take (p .len) (drop (at' .offset) (o .store)))))) where
             next : (b || someStored budget others n (drop (j + 1) parts) own) ≡ r
             unfolding someStored
             next = rw (asked, piece-is) (rw turn at (k .rest))
@@ -107,4 +115,11 @@ module _ (budget n f h : ℕ) (o : PartTables) (own : Stored) where
             pub seek-on : b ≡ false → Seeking r (j + 1) at'
             seek-on e =
                 let m = part-inside in
-                record { within = omega arith; source = rw (there .0) (there .1); near = omega arith; order = rw (there .0) (in-order .4); rest = rw e at next }
+                record {
+                  within = omega arith;
+                  source = rw (there .0) (there .1);
+                  near = omega arith;
+                  order = rw
+                      (there .0) (in-order .4);
+                  rest = rw e at next;
+                }

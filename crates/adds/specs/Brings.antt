@@ -32,7 +32,8 @@ sameFrame f g = all (eqb (f .start) (g .start) ∷ sameBytes (f .bytes) (g .byte
 
 unfoldable pub sameHeld : Held → Held → Bool
 sameHeld p q =
-    all (eqb (p .at) (q .at) ∷ eqb (p .frame) (q .frame) ∷ eqb (p .len) (q .len) ∷ eqb (p .number) (q .number) ∷ sameKind (p .kind) (q .kind)
+    all (eqb (p .at) (q .at) ∷ eqb (p .frame) (q .frame) ∷ eqb (p .len) (q .len) ∷ eqb (p .number) (q .number)
+    ∷ sameKind (p .kind) (q .kind)
     ∷ sameSigned (p .remaining) (q .remaining) ∷ [])
 
 unfoldable pub sameFingerprint : Fingerprint → Fingerprint → Bool
@@ -53,7 +54,8 @@ bringsOf own x =
       checkpoints = not (sameList sameCheckpoint (own .scan .checkpoints) (x .scan .checkpoints));
       ending = not (sameKnown sameEnd (own .scan .ending) (x .scan .ending));
       parts =
-          not (sameList sameFrame (own .scan .frames) (x .scan .frames) && sameList sameHeld (own .scan .parts) (x .scan .parts));
+          not (sameList sameFrame (own .scan .frames) (x .scan .frames)
+          && sameList sameHeld (own .scan .parts) (x .scan .parts));
       malformed = not (sameList eqb (own .scan .malformed) (x .scan .malformed));
       hints = not (sameList equalHint (own .hinting .hints) (x .hinting .hints));
       confirmed = not (sameList sameConfirmation (own .hinting .confirmed) (x .hinting .confirmed));

@@ -70,4 +70,5 @@ weighed s (m ∷ ms) = weighed (weighOne s (m .new) (m .replaced) (m .hint)) ms
 unfoldable pub changedBy : Weighed → ℕ → ℕ → Bool
 changedBy w n most =
     cond (w .replaced) true
-    (cond (eqb (w .place) n) false (cond (leb (w .place) most) true (cond (eqb n (most - most / 4)) (not (lower (w .new) (w .held))) true)))
+    (cond (eqb (w .place) n) false
+    (cond (leb (w .place) most) true (cond (eqb n (most - most / 4)) (not (lower (w .new) (w .held))) true)))

@@ -35,7 +35,8 @@ module _ {A : Type 0} (d : A) (p : A → Bool) where
   any→ [] e = never {b = false} e refl
   any→ (x ∷ xs) e =
       ⊎-elim (λ h. record { place = 0; inside = omega arith; holds = h })
-      (λ h. let f = any→ xs h in let l = f .inside in record { place = suc (f .place); inside = omega arith; holds = f .holds })
+      (λ h. let f = any→ xs h in let l = f .inside in
+      record { place = suc (f .place); inside = omega arith; holds = f .holds })
       (or-cases (p x) (anyOf p xs) e)
 
   pub →any : (xs : List A) (i : ℕ) → i < length xs → p (getD xs i d) ≡ true → anyOf p xs ≡ true
@@ -71,7 +72,12 @@ module _ {A : Type 0} (d : A) where
   covers-on f g h on xs ys zs a b =
       →covers h xs zs
       (λ i l. let q = covers→ g ys zs b i l in let p = covers→ f xs ys a (q .place) (q .inside) in
-      record { place = p .place; inside = p .inside; holds = on (getD xs (p .place) d) (getD ys (q .place) d) (getD zs i d) (p .holds) (q .holds) })
+      record {
+        place = p .place;
+        inside = p .inside;
+        holds = on (getD xs (p .place) d) (getD ys (q .place) d)
+            (getD zs i d) (p .holds) (q .holds);
+      })
 
 -- ---- remaining
 pub sameSigned-self : (a : ℤ) → sameSigned a a ≡ true
@@ -107,7 +113,16 @@ unfolding samePart
     let e2 : p .kind ≡ q .kind = λ i. c i .kind in
     let e3 : p .remaining ≡ q .remaining = λ i. c i .remaining in
     let e4 : partBytes fs p ≡ partBytes gs q = λ i. c i .bytes in
-    →all _ (rw a (eqb-self (q .at)), (rw e1 (eqb-self (q .number)), (rw e2 (sameKind-self (q .kind)), (rw e3 (sameSigned-self (q .remaining)), (rw e4 (same-refl (partBytes gs q)), tt)))))
+    →all _ (
+      rw a (eqb-self (q .at)),
+      (
+        rw e1 (eqb-self (q .number)),
+        (
+          rw e2 (sameKind-self (q .kind)),
+          (rw e3 (sameSigned-self (q .remaining)), (rw e4 (same-refl (partBytes gs q)), tt)),
+        ),
+      ),
+    )
 
 pub samePart-on : (fs gs hs : List Frame) (p q r : Held) → samePart fs gs p q ≡ true → samePart gs hs q r ≡ true
     → samePart fs hs p r ≡ true
@@ -135,7 +150,10 @@ pub sameHint-on : (h k m : Hint) → sameHint h k ≡ true → sameHint k m ≡ 
 unfolding sameHint
 sameHint-on h k m a b =
     let t = all→ _ a in let u = all→ _ b in
-    →all _ (eqb-on (h .lsn) (k .lsn) (m .lsn) (t .0) (u .0), (eqb-on (h .number) (k .number) (m .number) (t .1 .0) (u .1 .0), tt))
+    →all _ (
+      eqb-on (h .lsn) (k .lsn) (m .lsn) (t .0) (u .0),
+      (eqb-on (h .number) (k .number) (m .number) (t .1 .0) (u .1 .0), tt),
+    )
 
 -- equal with the mark
 pub equalHint-eq : (h k : Hint) → equalHint h k ≡ true → h ≡ k

@@ -38,8 +38,8 @@ sameSigned (negsuc a) (negsuc b) = eqb a b
 -- parts p of frames fs and q of frames gs: the same checkpoint, number, kind, remaining and bytes
 unfoldable pub samePart : List Frame → List Frame → Held → Held → Bool
 samePart fs gs p q =
-    all (eqb (p .at) (q .at) ∷ eqb (p .number) (q .number) ∷ sameKind (p .kind) (q .kind) ∷ sameSigned (p .remaining) (q .remaining)
-    ∷ sameBytes (partBytes fs p) (partBytes gs q) ∷ [])
+    all (eqb (p .at) (q .at) ∷ eqb (p .number) (q .number) ∷ sameKind (p .kind) (q .kind)
+    ∷ sameSigned (p .remaining) (q .remaining) ∷ sameBytes (partBytes fs p) (partBytes gs q) ∷ [])
 
 -- hints: the same LSN and number, kept or not, since no file holds the mark
 unfoldable pub sameHint : Hint → Hint → Bool
@@ -73,7 +73,8 @@ lacking own other =
 -- is nothing lacking but, at most, the image id and room (budget, M)? Then the own list holds all that the other holds.
 unfoldable pub holdsAll : Lacks → Bool
 holdsAll l =
-    all (eqb (l .checkpoints) 0 ∷ not (l .ending) ∷ eqb (l .parts) 0 ∷ eqb (l .malformed) 0 ∷ eqb (l .hints) 0 ∷ eqb (l .confirmed) 0 ∷ not (l .fingerprint) ∷ [])
+    all (eqb (l .checkpoints) 0 ∷ not (l .ending) ∷ eqb (l .parts) 0 ∷ eqb (l .malformed) 0 ∷ eqb (l .hints) 0
+    ∷ eqb (l .confirmed) 0 ∷ not (l .fingerprint) ∷ [])
 
 -- the call: refused as a merge would be
 unfoldable pub lacks : Lengths → Index → Lengths → Index → Answer Lacks

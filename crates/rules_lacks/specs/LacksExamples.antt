@@ -102,9 +102,11 @@ lists =
     ∷ example (lacked (closed three) first) (0 ∷ 0 ∷ 0 ∷ 0 ∷ 0 ∷ 0 ∷ 0 ∷ 0 ∷ 0 ∷ 0 ∷ 0 ∷ [])
     -- a part for a checkpoint that both have: with another byte, or with fewer; not with a longer frame behind its bytes
     ∷ example
-    (lacked (heldWith (bytesFrom (1 ∷ 2 ∷ 9 ∷ 4 ∷ [])) (partAt 1 3 ∷ []) []) (heldWith (bytesFrom (1 ∷ 2 ∷ 3 ∷ [])) (partAt 1 3 ∷ []) [])) (0 ∷ 0 ∷ 0 ∷ 1 ∷ 0 ∷ 0 ∷ 0 ∷ 0 ∷ 0 ∷ 0 ∷ 0 ∷ [])
+    (lacked (heldWith (bytesFrom (1 ∷ 2 ∷ 9 ∷ 4 ∷ [])) (partAt 1 3 ∷ []) [])
+    (heldWith (bytesFrom (1 ∷ 2 ∷ 3 ∷ [])) (partAt 1 3 ∷ []) [])) (0 ∷ 0 ∷ 0 ∷ 1 ∷ 0 ∷ 0 ∷ 0 ∷ 0 ∷ 0 ∷ 0 ∷ 0 ∷ [])
     ∷ example
-    (lacked (heldWith (bytesFrom (1 ∷ 2 ∷ 3 ∷ [])) (partAt 1 2 ∷ []) []) (heldWith (bytesFrom (1 ∷ 2 ∷ 3 ∷ [])) (partAt 1 3 ∷ []) [])) (0 ∷ 0 ∷ 0 ∷ 1 ∷ 0 ∷ 0 ∷ 0 ∷ 0 ∷ 0 ∷ 0 ∷ 0 ∷ [])
+    (lacked (heldWith (bytesFrom (1 ∷ 2 ∷ 3 ∷ [])) (partAt 1 2 ∷ []) [])
+    (heldWith (bytesFrom (1 ∷ 2 ∷ 3 ∷ [])) (partAt 1 3 ∷ []) [])) (0 ∷ 0 ∷ 0 ∷ 1 ∷ 0 ∷ 0 ∷ 0 ∷ 0 ∷ 0 ∷ 0 ∷ 0 ∷ [])
     ∷ example (lacked whole (heldWith (bytesFrom (1 ∷ 2 ∷ 3 ∷ [])) (partAt 1 3 ∷ []) []))
     (0 ∷ 0 ∷ 0 ∷ 0 ∷ 0 ∷ 0 ∷ 0 ∷ 0 ∷ 0 ∷ 0 ∷ 0 ∷ [])
     -- a malformed LSN

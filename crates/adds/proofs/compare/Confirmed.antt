@@ -43,9 +43,24 @@ absorbed-is (c ∷ cs) [] =
     rw (with-nil confirmedLsn heldConfirmation (c ∷ cs)) (sameList-self sameConfirmation sameConfirmation-self (c ∷ cs))
 absorbed-is (c ∷ cs) (d ∷ ds) =
     order (c .lsn) (d .lsn)
-    (λ l. rw (with-left confirmedLsn heldConfirmation c d cs ds l, lt-ltb (c .lsn) (d .lsn) l, sameConfirmation-self c) (absorbed-is cs (d ∷ ds)))
-    (λ l. rw (with-right confirmedLsn heldConfirmation c d cs ds l, le-ltb (c .lsn) (d .lsn) (omega arith), lt-ltb (d .lsn) (c .lsn) l, differ sameConfirmation sameConfirmation-eq c d (λ e. let z : c .lsn ≡ d .lsn = ap (λ (x : Confirmation). x .lsn) e in omega arith)))
-    (λ e. rw (with-both confirmedLsn heldConfirmation c d cs ds e, le-ltb (c .lsn) (d .lsn) (omega arith), le-ltb (d .lsn) (c .lsn) (omega arith), absorbed-is cs ds))
+    (λ l. rw (
+      with-left confirmedLsn heldConfirmation c d cs ds l,
+      lt-ltb (c .lsn) (d .lsn) l,
+      sameConfirmation-self c,
+    ) (absorbed-is cs (d ∷ ds)))
+    (λ l. rw (
+      with-right confirmedLsn heldConfirmation c d cs ds l,
+      le-ltb (c .lsn) (d .lsn) (omega arith),
+      lt-ltb (d .lsn) (c .lsn) l,
+      differ sameConfirmation sameConfirmation-eq c d
+          (λ e. let z : c .lsn ≡ d .lsn = ap (λ (x : Confirmation). x .lsn) e in omega arith),
+    ))
+    (λ e. rw (
+      with-both confirmedLsn heldConfirmation c d cs ds e,
+      le-ltb (c .lsn) (d .lsn) (omega arith),
+      le-ltb (d .lsn) (c .lsn) (omega arith),
+      absorbed-is cs ds,
+    ))
 
 -- ---- the last M of the merged list
 -- fewer than M are held
@@ -95,7 +110,8 @@ module _ (most : ℕ) (c : Confirmation) (cs : List Confirmation) (full : suc (l
       subst (λ (x : List Confirmation). Above x) (sym z) (all-sub (λ x. c .lsn < x .lsn) (sub-last most vs) a) in
       let w = h .0 in omega arith in
       rw (last-past most v vs m)
-      (same-no (c ∷ cs) (lastOnes most vs) none ∙ sym (same-no (c ∷ cs) (v ∷ vs) (λ z. let y = ap length z in q (omega arith)))))
+      (same-no (c ∷ cs) (lastOnes most vs) none ∙ sym
+      (same-no (c ∷ cs) (v ∷ vs) (λ z. let y = ap length z in q (omega arith)))))
 
   above : (b : ℕ) (xs : List Confirmation) → c .lsn < b → Rises confirmedLsn b xs → Above xs
   above b xs l r =
@@ -112,17 +128,20 @@ module _ (most : ℕ) (c : Confirmation) (cs : List Confirmation) (full : suc (l
         order (c .lsn) (d .lsn)
         (λ m. rw (with-left confirmedLsn heldConfirmation c d cs ds m)
         (last-begins c (merged cs (d ∷ ds)) (with-least confirmedLsn heldConfirmation cs (d ∷ ds))
-        (above-merged cs (d ∷ ds) (above (suc (c .lsn)) cs (omega arith) held) (m, above (suc (d .lsn)) ds (omega arith) (r .1)))))
+        (above-merged cs (d ∷ ds) (above (suc (c .lsn)) cs (omega arith) held)
+        (m, above (suc (d .lsn)) ds (omega arith) (r .1)))))
         (λ m. let z : ⊥ = omega arith in absurd z)
         (λ e. rw (with-both confirmedLsn heldConfirmation c d cs ds e)
         (last-begins (heldConfirmation c d) (merged cs ds) (with-least confirmedLsn heldConfirmation cs ds)
-        (above-merged cs ds (above (suc (c .lsn)) cs (omega arith) held) (above (suc (d .lsn)) ds (omega arith) (r .1)))))
+        (above-merged cs ds (above (suc (c .lsn)) cs (omega arith) held)
+        (above (suc (d .lsn)) ds (omega arith) (r .1)))))
 
     last-full : (b : ℕ) (ds : List Confirmation) → Rises confirmedLsn b ds
         → same (c ∷ cs) (lastOnes most (merged (c ∷ cs) ds)) ≡ absorbed (c ∷ cs) (fromKey confirmedLsn (c .lsn) ds)
     last-full b ds r =
         rw (last-low ds)
-        (last-met (fromKey confirmedLsn (c .lsn) ds) (c .lsn) (from-rises confirmedLsn b (c .lsn) ds r) (omega arith) ∙ absorbed-is (c ∷ cs) (fromKey confirmedLsn (c .lsn) ds))
+        (last-met (fromKey confirmedLsn (c .lsn) ds) (c .lsn) (from-rises confirmedLsn b (c .lsn) ds r) (omega arith)
+        ∙ absorbed-is (c ∷ cs) (fromKey confirmedLsn (c .lsn) ds))
 
 last-arriving : (most : ℕ) (cs ds : List Confirmation) → length cs ≤ most → 1 ≤ most → Rises confirmedLsn 0 cs
     → Rises confirmedLsn 0 ds
@@ -133,7 +152,8 @@ last-arriving most [] ds l s r t =
 last-arriving most (c ∷ cs) ds l s r t =
     test (eqb (suc (length cs)) most)
     (λ e. rw e (last-full most c cs (eqb-true (suc (length cs)) most e) (r .1) 0 ds t))
-    (λ e. let q = eqb-false (suc (length cs)) most e in rw e (last-free most (c ∷ cs) ds (omega (arith, q)) ∙ absorbed-is (c ∷ cs) ds))
+    (λ e. let q = eqb-false (suc (length cs)) most e in rw e
+    (last-free most (c ∷ cs) ds (omega (arith, q)) ∙ absorbed-is (c ∷ cs) ds))
 
 -- ---- kept one by one
 pub confirmed-change : (a : Area) (checked : Bool) (most : ℕ) (cs ds : List Confirmation)
@@ -143,7 +163,8 @@ unfolding confirmedChange confirmationsOk
 confirmed-change a checked most cs ds h g l =
     test (keepsNothing checked most)
     (λ e. rw (e, keepAll-none checked most e cs ds, sameList-self sameConfirmation sameConfirmation-self cs))
-    (λ e. let s : 1 ≤ most = test (eqb most 0) (λ z. never (some-zero checked most z) e) (λ z. let q = eqb-false most 0 z in omega (arith, q)) in
+    (λ e. let s : 1 ≤ most = test (eqb most 0) (λ z. never (some-zero checked most z) e)
+    (λ z. let q = eqb-false most 0 z in omega (arith, q)) in
     let r =
     rises-from confirmedLsn 0 (a .start) cs (omega arith)
     (rising→ confirmedLsn confirmationOk (a .start) (a .end) cs h .order) in

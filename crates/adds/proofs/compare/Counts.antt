@@ -106,7 +106,11 @@ module _ (b : ℕ) (hs : List Hint) (r : Rises hintLsn b hs) where
       let last : (p n ≡ q n) × (kept p hs n ≡ kept q hs n) =
       test (p n)
       (λ a. test (q n)
-      (λ b. (a ∙ sym b, snoc-eq (kept p hs n) (kept q hs n) (getD hs n noHint) (sym (kept-yes p hs n a) ∙ e ∙ kept-yes q hs n b)))
+      (λ b. (
+        a ∙ sym b,
+        snoc-eq (kept p hs n) (kept q hs n) (getD hs n noHint)
+            (sym (kept-yes p hs n a) ∙ e ∙ kept-yes q hs n b),
+      ))
       (λ b. absurd (not-before p q n l (sym (kept-yes p hs n a) ∙ e ∙ kept-no q hs n b))))
       (λ a. test (q n)
       (λ b. absurd (not-before q p n l (sym (kept-yes q hs n b) ∙ sym e ∙ kept-no p hs n a)))

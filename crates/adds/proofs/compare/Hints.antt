@@ -112,8 +112,11 @@ module _ (a : Area) (hs xs : List Hint) (h : hintsOk a hs ≡ true) (g : hintsOk
         rw f (test (eqb (length hs) (most - most / 4))
         (λ c. let s = eqb-true (length hs) (most - most / 4) c in
         rw c (test (lower (w .new) (w .held))
-        (λ d. rw d (unchanged hs _ (over l ∙ rw (← s) (leaves (marked hs xs) small (a .start) all-rise hs (kept-all-held hs xs) d))))
-        (λ d. rw d (changed hs _ (λ z. changes (marked hs xs) small (a .start) all-rise hs (kept-all-held hs xs) (omega arith) plain d (rw s (sym (over l) ∙ z)))))))
+        (λ d. rw d (unchanged hs _
+        (over l ∙ rw (← s) (leaves (marked hs xs) small (a .start) all-rise hs (kept-all-held hs xs) d))))
+        (λ d. rw d (changed hs _
+        (λ z. changes (marked hs xs) small (a .start) all-rise hs (kept-all-held hs xs) (omega arith) plain d
+        (rw s (sym (over l) ∙ z)))))))
         (λ c. let s = eqb-false (length hs) (most - most / 4) c in
         rw c (changed hs _ (λ z. let t = thin-length (most - most / 4) all in
         let y : length (thin (most - most / 4) all) ≡ length hs = ap length (sym (over l) ∙ z) in

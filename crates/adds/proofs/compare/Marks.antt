@@ -115,7 +115,8 @@ marked-hints (x ∷ xs) (y ∷ ys) f =
     (λ l. let g : someReplaced (marked (x ∷ xs) ys) ≡ false = rw (marked-right x y xs ys l) at f in
     rw (marked-right x y xs ys l, with-right hintLsn arrivedHint x y xs ys l)
     (ap (λ (z : List Hint). y ∷ z) (marked-hints (x ∷ xs) ys g)))
-    (λ e. let g : (not (eqb (x .number) (y .number)) || someReplaced (marked xs ys)) ≡ false = rw (marked-both x y xs ys e) at f in
+    (λ e. let g : (not (eqb (x .number) (y .number)) || someReplaced (marked xs ys)) ≡ false = rw
+    (marked-both x y xs ys e) at f in
     let o = or-none (not (eqb (x .number) (y .number))) (someReplaced (marked xs ys)) g in
     let s = same-hint x y e (eqb-true (x .number) (y .number) (not-false (eqb (x .number) (y .number)) (o .0))) in
     let r = marked-hints xs ys (o .1) in
@@ -192,7 +193,8 @@ plain-all (x ∷ xs) (y ∷ ys) =
     order (x .lsn) (y .lsn)
     (λ l. rw (marked-left x (unkeptHint y) xs (unkept ys) l) (plain-held x false, plain-all xs (y ∷ ys)))
     (λ l. rw (marked-right x (unkeptHint y) xs (unkept ys) l) (plain-new y, plain-all (x ∷ xs) ys))
-    (λ e. rw (marked-both x (unkeptHint y) xs (unkept ys) e) (plain-held x (not (eqb (x .number) (y .number))), plain-all xs ys))
+    (λ e. rw (marked-both x (unkeptHint y) xs (unkept ys) e)
+    (plain-held x (not (eqb (x .number) (y .number))), plain-all xs ys))
 
 plain-at : (ms : List Marked) → All Plain ms → (i : ℕ) → Plain (getD ms i noMark)
 plain-at [] a i = plain-held noHint false

@@ -124,7 +124,8 @@ module _ {xs ys : List Hint} {n m i j a b : ℕ} (p : LsnAt xs n i a) (q : LsnAt
           }
 
       pub turn-both : {y : Hint} → drop j ys ≡ y ∷ drop (j + 1) ys → b ≤ a → a ≤ b
-          → Turned xs ys n m i j (record { new = false; replaced = not (eqb (x .number) (y .number)); hint = x; own = i + 1; other = j + 1 })
+          → Turned xs ys n m i j
+          (record { new = false; replaced = not (eqb (x .number) (y .number)); hint = x; own = i + 1; other = j + 1 })
       turn-both {y} c l g =
           let z : a ≡ b = omega arith in
           let f = both-inside k l g in
@@ -195,9 +196,12 @@ stays-is c d =
     test (eqb (c .digest) (d .digest))
     (λ e. rw (e, eqb-self (c .lsn), eqb-self (c .digest))
     (test (leb (c .threshold) (d .threshold))
-    (λ f. let l = leb-true (c .threshold) (d .threshold) f in let z : min (c .threshold) (d .threshold) ≡ c .threshold = omega arith in rw (f, z, eqb-self (c .threshold)))
-    (λ f. let l = leb-false (c .threshold) (d .threshold) f in rw (f, ne-eqb (c .threshold) (min (c .threshold) (d .threshold)) (λ z. omega arith)))))
-    (λ e. rw (e, e) (test (eqb (c .lsn) (d .lsn)) (λ f. rw f (test (eqb (c .threshold) (d .threshold)) (λ g. rw g) (λ g. rw g))) (λ f. rw f)))
+    (λ f. let l = leb-true (c .threshold) (d .threshold) f in let z : min (c .threshold)
+    (d .threshold) ≡ c .threshold = omega arith in rw (f, z, eqb-self (c .threshold)))
+    (λ f. let l = leb-false (c .threshold) (d .threshold) f in rw
+    (f, ne-eqb (c .threshold) (min (c .threshold) (d .threshold)) (λ z. omega arith)))))
+    (λ e. rw (e, e) (test (eqb (c .lsn) (d .lsn))
+    (λ f. rw f (test (eqb (c .threshold) (d .threshold)) (λ g. rw g) (λ g. rw g))) (λ f. rw f)))
 
 -- a turn of the pass: i and j are passed, and the answer is to be r
 pub record Absorbing (cs ds : List Confirmation) (r : Bool) (n m i j : ℕ) : Type 0 where
@@ -226,7 +230,8 @@ module _ {cs ds : List Confirmation} {r : Bool} {n m i j : ℕ} (w : Absorbing c
           let g : unmovedBy c d ≡ false = sym e ∙ not-true u f in
           let z = rw (p, q) at (w .rest) in
           test (ltb (c .lsn) (d .lsn)) (λ a. never {b = true} refl (rw a at g))
-          (λ a. test (ltb (d .lsn) (c .lsn)) (λ b. rw (a, b) at z) (λ b. let h : sameConfirmation c (heldConfirmation c d) ≡ false = rw (a, b) at g in rw (a, b, h) at z))
+          (λ a. test (ltb (d .lsn) (c .lsn)) (λ b. rw (a, b) at z)
+          (λ b. let h : sameConfirmation c (heldConfirmation c d) ≡ false = rw (a, b) at g in rw (a, b, h) at z))
 
       pub absorb-on : {u : Bool} {k : ℕ} → i < n → j < m → u ≡ unmovedBy c d → not u ≡ false
           → k ≡ cond (ltb (c .lsn) (d .lsn)) j (j + 1) → Absorbing cs ds r n m (i + 1) k
@@ -235,10 +240,12 @@ module _ {cs ds : List Confirmation} {r : Bool} {n m i j : ℕ} (w : Absorbing c
           let h : unmovedBy c d ≡ true = sym e ∙ not-false u f in
           let z = rw (p, q) at (w .rest) in
           test (ltb (c .lsn) (d .lsn))
-          (λ a. let y : k ≡ j = rw a at g in record { own = omega arith; other = omega arith; rest = rw (y, q) (rw a at z) })
+          (λ a. let y : k ≡ j = rw a at g in
+          record { own = omega arith; other = omega arith; rest = rw (y, q) (rw a at z) })
           (λ a. let y : k ≡ j + 1 = rw a at g in
           test (ltb (d .lsn) (c .lsn)) (λ b. never {b = false} (rw (a, b) at h) refl)
-          (λ b. let t : sameConfirmation c (heldConfirmation c d) ≡ true = rw (a, b) at h in record { own = omega arith; other = omega arith; rest = rw y (rw (a, b, t) at z) }))
+          (λ b. let t : sameConfirmation c (heldConfirmation c d) ≡ true = rw (a, b) at h in
+          record { own = omega arith; other = omega arith; rest = rw y (rw (a, b, t) at z) }))
 
 module _ (most n : ℕ) (cs ds : List Confirmation) (k : length cs ≡ n) where
   pub arriving-all : (n ≡ most → ⊥) → ds ≡ arriving most cs ds

@@ -74,7 +74,8 @@ differ-at b (x ∷ xs) (y ∷ ys) r s f =
       here = rw (with-right hintLsn arrivedHint x y xs ys l) ((λ e. let z : ⊥ = omega arith in absurd z), c .here);
       there = c .there;
     })
-    (λ e. let g : (not (eqb (x .number) (y .number)) || someReplaced (marked xs ys)) ≡ true = rw (marked-both x y xs ys e) at f in
+    (λ e. let g : (not (eqb (x .number) (y .number)) || someReplaced (marked xs ys)) ≡ true = rw
+    (marked-both x y xs ys e) at f in
     let r' = rises-from hintLsn (suc (y .lsn)) (suc (x .lsn)) xs (omega arith) (r .1) in
     ⊎-elim
     (λ n. let d = eqb-false (x .number) (y .number) (not-true (eqb (x .number) (y .number)) n) in
@@ -86,8 +87,11 @@ differ-at b (x ∷ xs) (y ∷ ys) r s f =
       number = y .number;
       above = by;
       here =
-          rw (with-both hintLsn arrivedHint x y xs ys e)
-          ((λ q. refl), all-map (λ h. suc (y .lsn) ≤ h .lsn) (λ h. h .lsn ≡ y .lsn → h .number ≡ y .number) (λ h k q. let z : ⊥ = omega arith in absurd z) (merged xs ys) later);
+          rw (with-both hintLsn arrivedHint x y xs ys e) (
+            (λ q. refl),
+            all-map (λ h. suc (y .lsn) ≤ h .lsn) (λ h. h .lsn ≡ y .lsn → h .number ≡ y .number)
+                (λ h k q. let z : ⊥ = omega arith in absurd z) (merged xs ys) later,
+          );
       there = λ k. d (k .0 e);
     })
     (λ n. let c = differ-at (suc (y .lsn)) xs ys r' (s .1) n in let w = c .above in

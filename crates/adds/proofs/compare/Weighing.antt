@@ -94,7 +94,8 @@ module _ (ms : List Marked) (small : Numbered ms) where
   gap-range i =
       let r = rise-some (before i) (number i) (small i) in let low = r .0 in let high = r .1 in
       rw (gap-is i)
-      (test (isKept (getD ms i noMark .hint)) (λ e. rw e (omega arith, omega arith)) (λ e. rw e (omega arith, omega arith)))
+      (test (isKept (getD ms i noMark .hint)) (λ e. rw e (omega arith, omega arith))
+      (λ e. rw e (omega arith, omega arith)))
 
   gap-low : (i : ℕ) → isKept (getD ms i noMark .hint) ≡ false → gap us i ≤ max32
   unfolding gapFrom
@@ -106,10 +107,12 @@ module _ (ms : List Marked) (small : Numbered ms) where
     last : s .before ≡ before (s .place)
     new-most : (i : ℕ) → i < s .place → newAt ms i ≡ true
         → (gap us i < s .new .gap) ⊎ ((gap us i ≡ s .new .gap) × (i ≤ s .new .place))
-    new-is : (s .new .gap ≡ 0) ⊎ ((s .new .place < s .place) × (newAt ms (s .new .place) ≡ true) × (gap us (s .new .place) ≡ s .new .gap))
+    new-is : (s .new .gap ≡ 0) ⊎
+        ((s .new .place < s .place) × (newAt ms (s .new .place) ≡ true) × (gap us (s .new .place) ≡ s .new .gap))
     held-least : (i : ℕ) → i < s .place → newAt ms i ≡ false
         → (s .held .gap < gap us i) ⊎ ((gap us i ≡ s .held .gap) × (s .held .place ≤ i))
-    held-is : ((s .held .gap ≡ max32 + 1) × (s .held .place ≡ 0)) ⊎ ((s .held .place < s .place) × (newAt ms (s .held .place) ≡ false) × (gap us (s .held .place) ≡ s .held .gap))
+    held-is : ((s .held .gap ≡ max32 + 1) × (s .held .place ≡ 0)) ⊎
+        ((s .held .place < s .place) × (newAt ms (s .held .place) ≡ false) × (gap us (s .held .place) ≡ s .held .gap))
 
   none-yet : Upto unweighed
   none-yet = record {
@@ -138,10 +141,12 @@ module _ (ms : List Marked) (small : Numbered ms) where
     goes new held =
         record { place = p + 1; before = number p; new = new; held = held; replaced = s .replaced || replacedAt ms p }
 
-    new-was : (s .new .gap ≡ 0) ⊎ ((s .new .place < p + 1) × (newAt ms (s .new .place) ≡ true) × (gap us (s .new .place) ≡ s .new .gap))
+    new-was : (s .new .gap ≡ 0) ⊎
+        ((s .new .place < p + 1) × (newAt ms (s .new .place) ≡ true) × (gap us (s .new .place) ≡ s .new .gap))
     new-was = ⊎-elim (λ z. inl z) (λ t. let w = t .0 in inr (omega arith, t .1, t .2)) (u .new-is)
 
-    held-was : ((s .held .gap ≡ max32 + 1) × (s .held .place ≡ 0)) ⊎ ((s .held .place < p + 1) × (newAt ms (s .held .place) ≡ false) × (gap us (s .held .place) ≡ s .held .gap))
+    held-was : ((s .held .gap ≡ max32 + 1) × (s .held .place ≡ 0)) ⊎
+        ((s .held .place < p + 1) × (newAt ms (s .held .place) ≡ false) × (gap us (s .held .place) ≡ s .held .gap))
     held-was = ⊎-elim (λ z. inl z) (λ t. let w = t .0 in inr (omega arith, t .1, t .2)) (u .held-is)
 
     on : before (p + 1) ≡ number p
@@ -154,7 +159,8 @@ module _ (ms : List Marked) (small : Numbered ms) where
           upto {P =
           λ i. newAt ms i
           ≡ false
-          → (s .held .gap < gap us i) ⊎ ((gap us i ≡ s .held .gap) × (s .held .place ≤ i))} p (λ f. never e f) (u .held-least)
+          → (s .held .gap < gap us i) ⊎ ((gap us i ≡ s .held .gap) × (s .held .place ≤ i))} p (λ f. never e f)
+          (u .held-least)
 
       new-larger : s .new .gap ≤ gap us p → Upto (goes (pair (gap us p) p) (s .held))
       new-larger h = record {
@@ -164,7 +170,9 @@ module _ (ms : List Marked) (small : Numbered ms) where
             upto {P =
             λ i. newAt ms i
             ≡ true → (gap us i < gap us p) ⊎ ((gap us i ≡ gap us p) × (i ≤ p))} p (λ f. inr (refl, omega arith))
-            (λ i k f. at-most (gap us i) (gap us p) i p (⊎-elim (λ a. let w : gap us i < s .new .gap = a in omega arith) (λ a. let w = a .0 in omega arith) (u .new-most i k f)) (omega arith));
+            (λ i k f. at-most (gap us i) (gap us p) i p
+            (⊎-elim (λ a. let w : gap us i < s .new .gap = a in omega arith) (λ a. let w = a .0 in omega arith)
+            (u .new-most i k f)) (omega arith));
         new-is = inr (omega arith, e, refl);
         held-least = held-passed;
         held-is = held-was;
@@ -191,7 +199,8 @@ module _ (ms : List Marked) (small : Numbered ms) where
           upto {P =
           λ i. newAt ms i
           ≡ true
-          → (gap us i < s .new .gap) ⊎ ((gap us i ≡ s .new .gap) × (i ≤ s .new .place))} p (λ f. never f e) (u .new-most)
+          → (gap us i < s .new .gap) ⊎ ((gap us i ≡ s .new .gap) × (i ≤ s .new .place))} p (λ f. never f e)
+          (u .new-most)
 
       held-smaller : gap us p < s .held .gap → Upto (goes (s .new) (pair (gap us p) p))
       held-smaller h = record {
@@ -203,7 +212,8 @@ module _ (ms : List Marked) (small : Numbered ms) where
             upto {P =
             λ i. newAt ms i
             ≡ false → (gap us p < gap us i) ⊎ ((gap us i ≡ gap us p) × (p ≤ i))} p (λ f. inr (refl, omega arith))
-            (λ i k f. inl (⊎-elim (λ a. let w : s .held .gap < gap us i = a in omega arith) (λ a. let w = a .0 in omega arith) (u .held-least i k f)));
+            (λ i k f. inl (⊎-elim (λ a. let w : s .held .gap < gap us i = a in omega arith)
+            (λ a. let w = a .0 in omega arith) (u .held-least i k f)));
         held-is = inr (omega arith, e, refl);
       }
 
@@ -220,7 +230,8 @@ module _ (ms : List Marked) (small : Numbered ms) where
                 upto {P =
                 λ i. newAt ms i
                 ≡ false → (s .held .gap < gap us i) ⊎ ((gap us i ≡ s .held .gap) × (s .held .place ≤ i))} p
-                (λ f. ⊎-elim (λ a. inl a) (λ a. let w : s .held .gap ≡ gap us p = a .0 in inr (sym w, q)) (at-most (s .held .gap) (gap us p) (s .held .place) p h q)) (u .held-least);
+                (λ f. ⊎-elim (λ a. inl a) (λ a. let w : s .held .gap ≡ gap us p = a .0 in inr (sym w, q))
+                (at-most (s .held .gap) (gap us p) (s .held .place) p h q)) (u .held-least);
             held-is = held-was;
           }
 
@@ -231,8 +242,10 @@ module _ (ms : List Marked) (small : Numbered ms) where
     unfolding weighOne
     step =
         test (newAt ms p)
-        (λ e. rw (e, here) (test (leb (s .new .gap) (gap us p)) (λ a. rw a (new-larger e (leb-true _ _ a))) (λ a. rw a (new-smaller e (leb-false _ _ a)))))
-        (λ e. rw (e, here) (test (ltb (gap us p) (s .held .gap)) (λ a. rw a (held-smaller e (ltb-true _ _ a))) (λ a. rw a (held-larger e (ltb-false _ _ a)))))
+        (λ e. rw (e, here) (test (leb (s .new .gap) (gap us p)) (λ a. rw a (new-larger e (leb-true _ _ a)))
+        (λ a. rw a (new-smaller e (leb-false _ _ a)))))
+        (λ e. rw (e, here) (test (ltb (gap us p) (s .held .gap)) (λ a. rw a (held-smaller e (ltb-true _ _ a)))
+        (λ a. rw a (held-larger e (ltb-false _ _ a)))))
 
   -- all places
   abbrev Whole : Weighed → Type 0
@@ -272,8 +285,10 @@ module _ (ms : List Marked) (small : Numbered ms) where
   before-not : (i k : ℕ) → sooner us i k ≡ true → sooner us k i ≡ true → ⊥
   before-not i k e f =
       ⊎-elim
-      (λ (a : gap us k < gap us i). ⊎-elim (λ (b : gap us i < gap us k). omega arith) (λ (b : (gap us i ≡ gap us k) × (i < k)). omega arith) (sooner→ us k i f))
-      (λ (a : (gap us k ≡ gap us i) × (k < i)). ⊎-elim (λ (b : gap us i < gap us k). omega arith) (λ (b : (gap us i ≡ gap us k) × (i < k)). omega arith) (sooner→ us k i f))
+      (λ (a : gap us k < gap us i). ⊎-elim (λ (b : gap us i < gap us k). omega arith)
+      (λ (b : (gap us i ≡ gap us k) × (i < k)). omega arith) (sooner→ us k i f))
+      (λ (a : (gap us k ≡ gap us i) × (k < i)). ⊎-elim (λ (b : gap us i < gap us k). omega arith)
+      (λ (b : (gap us i ≡ gap us k) × (i < k)). omega arith) (sooner→ us k i f))
       (sooner→ us i k e)
 
   not-itself : (i : ℕ) → sooner us i i ≡ false
@@ -295,7 +310,8 @@ module _ (ms : List Marked) (small : Numbered ms) where
       omega arith
 
   module _
-      (sep : (i k : ℕ) → i < length ms → k < length ms → newAt ms i ≡ true → newAt ms k ≡ false → sooner us k i ≡ true) where
+      (sep : (i k : ℕ) → i < length ms → k < length ms → newAt ms i ≡ true → newAt ms k ≡ false
+      → sooner us k i ≡ true) where
     new-low : (i : ℕ) → i < length ms → newAt ms i ≡ true → rank us i < fresh
     unfolding rank fresh
     new-low i l e =
@@ -326,7 +342,8 @@ module _ (ms : List Marked) (small : Numbered ms) where
     chain : (j : ℕ) → sooner us k j ≡ true → sooner us i j ≡ true
     chain j g =
         ⊎-elim
-        (λ (a : gap us k < gap us i). ⊎-elim (λ (c : gap us j < gap us k). sooner-less us i j (omega arith)) (λ (c : (gap us j ≡ gap us k) × (j < k)). sooner-less us i j (omega arith)) (sooner→ us k j g))
+        (λ (a : gap us k < gap us i). ⊎-elim (λ (c : gap us j < gap us k). sooner-less us i j (omega arith))
+        (λ (c : (gap us j ≡ gap us k) × (j < k)). sooner-less us i j (omega arith)) (sooner→ us k j g))
         (λ (a : (gap us k ≡ gap us i) × (k < i)).
         ⊎-elim (λ (c : gap us j < gap us k). sooner-less us i j (omega arith))
         (λ (c : (gap us j ≡ gap us k) × (j < k)). sooner-level us i j (omega arith) (omega arith)) (sooner→ us k j g))
@@ -364,7 +381,10 @@ module _ (ms : List Marked) (small : Numbered ms) where
         let y = w .held-least k (omega arith) ek in
         let z : (s .new .gap < s .held .gap) ⊎ ((s .new .gap ≡ s .held .gap) × (s .new .place < s .held .place)) =
         ⊎-elim (λ a. inl (ltb-true _ _ a))
-        (λ a. inr (eqb-true _ _ (and-left _ (ltb (s .new .place) (s .held .place)) a), ltb-true _ _ (and-right (eqb (s .new .gap) (s .held .gap)) _ a))) (or-cases _ _ h) in
+        (λ a. inr (
+          eqb-true _ _ (and-left _ (ltb (s .new .place) (s .held .place)) a),
+          ltb-true _ _ (and-right (eqb (s .new .gap) (s .held .gap)) _ a),
+        )) (or-cases _ _ h) in
         ⊎-elim (λ a. sooner-less us k i a) (λ a. sooner-level us k i (a .0) (a .1)) (between x z y)
 
     pub leaves : lower (all-weighed .new) (all-weighed .held) ≡ true → thin (length hs) us ≡ hs
@@ -381,7 +401,8 @@ module _ (ms : List Marked) (small : Numbered ms) where
           let w = whole .0 in let n = whole .1 in
           let f = new-found in let fi = f .inside in let g = gap-range (f .place) .0 in
           ⊎-elim (λ z. ⊎-elim (λ (a : gap us (f .place) < all-weighed .new .gap). let x : ⊥ = omega arith in absurd x)
-          (λ (a : (gap us (f .place) ≡ all-weighed .new .gap) × (f .place ≤ all-weighed .new .place)). let x : ⊥ = omega arith in absurd x) (w .new-most (f .place) (omega arith) (f .passes)))
+          (λ (a : (gap us (f .place) ≡ all-weighed .new .gap) × (f .place ≤ all-weighed .new .place)).
+          let x : ⊥ = omega arith in absurd x) (w .new-most (f .place) (omega arith) (f .passes)))
           (λ t. let x = t .0 in (omega arith, t .1, t .2)) (w .new-is)
 
       -- the largest pair of a new one is below that of a held one that is not known, or of a kept one
@@ -416,8 +437,10 @@ module _ (ms : List Marked) (small : Numbered ms) where
           let v = ltb-false (s .new .place) (s .held .place) (rw q at (o .1)) in
           test (eqb (s .new .place) (s .held .place))
           (λ z. never (a .1) (rw (eqb-true (s .new .place) (s .held .place) z) (b .1)))
-          (λ z. let d = eqb-false (s .new .place) (s .held .place) z in sooner-level us (s .new .place) (s .held .place) (omega arith) (omega (arith, d))))
-          (λ q. let g = eqb-false (s .new .gap) (s .held .gap) q in sooner-less us (s .new .place) (s .held .place) (omega (arith, g)))
+          (λ z. let d = eqb-false (s .new .place) (s .held .place) z in sooner-level us (s .new .place)
+          (s .held .place) (omega arith) (omega (arith, d))))
+          (λ q. let g = eqb-false (s .new .gap) (s .held .gap) q in sooner-less us (s .new .place) (s .held .place)
+          (omega (arith, g)))
 
       pub changes : lower (all-weighed .new) (all-weighed .held) ≡ false → thin (length hs) us ≡ hs → ⊥
       changes h =

@@ -12,7 +12,8 @@ abbrev Inv-loop : tie.InvT-loop
 Inv-loop budget n c f h headers other theirs frames store parts at₀ j₀ at j =
     Seeking budget n f h (partTables headers other theirs)
     (storedIn (c .frames) (c .parts) (partTables frames store parts))
-    (someStored budget (framesIn f headers other) n (partsIn h theirs) (storedIn (c .frames) (c .parts) (partTables frames store parts))) j at
+    (someStored budget (framesIn f headers other) n (partsIn h theirs)
+    (storedIn (c .frames) (c .parts) (partTables frames store parts))) j at
 
 abbrev μ-loop : tie.MeasureT-loop
 μ-loop budget n c f h headers other theirs frames store parts at₀ j₀ at j = h - j

@@ -40,7 +40,8 @@ returns-2 c =
     let in-loop : tie.In-loop Inv-loop μ-loop = search in
     let at-loop : tie.At-loop Inv-loop μ-loop = search in
     absorb-moved (at-loop .loop .inv)
-    (read-turn 16 decodeConfirmation _ _ _ (in-loop .loop-test .taken) (after-read-confirmation2 .read-confirmation2 .ensures))
+    (read-turn 16 decodeConfirmation _ _ _ (in-loop .loop-test .taken)
+    (after-read-confirmation2 .read-confirmation2 .ensures))
     (read-turn 16 decodeConfirmation _ _ _ (else1 .if1 .left) (after-read-confirmation .read-confirmation .ensures))
     (after-unmoved .unmoved .ensures)
     (c .if2 .taken)
@@ -55,7 +56,8 @@ loop-again c =
     let in-loop : tie.In-loop Inv-loop μ-loop = search in
     let at-loop : tie.At-loop Inv-loop μ-loop = search in
     absorb-on (at-loop .loop .inv)
-    (read-turn 16 decodeConfirmation _ _ _ (in-loop .loop-test .taken) (after-read-confirmation2 .read-confirmation2 .ensures))
+    (read-turn 16 decodeConfirmation _ _ _ (in-loop .loop-test .taken)
+    (after-read-confirmation2 .read-confirmation2 .ensures))
     (read-turn 16 decodeConfirmation _ _ _ (else1 .if1 .left) (after-read-confirmation .read-confirmation .ensures))
     (else1 .if1 .left)
     (in-loop .loop-test .taken) (after-unmoved .unmoved .ensures) (else2 .if2 .left) (c .met .ensures)

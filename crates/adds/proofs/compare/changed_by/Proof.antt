@@ -38,7 +38,12 @@ returns-5 c =
     let three : tie.Else3 = search in
     let four : tie.Else4 = search in
     rw (c .lower-pair .ensures)
-    (sym (rw (one .if1 .left, ne-eqb _ _ (two .if2 .left), lt-leb _ _ (three .if3 .left), eq-eqb _ _ (four .if4 .left))))
+    (sym (rw (
+      one .if1 .left,
+      ne-eqb _ _ (two .if2 .left),
+      lt-leb _ _ (three .if3 .left),
+      eq-eqb _ _ (four .if4 .left),
+    )))
 
 pub changed-by-spec : {M : Type 1} → statement M
 changed-by-spec =

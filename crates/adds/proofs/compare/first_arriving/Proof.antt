@@ -28,7 +28,8 @@ returns-2 c =
     let skip = skipped confirmedLsn 16 decodeConfirmation first _ _ 0 _ (omega arith) (c .skip .ensures) in (
       skip .0,
       arriving-low _ _ _ _ (records-length 16 decodeConfirmation _ _) (full .if1 .left) (start .pre .2)
-          (read-turn 16 decodeConfirmation _ _ 0 (omega (arith, full .if1 .left, start .pre .2)) (read .read-confirmation .ensures)) (skip .1),
+          (read-turn 16 decodeConfirmation _ _ 0 (omega (arith, full .if1 .left, start .pre .2))
+          (read .read-confirmation .ensures)) (skip .1),
     )
 
 pub first-arriving-spec : {M : Type 1} → statement M

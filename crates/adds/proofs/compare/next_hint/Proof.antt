@@ -24,7 +24,9 @@ returns c =
     let start : tie.Start = search in
     turn-new (after-lsn-at .lsn-at .ensures) (unkept-at _ _ (after-lsn-at2 .lsn-at2 .ensures)) (start .pre .2)
     (start .pre .3) (then1 .if1 .taken)
-    (read-turn 8 decodeUnkept _ _ _ (other-inside (after-lsn-at .lsn-at .ensures) (unkept-at _ _ (after-lsn-at2 .lsn-at2 .ensures)) (start .pre .2) (then1 .if1 .taken))
+    (read-turn 8 decodeUnkept _ _ _
+    (other-inside (after-lsn-at .lsn-at .ensures) (unkept-at _ _ (after-lsn-at2 .lsn-at2 .ensures)) (start .pre .2)
+    (then1 .if1 .taken))
     (c .read-arriving .ensures))
 
 read-hint-requires : tie.Need-read-hint-requires

@@ -40,7 +40,8 @@ returns c =
     let in-loop : tie.In-loop Inv-loop μ-loop = search in
     let read : tie.After-read-u32 Inv-loop μ-loop = search in
     skip-stop (at-loop .loop .inv)
-    (read-turn (start .args .w) keyOf _ _ _ (in-loop .loop-test .taken) (key-at (start .args .w) _ _ (start .pre .0) (read .read-u32 .ensures)))
+    (read-turn (start .args .w) keyOf _ _ _ (in-loop .loop-test .taken)
+    (key-at (start .args .w) _ _ (start .pre .0) (read .read-u32 .ensures)))
     (c .if1 .taken)
 
 loop-again : tie.Need-loop-again Inv-loop μ-loop
@@ -50,7 +51,8 @@ loop-again c =
     let in-loop : tie.In-loop Inv-loop μ-loop = search in
     let read : tie.After-read-u32 Inv-loop μ-loop = search in
     skip-on (at-loop .loop .inv)
-    (read-turn (start .args .w) keyOf _ _ _ (in-loop .loop-test .taken) (key-at (start .args .w) _ _ (start .pre .0) (read .read-u32 .ensures)))
+    (read-turn (start .args .w) keyOf _ _ _ (in-loop .loop-test .taken)
+    (key-at (start .args .w) _ _ (start .pre .0) (read .read-u32 .ensures)))
     (in-loop .loop-test .taken) (c .if1 .left)
 
 returns-2 : tie.Need-returns-2 Inv-loop μ-loop
