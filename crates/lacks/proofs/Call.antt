@@ -41,15 +41,18 @@ use Rattle.lacks.proofs.Pass.{missed-rising, hint-key, confirmed-key}
 use Rattle.lacks.proofs.Parts.{parts-rise, parts-missed}
 
 -- ---- what the steps need
-walk-within : (a : Area) (k : ℕ) (cs : List Checkpoint) (f : ℕ) (headers store : List ℕ) (o : Option Held) (ps : List Held)
+walk-within : (a : Area) (k : ℕ) (cs : List Checkpoint) (f : ℕ) (headers store : List ℕ) (o : Option Held)
+    (ps : List Held)
     → walk (partOk a k 0 cs (framesIn f headers store)) keep o ps ≡ true → PartsWithin f headers store ps
 walk-within a k cs f headers store o [] e = tt
 walk-within a k cs f headers store o (p ∷ ps) e =
     let fs = framesIn f headers store in
     let h = part→ a k 0 cs fs o p (walk-head (partOk a k 0 cs fs) keep o p ps e) .0 in
     let l = h .frame in let n = frames-length (headersIn f headers) store in
-    let m = records-length 8 decodeHeader f headers in
-    ((omega arith, h .len), walk-within a k cs f headers store (some p) ps (walk-tail (partOk a k 0 cs fs) keep o p ps e))
+    let m = records-length 8 decodeHeader f headers in (
+      (omega arith, h .len),
+      walk-within a k cs f headers store (some p) ps (walk-tail (partOk a k 0 cs fs) keep o p ps e),
+    )
 
 pub parts-lent : {x : AreaIndex} {t : Tables} → Passes x t
     → PartsLent (x .parts) (t .parts) (x .frames) (t .frames) (t .store)
@@ -79,18 +82,22 @@ module _ {x y : AreaIndex} {t u : Tables} (j : Joins x t y u) where
   -- ---- the counts
   module _ {a b c d e : ℕ}
       (p0 : a ≡ y .checkpoints - x .checkpoints)
-      (p1 : b ≡ missed partKey (standsIn (x .frames) (t .frames) (t .store) (y .frames) (u .frames) (u .store)) (partsIn (x .parts) (t .parts)) (partsIn (y .parts) (u .parts)))
+      (p1 : b ≡ missed partKey (standsIn (x .frames) (t .frames) (t .store) (y .frames) (u .frames) (u .store))
+      (partsIn (x .parts) (t .parts)) (partsIn (y .parts) (u .parts)))
       (p2 : c ≡ missed ownLsn eqb (lsnsIn (x .malformed) (t .malformed)) (lsnsIn (y .malformed) (u .malformed)))
       (p3 : d ≡ missed hintLsn sameHint (keptIn (x .hints) (t .hints)) (keptIn (y .hints) (u .hints)))
-      (p4 : e ≡ missed confirmedLsn confirmsAlso (confirmationsIn (x .confirmed) (t .confirmed)) (confirmationsIn (y .confirmed) (u .confirmed))) where
-    pub counts-are : _≡_ {A = Missing} (record { checkpoints = a; parts = b; malformed = c; hints = d; confirmed = e }) (countsIn x t y u)
+      (p4 : e ≡ missed confirmedLsn confirmsAlso (confirmationsIn (x .confirmed) (t .confirmed))
+      (confirmationsIn (y .confirmed) (u .confirmed))) where
+    pub counts-are : _≡_ {A = Missing}
+        (record { checkpoints = a; parts = b; malformed = c; hints = d; confirmed = e }) (countsIn x t y u)
     unfolding countsIn lacking malformedOk hintsOk confirmationsOk
     counts-are =
         let s = scan-is (j .own) in let r = scan-is (j .other) in
         let g = hinting-is (j .own) in let h = hinting-is (j .other) in
         let e0 : a ≡ count (indexIn y u .scan) - count (indexIn x t .scan) =
         p0 ∙ sym
-        (ap₂ (λ (p q : ℕ). q - p) (records-length 24 decodeCheckpoint (x .checkpoints) (t .checkpoints)) (records-length 24 decodeCheckpoint (y .checkpoints) (u .checkpoints))) in
+        (ap₂ (λ (p q : ℕ). q - p) (records-length 24 decodeCheckpoint (x .checkpoints) (t .checkpoints))
+        (records-length 24 decodeCheckpoint (y .checkpoints) (u .checkpoints))) in
         let e1 =
         p1 ∙ parts-missed _ _ _ _ _ _ 0 0 _ _ (parts-rise _ _ _ _ _ _ (s .stretch .held))
         (parts-rise _ _ _ _ _ _ (r .stretch .held)) in

@@ -32,7 +32,13 @@ lacksBy x y c =
 unfoldable pub countsIn : AreaIndex → Tables → AreaIndex → Tables → Missing
 countsIn x t y u =
     let l = lacking (indexIn x t) (indexIn y u) in
-    record { checkpoints = l .checkpoints; parts = l .parts; malformed = l .malformed; hints = l .hints; confirmed = l .confirmed }
+    record {
+      checkpoints = l .checkpoints;
+      parts = l .parts;
+      malformed = l .malformed;
+      hints = l .hints;
+      confirmed = l .confirmed;
+    }
 
 unfoldable pub lackedOf : Lacked → Answer Lacks
 lackedOf (lacked.Refused n) = Refused n

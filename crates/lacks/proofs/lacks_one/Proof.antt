@@ -25,8 +25,11 @@ returns-2 c =
     let else1 : tie.Else1 = search in
     let stands : tie.After-stands-for = search in
     let s = start .args .s in
-    let one = c .one-unless .ensures in
-    (one .0, first-is (standsFor s) (widthOf s) (decodeItem s) _ _ (else1 .if1 .left) refl (stands .stands-for .ensures) (one .1))
+    let one = c .one-unless .ensures in (
+      one .0,
+      first-is (standsFor s) (widthOf s) (decodeItem s) _ _ (else1 .if1 .left) refl
+          (stands .stands-for .ensures) (one .1),
+    )
 
 pub lacks-one-spec : {M : Type 1} → statement M
 lacks-one-spec = tie.close (tie.spec returns stands-for-requires (λ c κs. search needs) returns-2)
