@@ -15,7 +15,7 @@ use rules::Mode;
 use rules::Recorder;
 use rules::Tail;
 ghost use mathlib.Core.Path.{_≡_};
-ghost use Prim.Native.Nat.{_%_, _^_, _≤_, _<_, _*_};
+ghost use Prim.Native.Nat.{_≤_, _<_, _*_};
 ghost use lib.ListN.{length};
 ghost use Rattle.rules.specs.File.{over};
 ghost use Rattle.blocks.specs.Head.{wordsIn, blockOf, indexArray, recorderArray, indexWords, recorderWords, hintRecorderArray, hintRecorderWords, seenWords, endWords, fingerprintWords, imageWords, lastWords, tailWords, modeWords, absenceNumber, firstTold};

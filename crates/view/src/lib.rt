@@ -16,7 +16,7 @@ ghost use Prim.Native.Nat.{_+_, _*_, _≤_};
 ghost use lib.ListN.{length};
 ghost use Rattle.rules.specs.File.{over};
 ghost use Rattle.rules_view.specs.View.{isRole, viewBytes, viewLength};
-ghost use Rattle.index.specs.Index.{Tables, indexIn, tables, refusal};
+ghost use Rattle.index.specs.Index.{Tables, indexIn, tables};
 ghost use Rattle.view.specs.Sections.{Shown};
 ghost use Rattle.view.specs.View.{viewed, viewIn, viewSizeIn, viewedOf, asked, blockRefusal};
 
@@ -53,7 +53,10 @@ fn view_refuses(
     hints: &[u8],
     confirmed: &[u8],
 ) -> u32
-    ensures { λ r. ⌜ r ≡ asked role x (tables (now (checkpoints .entry)) (now (frames .entry)) (now (store .entry)) (now (parts .entry)) (now (malformed .entry)) (now (hints .entry)) (now (confirmed .entry))) ⌝ }
+    ensures { λ r. ⌜ r
+        ≡ asked role x
+        (tables (now (checkpoints .entry)) (now (frames .entry)) (now (store .entry)) (now (parts .entry))
+        (now (malformed .entry)) (now (hints .entry)) (now (confirmed .entry))) ⌝ }
 {
     if !is_role(role) {
         return 52;
@@ -99,7 +102,10 @@ pub fn view_length(
     hints: &[u8],
     confirmed: &[u8],
 ) -> Viewed
-    ensures { λ r. ⌜ viewedOf r ≡ viewSizeIn role x (tables (now (checkpoints .entry)) (now (frames .entry)) (now (store .entry)) (now (parts .entry)) (now (malformed .entry)) (now (hints .entry)) (now (confirmed .entry))) ⌝ }
+    ensures { λ r. ⌜ viewedOf r
+        ≡ viewSizeIn role x
+        (tables (now (checkpoints .entry)) (now (frames .entry)) (now (store .entry)) (now (parts .entry))
+        (now (malformed .entry)) (now (hints .entry)) (now (confirmed .entry))) ⌝ }
 {
     let number = view_refuses(
         role,
@@ -130,8 +136,18 @@ fn write_view(
     hints: &[u8],
     confirmed: &[u8],
 )
-    requires { ⌜ Shown x (now checkpoints) (now parts) (now malformed) (now hints) (now confirmed) × (isRole role ≡ true) × (viewLength role (indexIn x (tables (now checkpoints) [] [] (now parts) (now malformed) (now hints) (now confirmed))) ≤ length (now out)) ⌝ }
-    ensures { λ _. ⌜ now (out .exit) ≡ over (viewBytes role (indexIn x (tables (now (checkpoints .entry)) [] [] (now (parts .entry)) (now (malformed .entry)) (now (hints .entry)) (now (confirmed .entry))))) (now (out .entry)) ⌝ }
+    requires { ⌜ Shown x (now checkpoints) (now parts) (now malformed) (now hints) (now confirmed)
+        × (isRole role ≡ true)
+        × (viewLength role
+        (indexIn x (tables (now checkpoints) [] [] (now parts) (now malformed) (now hints) (now confirmed)))
+        ≤ length (now out)) ⌝ }
+    ensures { λ _. ⌜ now (out .exit)
+        ≡ over
+        (viewBytes role
+        (indexIn x
+        (tables (now (checkpoints .entry)) [] [] (now (parts .entry)) (now (malformed .entry))
+        (now (hints .entry)) (now (confirmed .entry)))))
+        (now (out .entry)) ⌝ }
 {
     let at = put_listener(out, role, x, checkpoints);
     if role == 1 {
@@ -154,8 +170,15 @@ fn viewed_after(
     confirmed: &[u8],
     out: &mut [u8],
 ) -> Viewed
-    requires { ⌜ number ≡ asked role x (tables (now checkpoints) (now frames) (now store) (now parts) (now malformed) (now hints) (now confirmed)) ⌝ }
-    ensures { λ r. ⌜ viewed r (now (out .exit)) ≡ viewIn role x (tables (now (checkpoints .entry)) (now (frames .entry)) (now (store .entry)) (now (parts .entry)) (now (malformed .entry)) (now (hints .entry)) (now (confirmed .entry))) (now (out .entry)) ⌝ }
+    requires { ⌜ number
+        ≡ asked role x
+        (tables (now checkpoints) (now frames) (now store) (now parts) (now malformed) (now hints)
+        (now confirmed)) ⌝ }
+    ensures { λ r. ⌜ viewed r (now (out .exit))
+        ≡ viewIn role x
+        (tables (now (checkpoints .entry)) (now (frames .entry)) (now (store .entry)) (now (parts .entry))
+        (now (malformed .entry)) (now (hints .entry)) (now (confirmed .entry)))
+        (now (out .entry)) ⌝ }
 {
     if number != 0 {
         return Viewed::Refused(number);
@@ -190,7 +213,11 @@ pub fn view(
     confirmed: &[u8],
     out: &mut [u8],
 ) -> Viewed
-    ensures { λ r. ⌜ viewed r (now (out .exit)) ≡ viewIn role x (tables (now (checkpoints .entry)) (now (frames .entry)) (now (store .entry)) (now (parts .entry)) (now (malformed .entry)) (now (hints .entry)) (now (confirmed .entry))) (now (out .entry)) ⌝ }
+    ensures { λ r. ⌜ viewed r (now (out .exit))
+        ≡ viewIn role x
+        (tables (now (checkpoints .entry)) (now (frames .entry)) (now (store .entry)) (now (parts .entry))
+        (now (malformed .entry)) (now (hints .entry)) (now (confirmed .entry)))
+        (now (out .entry)) ⌝ }
 {
     let number = view_refuses(
         role,

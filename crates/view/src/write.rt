@@ -15,7 +15,6 @@ use tables::read_held;
 use tables::read_hint;
 use tables::write_given;
 ghost use mathlib.Core.Path.{_≡_};
-ghost use mathlib.Core.List.{_++_};
 ghost use Prim.Native.Nat.{_+_, _*_, _≤_};
 ghost use lib.ListN.{length};
 ghost use lib.Seq.{sets};
@@ -62,7 +61,16 @@ fn total_array(
     fingerprint: u64,
     confirmed: u32,
 ) -> [u64; 6]
-    ensures { λ r. ⌜ r ≡ totalWords (record { malformed = malformed; parts = parts; hints = hints; known = known; fingerprint = fingerprint; confirmed = confirmed }) ⌝ }
+    ensures { λ r. ⌜ r
+        ≡ totalWords
+        (record {
+          malformed = malformed;
+          parts = parts;
+          hints = hints;
+          known = known;
+          fingerprint = fingerprint;
+          confirmed = confirmed;
+        }) ⌝ }
 {
     [
         malformed as u64,
@@ -106,8 +114,11 @@ fn write_head(out: &mut [u8], words: [u64; 11])
 
 // LSN and threshold of each checkpoint.
 fn write_seen(out: &mut [u8], x: AreaIndex, table: &[u8])
-    requires { ⌜ (x .area .start ≤ 4294967295) × (x .checkpoints * 24 ≤ length (now table)) × (x .checkpoints * 8 ≤ length (now out)) ⌝ }
-    ensures { λ _. ⌜ now (out .exit) ≡ over (bytesOf encodeSeen (seenOf x (now (table .entry)))) (now (out .entry)) ⌝ }
+    requires { ⌜ (x .area .start ≤ 4294967295)
+        × (x .checkpoints * 24 ≤ length (now table))
+        × (x .checkpoints * 8 ≤ length (now out)) ⌝ }
+    ensures { λ _. ⌜ now (out .exit)
+        ≡ over (bytesOf encodeSeen (seenOf x (now (table .entry)))) (now (out .entry)) ⌝ }
 {
     let area = x.area;
     let n = x.checkpoints;
@@ -145,7 +156,9 @@ fn write_backing(out: &mut [u8], j: usize, c: Checkpoint)
 // Back and digest of each checkpoint.
 fn write_backings(out: &mut [u8], table: &[u8], n: u32)
     requires { ⌜ (n * 24 ≤ length (now table)) × (n * 12 ≤ length (now out)) ⌝ }
-    ensures { λ _. ⌜ now (out .exit) ≡ over (bytesOf encodeBacking (backingsOf (checkpointsIn n (now (table .entry))))) (now (out .entry)) ⌝ }
+    ensures { λ _. ⌜ now (out .exit)
+        ≡ over (bytesOf encodeBacking (backingsOf (checkpointsIn n (now (table .entry)))))
+        (now (out .entry)) ⌝ }
 {
     let mut j: u32 = 0;
     while j < n {
@@ -158,7 +171,9 @@ fn write_backings(out: &mut [u8], table: &[u8], n: u32)
 // The checkpoint's number and the length of each held part.
 fn write_lengths(out: &mut [u8], table: &[u8], n: u32)
     requires { ⌜ (n * 24 ≤ length (now table)) × (n * 8 ≤ length (now out)) ⌝ }
-    ensures { λ _. ⌜ now (out .exit) ≡ over (bytesOf encodeHeldLength (lengthsOf (partsIn n (now (table .entry))))) (now (out .entry)) ⌝ }
+    ensures { λ _. ⌜ now (out .exit)
+        ≡ over (bytesOf encodeHeldLength (lengthsOf (partsIn n (now (table .entry))))) (now (out .entry))
+        ⌝ }
 {
     let mut j: u32 = 0;
     while j < n {
@@ -171,7 +186,8 @@ fn write_lengths(out: &mut [u8], table: &[u8], n: u32)
 // LSN and frame number of each hint.
 fn write_hints(out: &mut [u8], table: &[u8], n: u32)
     requires { ⌜ (n * 8 ≤ length (now table)) × (n * 8 ≤ length (now out)) ⌝ }
-    ensures { λ _. ⌜ now (out .exit) ≡ over (bytesOf encodeHint (keptIn n (now (table .entry)))) (now (out .entry)) ⌝ }
+    ensures { λ _. ⌜ now (out .exit)
+        ≡ over (bytesOf encodeHint (keptIn n (now (table .entry)))) (now (out .entry)) ⌝ }
 {
     let mut j: u32 = 0;
     while j < n {
@@ -184,7 +200,8 @@ fn write_hints(out: &mut [u8], table: &[u8], n: u32)
 // The kept mark of each hint.
 fn write_marks(out: &mut [u8], table: &[u8], n: u32)
     requires { ⌜ (n * 8 ≤ length (now table)) × (n ≤ length (now out)) ⌝ }
-    ensures { λ _. ⌜ now (out .exit) ≡ over (bytesOf encodeMark (keptIn n (now (table .entry)))) (now (out .entry)) ⌝ }
+    ensures { λ _. ⌜ now (out .exit)
+        ≡ over (bytesOf encodeMark (keptIn n (now (table .entry)))) (now (out .entry)) ⌝ }
 {
     let mut j: u32 = 0;
     while j < n {
@@ -196,8 +213,11 @@ fn write_marks(out: &mut [u8], table: &[u8], n: u32)
 
 // ---- the stretch of each section: from at on, up to what is answered
 fn put_seen(out: &mut [u8], at: usize, x: AreaIndex, table: &[u8]) -> usize
-    requires { ⌜ (x .area .start ≤ 4294967295) × (x .checkpoints * 24 ≤ length (now table)) × (at + x .checkpoints * 8 ≤ length (now out)) ⌝ }
-    ensures { λ r. ⌜ Put (bytesOf encodeSeen (seenOf x (now (table .entry)))) (x .checkpoints * 8) (now (out .entry)) at r (now (out .exit)) ⌝ }
+    requires { ⌜ (x .area .start ≤ 4294967295)
+        × (x .checkpoints * 24 ≤ length (now table))
+        × (at + x .checkpoints * 8 ≤ length (now out)) ⌝ }
+    ensures { λ r. ⌜ Put (bytesOf encodeSeen (seenOf x (now (table .entry)))) (x .checkpoints * 8)
+        (now (out .entry)) at r (now (out .exit)) ⌝ }
 {
     let to = at + x.checkpoints as usize * 8;
     write_seen(&mut out[at..to], x, table);
@@ -206,7 +226,8 @@ fn put_seen(out: &mut [u8], at: usize, x: AreaIndex, table: &[u8]) -> usize
 
 fn put_totals(out: &mut [u8], at: usize, x: AreaIndex) -> usize
     requires { ⌜ at + 48 ≤ length (now out) ⌝ }
-    ensures { λ r. ⌜ Put (wordBytes (totalWords (totalsIn x))) 48 (now (out .entry)) at r (now (out .exit)) ⌝ }
+    ensures { λ r. ⌜ Put (wordBytes (totalWords (totalsIn x))) 48 (now (out .entry)) at r (now (out .exit))
+        ⌝ }
 {
     let words = total_words(x);
     let to = at + 48;
@@ -216,7 +237,8 @@ fn put_totals(out: &mut [u8], at: usize, x: AreaIndex) -> usize
 
 fn put_backings(out: &mut [u8], at: usize, table: &[u8], n: u32) -> usize
     requires { ⌜ (n * 24 ≤ length (now table)) × (at + n * 12 ≤ length (now out)) ⌝ }
-    ensures { λ r. ⌜ Put (bytesOf encodeBacking (backingsOf (checkpointsIn n (now (table .entry))))) (n * 12) (now (out .entry)) at r (now (out .exit)) ⌝ }
+    ensures { λ r. ⌜ Put (bytesOf encodeBacking (backingsOf (checkpointsIn n (now (table .entry)))))
+        (n * 12) (now (out .entry)) at r (now (out .exit)) ⌝ }
 {
     let to = at + n as usize * 12;
     write_backings(&mut out[at..to], table, n);
@@ -225,7 +247,8 @@ fn put_backings(out: &mut [u8], at: usize, table: &[u8], n: u32) -> usize
 
 fn put_malformed(out: &mut [u8], at: usize, table: &[u8], n: u32) -> usize
     requires { ⌜ (n * 4 ≤ length (now table)) × (at + n * 4 ≤ length (now out)) ⌝ }
-    ensures { λ r. ⌜ Put (bytesOf encodeLsn (lsnsIn n (now (table .entry)))) (n * 4) (now (out .entry)) at r (now (out .exit)) ⌝ }
+    ensures { λ r. ⌜ Put (bytesOf encodeLsn (lsnsIn n (now (table .entry)))) (n * 4) (now (out .entry)) at r
+        (now (out .exit)) ⌝ }
 {
     let k = n as usize * 4;
     let to = at + k;
@@ -235,7 +258,8 @@ fn put_malformed(out: &mut [u8], at: usize, table: &[u8], n: u32) -> usize
 
 fn put_lengths(out: &mut [u8], at: usize, table: &[u8], n: u32) -> usize
     requires { ⌜ (n * 24 ≤ length (now table)) × (at + n * 8 ≤ length (now out)) ⌝ }
-    ensures { λ r. ⌜ Put (bytesOf encodeHeldLength (lengthsOf (partsIn n (now (table .entry))))) (n * 8) (now (out .entry)) at r (now (out .exit)) ⌝ }
+    ensures { λ r. ⌜ Put (bytesOf encodeHeldLength (lengthsOf (partsIn n (now (table .entry))))) (n * 8)
+        (now (out .entry)) at r (now (out .exit)) ⌝ }
 {
     let to = at + n as usize * 8;
     write_lengths(&mut out[at..to], table, n);
@@ -244,7 +268,8 @@ fn put_lengths(out: &mut [u8], at: usize, table: &[u8], n: u32) -> usize
 
 fn put_hints(out: &mut [u8], at: usize, table: &[u8], n: u32) -> usize
     requires { ⌜ (n * 8 ≤ length (now table)) × (at + n * 8 ≤ length (now out)) ⌝ }
-    ensures { λ r. ⌜ Put (bytesOf encodeHint (keptIn n (now (table .entry)))) (n * 8) (now (out .entry)) at r (now (out .exit)) ⌝ }
+    ensures { λ r. ⌜ Put (bytesOf encodeHint (keptIn n (now (table .entry)))) (n * 8) (now (out .entry)) at
+        r (now (out .exit)) ⌝ }
 {
     let to = at + n as usize * 8;
     write_hints(&mut out[at..to], table, n);
@@ -253,7 +278,8 @@ fn put_hints(out: &mut [u8], at: usize, table: &[u8], n: u32) -> usize
 
 fn put_marks(out: &mut [u8], at: usize, table: &[u8], n: u32) -> usize
     requires { ⌜ (n * 8 ≤ length (now table)) × (at + n ≤ length (now out)) ⌝ }
-    ensures { λ r. ⌜ Put (bytesOf encodeMark (keptIn n (now (table .entry)))) n (now (out .entry)) at r (now (out .exit)) ⌝ }
+    ensures { λ r. ⌜ Put (bytesOf encodeMark (keptIn n (now (table .entry)))) n (now (out .entry)) at r
+        (now (out .exit)) ⌝ }
 {
     let to = at + n as usize;
     write_marks(&mut out[at..to], table, n);
@@ -262,7 +288,8 @@ fn put_marks(out: &mut [u8], at: usize, table: &[u8], n: u32) -> usize
 
 fn put_confirmations(out: &mut [u8], at: usize, table: &[u8], n: u32) -> usize
     requires { ⌜ (n * 16 ≤ length (now table)) × (at + n * 16 ≤ length (now out)) ⌝ }
-    ensures { λ r. ⌜ Put (bytesOf encodeConfirmation (confirmationsIn n (now (table .entry)))) (n * 16) (now (out .entry)) at r (now (out .exit)) ⌝ }
+    ensures { λ r. ⌜ Put (bytesOf encodeConfirmation (confirmationsIn n (now (table .entry)))) (n * 16)
+        (now (out .entry)) at r (now (out .exit)) ⌝ }
 {
     let k = n as usize * 16;
     let to = at + k;
@@ -273,8 +300,11 @@ fn put_confirmations(out: &mut [u8], at: usize, table: &[u8], n: u32) -> usize
 // ---- the sections in a line
 // What both views begin with.
 pub fn put_listener(out: &mut [u8], role: u32, x: AreaIndex, checkpoints: &[u8]) -> usize
-    requires { ⌜ (x .area .start ≤ 4294967295) × (x .checkpoints * 24 ≤ length (now checkpoints)) × (88 + x .checkpoints * 8 ≤ length (now out)) ⌝ }
-    ensures { λ r. ⌜ Put (seenBytes role (listenerIn x (now (checkpoints .entry)))) (88 + x .checkpoints * 8) (now (out .entry)) 0 r (now (out .exit)) ⌝ }
+    requires { ⌜ (x .area .start ≤ 4294967295)
+        × (x .checkpoints * 24 ≤ length (now checkpoints))
+        × (88 + x .checkpoints * 8 ≤ length (now out)) ⌝ }
+    ensures { λ r. ⌜ Put (seenBytes role (listenerIn x (now (checkpoints .entry))))
+        (88 + x .checkpoints * 8) (now (out .entry)) 0 r (now (out .exit)) ⌝ }
 {
     write_head(out, head_words(role, x));
     put_seen(out, 88, x, checkpoints)
@@ -291,8 +321,12 @@ pub fn put_workshop(
     hints: &[u8],
     confirmed: &[u8],
 ) -> usize
-    requires { ⌜ Shown x (now checkpoints) (now parts) (now malformed) (now hints) (now confirmed) × (at + behindSize x ≤ length (now out)) ⌝ }
-    ensures { λ r. ⌜ Put (behindBytes x (now (checkpoints .entry)) (now (parts .entry)) (now (malformed .entry)) (now (hints .entry)) (now (confirmed .entry))) (behindSize x) (now (out .entry)) at r (now (out .exit)) ⌝ }
+    requires { ⌜ Shown x (now checkpoints) (now parts) (now malformed) (now hints) (now confirmed)
+        × (at + behindSize x ≤ length (now out)) ⌝ }
+    ensures { λ r. ⌜ Put
+        (behindBytes x (now (checkpoints .entry)) (now (parts .entry)) (now (malformed .entry))
+        (now (hints .entry)) (now (confirmed .entry)))
+        (behindSize x) (now (out .entry)) at r (now (out .exit)) ⌝ }
 {
     let at = put_totals(out, at, x);
     let at = put_backings(out, at, checkpoints, x.checkpoints);
