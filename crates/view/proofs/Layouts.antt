@@ -1,12 +1,12 @@
 -- The layouts of a view's sections, and their lengths. Assumes nothing.
 use Prim.Native.Nat.{ℕ, suc, _+_, _*_}
 use mathlib.Core.Path.{_≡_, refl, sym, ap, _∙_}
-use mathlib.Core.List.{List, [], _∷_, _++_, append-nil}
+use mathlib.Core.List.{List, [], _∷_, append-nil}
 use native.Mathlib.Omega.{arith}
 use lib.Dec.{eqb}
 use lib.ListN.{length, getD, length-append}
 use Rattle.field.specs.Records.{bytesOf}
-use Rattle.field.specs.Fields.{fieldsAt, fieldBytes, FieldsFit}
+use Rattle.field.specs.Fields.{fieldBytes, FieldsFit}
 use Rattle.field.proofs.Number.{encode-length}
 use Rattle.field.proofs.Fields.{of-fields, fieldBytes-length}
 use Rattle.field.proofs.Format.{Layout, bytesOf-length}

@@ -1,6 +1,6 @@
 -- What 52 and questions 1 to 4 say to the writers, the sections of a view, and the answers. Assumes nothing.
 use mathlib.Core.Path.{_≡_, refl, sym, ap, _∙_}
-use mathlib.Core.Bool.{Bool, true, false, _||_, cond}
+use mathlib.Core.Bool.{true, false, cond}
 use mathlib.Core.List.{List, [], _∷_, _++_}
 use Prim.Native.Nat.{ℕ, _+_, _*_, _≤_, _<_}
 use native.Mathlib.Omega.{arith}
@@ -17,14 +17,14 @@ use Rattle.rules.specs.File.{over, decodeLsn, decodeConfirmation, decodeCheckpo
 use Rattle.rules.proofs.Tests.{test, never}
 use Rattle.tables.specs.Tables.{checkpointsIn, partsIn, decodeKept}
 use Rattle.index.specs.Needs.{Passes}
-use Rattle.index.specs.Index.{Tables, tables, indexIn, roomOf, kindsIn, kinded, refusal}
+use Rattle.index.specs.Index.{Tables, tables, indexIn, roomOf, refusal}
 use Rattle.index.proofs.Four.{kinded-index}
 use Rattle.index.proofs.Questions.{passes, passes-long, passes-hints, range}
 use Rattle.save.specs.Output.{Put}
 use Rattle.save.proofs.output.Stretches.{put-both, put-over}
-use Rattle.rules_view.specs.View.{listener, workshop, isRole, listenerOf, workshopOf, headOf, encodeSeen, totalsOf, seenBytes, listenerBytes, workshopBytes, workshopSize, wordBytes, headWords, viewBytes, viewLength, view, viewSize}
+use Rattle.rules_view.specs.View.{isRole, listenerOf, workshopOf, headOf, encodeSeen, totalsOf, seenBytes, listenerBytes, workshopBytes, workshopSize, wordBytes, headWords, viewBytes, viewLength, view, viewSize}
 use Rattle.view.specs.declared.Viewed.the-variants as answer
-use Rattle.view.specs.Sections.{headIn, totalsIn, seenOf, listenerIn, behindBytes, behindSize, Shown}
+use Rattle.view.specs.Sections.{headIn, seenOf, listenerIn, behindBytes, behindSize, Shown}
 use Rattle.view.specs.View.{viewed, viewOut, viewedOf, inRole, asked, viewIn, viewSizeIn}
 use Rattle.view.proofs.write.Words.{sets-over}
 use Rattle.view.proofs.Layouts.{head-length, seen-count, lengths-count, view-length}

@@ -1,6 +1,6 @@
 -- A view of an index in its tables, written into a lent output.
 use Prim.Native.Nat.{ℕ}
-use mathlib.Core.Bool.{Bool, cond}
+use mathlib.Core.Bool.{cond}
 use mathlib.Core.List.{List, [], _∷_}
 use lib.ListN.{length}
 use Rattle.rules.specs.declared.AreaIndex.{AreaIndex}

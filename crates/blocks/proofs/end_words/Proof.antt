@@ -3,15 +3,6 @@ use borrow.Author.Needs.{needs}
 use Rattle.blocks.proofs.end_words.Statement.{statement}
 use Rattle.blocks.proofs.end_words.Tie as tie
 
-enum-told : tie.Need-enum-told
-enum-told c = search needs
-
-enum-known-e : tie.Need-enum-known-e
-enum-known-e c = search needs
-
-cast-t4 : tie.Need-cast-t4
-cast-t4 c = search needs
-
 returns : tie.Need-returns
 unfolding endWords
 returns c = simp (c .enum-told .given .1)
@@ -21,4 +12,4 @@ unfolding endWords
 returns-2 c = simp (c .before .before .e .given .1)
 
 pub end-words-spec : {M : Type 1} → statement M
-end-words-spec = tie.close (tie.spec enum-told enum-known-e cast-t4 returns returns-2)
+end-words-spec = tie.close (tie.spec (λ c. search needs) (λ c. search needs) (λ c. search needs) returns returns-2)

@@ -3,15 +3,6 @@ use borrow.Author.Needs.{needs}
 use Rattle.blocks.proofs.fingerprint_words.Statement.{statement}
 use Rattle.blocks.proofs.fingerprint_words.Tie as tie
 
-enum-told : tie.Need-enum-told
-enum-told c = search needs
-
-enum-known-f : tie.Need-enum-known-f
-enum-known-f c = search needs
-
-enum-known-f-2 : tie.Need-enum-known-f-2
-enum-known-f-2 c = search needs
-
 returns : tie.Need-returns
 unfolding fingerprintWords
 returns c = simp (c .enum-told .given .1)
@@ -26,4 +17,4 @@ returns-3 c = simp (c .before .f2 .given .1)
 
 pub fingerprint-words-spec : {M : Type 1} → statement M
 fingerprint-words-spec =
-    tie.close (tie.spec enum-told enum-known-f enum-known-f-2 returns returns-2 returns-3)
+    tie.close (tie.spec (λ c. search needs) (λ c. search needs) (λ c. search needs) returns returns-2 returns-3)

@@ -3,12 +3,6 @@ use borrow.Author.Needs.{needs}
 use Rattle.blocks.proofs.image_words.Statement.{statement}
 use Rattle.blocks.proofs.image_words.Tie as tie
 
-enum-told : tie.Need-enum-told
-enum-told c = search needs
-
-enum-known-i : tie.Need-enum-known-i
-enum-known-i c = search needs
-
 returns : tie.Need-returns
 unfolding imageWords
 returns c = simp (c .enum-told .given .1)
@@ -18,4 +12,4 @@ unfolding imageWords
 returns-2 c = simp (c .before .i .given .1)
 
 pub image-words-spec : {M : Type 1} → statement M
-image-words-spec = tie.close (tie.spec enum-told enum-known-i returns returns-2)
+image-words-spec = tie.close (tie.spec (λ c. search needs) (λ c. search needs) returns returns-2)

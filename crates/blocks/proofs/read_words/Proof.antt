@@ -14,24 +14,6 @@ abbrev μ-loop : tie.MeasureT-loop
 loop-holds : tie.Need-loop-holds Inv-loop μ-loop
 loop-holds c = got-none _ _ 24 refl
 
-mul-read-u64 : tie.Need-mul-read-u64 Inv-loop μ-loop
-mul-read-u64 c = search needs
-
-read-u64-requires : tie.Need-read-u64-requires Inv-loop μ-loop
-read-u64-requires c κs = search needs
-
-mul-words : tie.Need-mul-words Inv-loop μ-loop
-mul-words c = search needs
-
-array-write-words : tie.Need-array-write-words Inv-loop μ-loop
-array-write-words c = search needs
-
-add-i : tie.Need-add-i Inv-loop μ-loop
-add-i c = search needs
-
-loop-less : tie.Need-loop-less Inv-loop μ-loop
-loop-less c = search needs
-
 loop-again : tie.Need-loop-again Inv-loop μ-loop
 loop-again c = got-more (c .before .before .loop .inv) (c .before .loop-test .taken) (c .read-u64 .ensures)
 
@@ -45,11 +27,11 @@ read-words-spec =
     Inv-loop
     μ-loop
     loop-holds
-    mul-read-u64
-    read-u64-requires
-    mul-words
-    array-write-words
-    add-i
-    loop-less
+    (λ c. search needs)
+    (λ c κs. search needs)
+    (λ c. search needs)
+    (λ c. search needs)
+    (λ c. search needs)
+    (λ c. search needs)
     loop-again
     returns)

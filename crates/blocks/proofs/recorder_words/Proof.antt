@@ -3,15 +3,9 @@ use borrow.Author.Needs.{needs}
 use Rattle.blocks.proofs.recorder_words.Statement.{statement}
 use Rattle.blocks.proofs.recorder_words.Tie as tie
 
-mode-words-requires : tie.Need-mode-words-requires
-mode-words-requires c κs = search needs
-
-recorder-array-requires : tie.Need-recorder-array-requires
-recorder-array-requires c κs = search needs
-
 returns : tie.Need-returns
 unfolding recorderWords
 returns c = rw (c .recorder-array .ensures, c .before .mode-words .ensures)
 
 pub recorder-words-spec : {M : Type 1} → statement M
-recorder-words-spec = tie.close (tie.spec mode-words-requires recorder-array-requires returns)
+recorder-words-spec = tie.close (tie.spec (λ c κs. search needs) (λ c κs. search needs) returns)

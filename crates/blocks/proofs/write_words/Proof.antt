@@ -13,29 +13,10 @@ abbrev μ-loop : tie.MeasureT-loop
 loop-holds : tie.Need-loop-holds Inv-loop μ-loop
 loop-holds c = put-none _ _ (search needs)
 
-mul-write-u64 : tie.Need-mul-write-u64 Inv-loop μ-loop
-mul-write-u64 c = search needs
-
-mul-write-u64-2 : tie.Need-mul-write-u64-2 Inv-loop μ-loop
-mul-write-u64-2 c = search needs
-
-array-read-write-u64 : tie.Need-array-read-write-u64 Inv-loop μ-loop
-array-read-write-u64 c = search needs
-
-write-u64-requires : tie.Need-write-u64-requires Inv-loop μ-loop
-write-u64-requires c κs = search needs
-
-add-i : tie.Need-add-i Inv-loop μ-loop
-add-i c = search needs
-
-loop-less : tie.Need-loop-less Inv-loop μ-loop
-loop-less c = search needs
-
 loop-again : tie.Need-loop-again Inv-loop μ-loop
-loop-again c = put-more (c .before .before .before .before .before .loop .inv) (search needs) (c .before .before .write-u64 .ensures)
-
-same-length : tie.Need-same-length Inv-loop μ-loop
-same-length c = search needs
+loop-again c =
+    let at : tie.At-loop Inv-loop μ-loop = search in
+    put-more (at .loop .inv) (search needs) (c .before .before .write-u64 .ensures)
 
 returns : tie.Need-returns Inv-loop μ-loop
 returns c = put-all (c .before .loop .inv) (search needs)
@@ -47,12 +28,12 @@ write-words-spec =
     Inv-loop
     μ-loop
     loop-holds
-    mul-write-u64
-    mul-write-u64-2
-    array-read-write-u64
-    write-u64-requires
-    add-i
-    loop-less
+    (λ c. search needs)
+    (λ c. search needs)
+    (λ c. search needs)
+    (λ c κs. search needs)
+    (λ c. search needs)
+    (λ c. search needs)
     loop-again
-    same-length
+    (λ c. search needs)
     returns)

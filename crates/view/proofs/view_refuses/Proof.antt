@@ -1,4 +1,3 @@
-use Rattle.rules.proofs.Tests.{never}
 use Rattle.view.proofs.Views.{asked-role, asked-52}
 use mathlib.Core.Path.{sym, _∙_}
 use borrow.Author.Tests.{not-true, not-false}

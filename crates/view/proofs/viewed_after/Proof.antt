@@ -1,5 +1,5 @@
 use Rattle.view.proofs.Views.{role-is, shown, view-without, view-refused, view-short, view-done}
-use mathlib.Core.Path.{refl, sym, ap, _∙_}
+use mathlib.Core.Path.{sym, _∙_}
 use mathlib.Core.List.{[]}
 use native.Mathlib.Omega.{arith}
 use borrow.Author.Tests.{leb-true, leb-false, not-true, not-false}

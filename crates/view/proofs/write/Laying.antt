@@ -18,7 +18,7 @@ use Rattle.rules.specs.declared.Checkpoint.{Checkpoint}
 use Rattle.rules.specs.declared.Held.{Held}
 use Rattle.rules.specs.Values.{lsnOf}
 use Rattle.rules.specs.File.{over, decodeCheckpoint, decodeHeld, encodeHint}
-use Rattle.rules_view.specs.View.{Seen, Backing, HeldLength, seenFrom, backingsOf, lengthsOf, encodeSeen, encodeBacking, encodeHeldLength, encodeMark}
+use Rattle.rules_view.specs.View.{seenFrom, backingsOf, lengthsOf, encodeSeen, encodeBacking, encodeHeldLength, encodeMark}
 use Rattle.tables.specs.Tables.{checkpointsIn, partsIn, decodeKept, keptIn}
 use Rattle.laws.proofs.Layouts.{hint-layout}
 use Rattle.laws.proofs.Length.{length-each}

@@ -8,12 +8,9 @@ returns : tie.Need-returns
 unfolding endFrom
 returns c = simp (eq-eqb _ 0 (c .if1 .taken))
 
-cast-t6 : tie.Need-cast-t6
-cast-t6 c = search needs
-
 returns-2 : tie.Need-returns-2
 unfolding endFrom
 returns-2 c = simp (ne-eqb _ 0 (c .if1 .left))
 
 pub end-from-spec : {M : Type 1} → statement M
-end-from-spec = tie.close (tie.spec returns cast-t6 returns-2)
+end-from-spec = tie.close (tie.spec returns (λ c. search needs) returns-2)

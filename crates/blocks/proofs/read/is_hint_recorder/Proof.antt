@@ -1,7 +1,3 @@
-use mathlib.Core.Path.{ap, _∙_}
-use Rattle.rules.specs.declared.HintRecorder.{HintRecorder}
-use Rattle.blocks.specs.Head.{hintRecorderWords}
-use Rattle.blocks.specs.IsHead.{withFree}
 use Rattle.blocks.proofs.Words.{no-block, some-block}
 use borrow.Author.Needs.{needs}
 use Rattle.blocks.proofs.read.is_hint_recorder.Statement.{statement}

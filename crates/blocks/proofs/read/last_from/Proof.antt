@@ -8,12 +8,9 @@ returns : tie.Need-returns
 unfolding lastFrom
 returns c = simp (eq-eqb _ 0 (c .if1 .taken))
 
-cast-t5 : tie.Need-cast-t5
-cast-t5 c = search needs
-
 returns-2 : tie.Need-returns-2
 unfolding lastFrom
 returns-2 c = simp (ne-eqb _ 0 (c .if1 .left))
 
 pub last-from-spec : {M : Type 1} → statement M
-last-from-spec = tie.close (tie.spec returns cast-t5 returns-2)
+last-from-spec = tie.close (tie.spec returns (λ c. search needs) returns-2)

@@ -2,7 +2,7 @@ use Rattle.tables.specs.Tables.{checkpointsIn}
 use Rattle.rules_view.specs.View.{backingsOf, encodeBacking}
 use Rattle.view.proofs.Layouts.{behind-layout}
 use Rattle.view.proofs.write.Laying.{Laid, laid-none, laid-more, laid-all, behind-are, behind-more}
-use Prim.Native.Nat.{ℕ, _-_, _≤_}
+use Prim.Native.Nat.{_-_, _≤_}
 use mathlib.Core.Path.{refl}
 use native.Mathlib.Omega.{arith}
 use Rattle.field.specs.Records.{records}

@@ -3,7 +3,7 @@ use Rattle.rules.specs.File.{encodeHint}
 use Rattle.field.proofs.Records.{records-length, records-more}
 use Rattle.laws.proofs.Layouts.{hint-layout}
 use Rattle.view.proofs.write.Laying.{Laid, laid-none, laid-more, laid-all}
-use Prim.Native.Nat.{ℕ, _-_, _≤_}
+use Prim.Native.Nat.{_-_, _≤_}
 use mathlib.Core.Path.{refl}
 use native.Mathlib.Omega.{arith}
 use Rattle.field.specs.Records.{records}

@@ -2,7 +2,7 @@ use Rattle.tables.specs.Tables.{partsIn}
 use Rattle.rules_view.specs.View.{lengthsOf, encodeHeldLength}
 use Rattle.view.proofs.Layouts.{length-layout}
 use Rattle.view.proofs.write.Laying.{Laid, laid-none, laid-more, laid-all, lengths-are, lengths-more, length-put}
-use Prim.Native.Nat.{ℕ, _-_, _≤_}
+use Prim.Native.Nat.{_-_, _≤_}
 use mathlib.Core.Path.{refl}
 use native.Mathlib.Omega.{arith}
 use Rattle.field.specs.Records.{records}

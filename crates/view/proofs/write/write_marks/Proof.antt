@@ -3,7 +3,7 @@ use Rattle.rules_view.specs.View.{encodeMark}
 use Rattle.field.proofs.Records.{records-length}
 use Rattle.view.proofs.Layouts.{mark-length}
 use Rattle.view.proofs.write.Laying.{Laid, laid-none, laid-all, marks-more}
-use Prim.Native.Nat.{ℕ, _-_, _≤_}
+use Prim.Native.Nat.{_-_, _≤_}
 use native.Mathlib.Omega.{arith}
 use Rattle.field.specs.Records.{records}
 use borrow.Author.Needs.{needs}

@@ -2,7 +2,7 @@ use Rattle.tables.specs.Tables.{checkpointsIn}
 use Rattle.rules_view.specs.View.{seenFrom, encodeSeen}
 use Rattle.view.proofs.Layouts.{seen-layout}
 use Rattle.view.proofs.write.Laying.{Laid, laid-none, laid-more, laid-all, seen-are, seen-more, seen-put}
-use Prim.Native.Nat.{ℕ, _-_, _≤_}
+use Prim.Native.Nat.{_-_, _≤_}
 use mathlib.Core.Path.{refl}
 use native.Mathlib.Omega.{arith}
 use Rattle.field.specs.Records.{records}
