@@ -145,7 +145,10 @@ fn ask_file(
     confirmed: &[u8],
 ) -> File
     requires { ⌜ from ≤ length (now files) ⌝ }
-    ensures { λ r. ⌜ FileAsked area (now (files .entry)) from len limit (tables (now (checkpoints .entry)) (now (frames .entry)) (now (store .entry)) (now (parts .entry)) (now (malformed .entry)) (now (hints .entry)) (now (confirmed .entry))) r ⌝ }
+    ensures { λ r. ⌜ FileAsked area (now (files .entry)) from len limit
+        (tables (now (checkpoints .entry)) (now (frames .entry)) (now (store .entry)) (now (parts .entry))
+        (now (malformed .entry)) (now (hints .entry)) (now (confirmed .entry)))
+        r ⌝ }
 {
     let left = files.len() - from;
     if (left as u64) < len {
@@ -191,7 +194,10 @@ fn ask_files(
     confirmed: &[u8],
 ) -> Asked
     requires { ⌜ Few (now lengths) ⌝ }
-    ensures { λ r. ⌜ FilesAsked area (lengthsIn (now (lengths .entry))) (now (files .entry)) limit (tables (now (checkpoints .entry)) (now (frames .entry)) (now (store .entry)) (now (parts .entry)) (now (malformed .entry)) (now (hints .entry)) (now (confirmed .entry))) r ⌝ }
+    ensures { λ r. ⌜ FilesAsked area (lengthsIn (now (lengths .entry))) (now (files .entry)) limit
+        (tables (now (checkpoints .entry)) (now (frames .entry)) (now (store .entry)) (now (parts .entry))
+        (now (malformed .entry)) (now (hints .entry)) (now (confirmed .entry)))
+        r ⌝ }
 {
     let count = lengths.len() / 8;
     let mut asked = unasked_files();
@@ -295,7 +301,14 @@ pub fn ask(
     work_hints: &[u8],
     work_confirmed: &[u8],
 ) -> Asked
-    ensures { λ r. ⌜ SetAsked x (tables (now (checkpoints .entry)) (now (frames .entry)) (now (store .entry)) (now (parts .entry)) (now (malformed .entry)) (now (hints .entry)) (now (confirmed .entry))) (now (lengths .entry)) (now (files .entry)) limit (tables (now («work_checkpoints» .entry)) (now («work_frames» .entry)) (now («work_store» .entry)) (now («work_parts» .entry)) (now («work_malformed» .entry)) (now («work_hints» .entry)) (now («work_confirmed» .entry))) r ⌝ }
+    ensures { λ r. ⌜ SetAsked x
+        (tables (now (checkpoints .entry)) (now (frames .entry)) (now (store .entry)) (now (parts .entry))
+        (now (malformed .entry)) (now (hints .entry)) (now (confirmed .entry)))
+        (now (lengths .entry)) (now (files .entry)) limit
+        (tables (now («work_checkpoints» .entry)) (now («work_frames» .entry)) (now («work_store» .entry))
+        (now («work_parts» .entry)) (now («work_malformed» .entry)) (now («work_hints» .entry))
+        (now («work_confirmed» .entry)))
+        r ⌝ }
 {
     let number = refuses(
         x,

@@ -48,8 +48,19 @@ fn turn(
     work_hints: &mut [u8],
     work_confirmed: &mut [u8],
 ) -> AreaIndex
-    requires { ⌜ Turning area x (tables (now checkpoints) (now frames) (now store) (now parts) (now malformed) (now hints) (now confirmed)) e (now files) limit (tables (now «work_checkpoints») (now «work_frames») (now «work_store») (now «work_parts») (now «work_malformed») (now «work_hints») (now «work_confirmed»)) ⌝ }
-    ensures { λ r. ⌜ outIndex r (tables (now (checkpoints .exit)) (now (frames .exit)) (now (store .exit)) (now (parts .exit)) (now (malformed .exit)) (now (hints .exit)) (now (confirmed .exit))) ≡ turnIn x (tables (now (checkpoints .entry)) (now (frames .entry)) (now (store .entry)) (now (parts .entry)) (now (malformed .entry)) (now (hints .entry)) (now (confirmed .entry))) (listAt area (now (files .entry)) limit e) ⌝ }
+    requires { ⌜ Turning area x
+        (tables (now checkpoints) (now frames) (now store) (now parts) (now malformed) (now hints)
+        (now confirmed))
+        e (now files) limit
+        (tables (now «work_checkpoints») (now «work_frames») (now «work_store») (now «work_parts»)
+        (now «work_malformed») (now «work_hints») (now «work_confirmed»)) ⌝ }
+    ensures { λ r. ⌜ outIndex r
+        (tables (now (checkpoints .exit)) (now (frames .exit)) (now (store .exit)) (now (parts .exit))
+        (now (malformed .exit)) (now (hints .exit)) (now (confirmed .exit)))
+        ≡ turnIn x
+        (tables (now (checkpoints .entry)) (now (frames .entry)) (now (store .entry)) (now (parts .entry))
+        (now (malformed .entry)) (now (hints .entry)) (now (confirmed .entry)))
+        (listAt area (now (files .entry)) limit e) ⌝ }
 {
     let from = e.from;
     let to = from + e.len;
@@ -112,8 +123,19 @@ fn turns(
     work_hints: &mut [u8],
     work_confirmed: &mut [u8],
 ) -> AreaIndex
-    requires { ⌜ Turns area x (tables (now checkpoints) (now frames) (now store) (now parts) (now malformed) (now hints) (now confirmed)) asked (now files) limit (tables (now «work_checkpoints») (now «work_frames») (now «work_store») (now «work_parts») (now «work_malformed») (now «work_hints») (now «work_confirmed»)) ⌝ }
-    ensures { λ r. ⌜ outIndex r (tables (now (checkpoints .exit)) (now (frames .exit)) (now (store .exit)) (now (parts .exit)) (now (malformed .exit)) (now (hints .exit)) (now (confirmed .exit))) ≡ turnsIn x (tables (now (checkpoints .entry)) (now (frames .entry)) (now (store .entry)) (now (parts .entry)) (now (malformed .entry)) (now (hints .entry)) (now (confirmed .entry))) (listsAt area (now (files .entry)) limit asked) ⌝ }
+    requires { ⌜ Turns area x
+        (tables (now checkpoints) (now frames) (now store) (now parts) (now malformed) (now hints)
+        (now confirmed))
+        asked (now files) limit
+        (tables (now «work_checkpoints») (now «work_frames») (now «work_store») (now «work_parts»)
+        (now «work_malformed») (now «work_hints») (now «work_confirmed»)) ⌝ }
+    ensures { λ r. ⌜ outIndex r
+        (tables (now (checkpoints .exit)) (now (frames .exit)) (now (store .exit)) (now (parts .exit))
+        (now (malformed .exit)) (now (hints .exit)) (now (confirmed .exit)))
+        ≡ turnsIn x
+        (tables (now (checkpoints .entry)) (now (frames .entry)) (now (store .entry)) (now (parts .entry))
+        (now (malformed .entry)) (now (hints .entry)) (now (confirmed .entry)))
+        (listsAt area (now (files .entry)) limit asked) ⌝ }
 {
     let count = asked.count;
     let mut y = x;
@@ -167,7 +189,16 @@ pub fn merge_all(
     work_hints: &mut [u8],
     work_confirmed: &mut [u8],
 ) -> Made
-    ensures { λ r. ⌜ out r (tables (now (checkpoints .exit)) (now (frames .exit)) (now (store .exit)) (now (parts .exit)) (now (malformed .exit)) (now (hints .exit)) (now (confirmed .exit))) ≡ mergeAllIn x (tables (now (checkpoints .entry)) (now (frames .entry)) (now (store .entry)) (now (parts .entry)) (now (malformed .entry)) (now (hints .entry)) (now (confirmed .entry))) (now (lengths .entry)) (now (files .entry)) limit (tables (now («work_checkpoints» .entry)) (now («work_frames» .entry)) (now («work_store» .entry)) (now («work_parts» .entry)) (now («work_malformed» .entry)) (now («work_hints» .entry)) (now («work_confirmed» .entry))) ⌝ }
+    ensures { λ r. ⌜ out r
+        (tables (now (checkpoints .exit)) (now (frames .exit)) (now (store .exit)) (now (parts .exit))
+        (now (malformed .exit)) (now (hints .exit)) (now (confirmed .exit)))
+        ≡ mergeAllIn x
+        (tables (now (checkpoints .entry)) (now (frames .entry)) (now (store .entry)) (now (parts .entry))
+        (now (malformed .entry)) (now (hints .entry)) (now (confirmed .entry)))
+        (now (lengths .entry)) (now (files .entry)) limit
+        (tables (now («work_checkpoints» .entry)) (now («work_frames» .entry)) (now («work_store» .entry))
+        (now («work_parts» .entry)) (now («work_malformed» .entry)) (now («work_hints» .entry))
+        (now («work_confirmed» .entry))) ⌝ }
 {
     let asked = ask(
         x,
