@@ -18,23 +18,22 @@ use Rattle.rules.specs.declared.Fingerprint.the-variants as fingerprint
 use Rattle.rules.specs.Tests.{Answer, Refused, Accepted, after, ask, firstNo}
 use Rattle.rules.specs.Values.{Index, max64, stated}
 use Rattle.rules.specs.Sizes.{knownSized}
-use Rattle.rules.specs.Questions.{question1, question2, question3, question4, four}
+use Rattle.rules.specs.Questions.{question1, question2, question4, four}
 use Rattle.rules.proofs.Tests.{and-left, and-right, asks, →after, →bind}
 use Rattle.rules.proofs.AreaIndex.{the-row}
 use Rattle.rules.proofs.Fingerprint as print
-use Rattle.laws.specs.Statements.{Savable}
-use Rattle.index.specs.Index.{Tables, roomOf, roomIn, indexIn, kindsIn, numbersFrom, refusal, out, outOf}
+use Rattle.index.specs.Index.{Tables, roomOf, roomIn, indexIn, kindsIn, refusal, out, outOf}
 use Rattle.index.specs.declared.Made.the-variants as made
 use Rattle.index.specs.Needs.{Passes, heldQuestion4}
 use Rattle.index.specs.Lent.{Typed, TableBytes}
 use Rattle.index.proofs.Questions.{passes, passes-long}
 use Rattle.index.proofs.Lent.{passes-savable}
 use Rattle.merge.specs.Needs.{outIndex}
-use Rattle.rules_drawer.specs.Drawer.{maxFiles, lengthsIn, question44, loadFiles, pairsNumber, mergeEach, mergeLists, mergeAll}
+use Rattle.rules_drawer.specs.Drawer.{lengthsIn, question44, pairsNumber, mergeEach, mergeLists, mergeAll}
 use Rattle.rules_drawer.proofs.Files.{refused-bind, refused-after}
 use Rattle.drawer.specs.declared.ask.Asked.{Asked}
 use Rattle.drawer.specs.Ask.{unasked, refusedBy, numbered, sizeOk, Few, listsAt, Loads, FilesAsked, Joinable, joinPairs, Admitted, SetAsked}
-use Rattle.drawer.specs.Drawer.{mergedTables, listsOf, mergeAllIn}
+use Rattle.drawer.specs.Drawer.{listsOf, mergeAllIn}
 use Rattle.drawer.specs.Turns.{Turns, turnsIn}
 use Rattle.drawer.proofs.Asking.{lengths-count}
 use Rattle.drawer.proofs.Pairing.{pairs-are, joinable}

@@ -28,7 +28,7 @@ use Rattle.drawer.specs.declared.ask.Entry.{Entry}
 use Rattle.drawer.specs.declared.ask.File.{File}
 use Rattle.drawer.specs.declared.ask.File.the-variants as file
 use Rattle.drawer.specs.declared.ask.Asked.{Asked}
-use Rattle.drawer.specs.Ask.{noFile, unasked, refusedBy, bytesAt, listAt, listsAt, Holds, HoldsAt, FileAsked, Held, Loads, FilesAsked}
+use Rattle.drawer.specs.Ask.{noFile, unasked, refusedBy, bytesAt, listAt, Holds, HoldsAt, FileAsked, Loads, FilesAsked}
 
 -- ---- one file
 abbrev entryOf : ℕ → ℕ → Found → AreaIndex → Entry

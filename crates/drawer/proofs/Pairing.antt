@@ -1,22 +1,19 @@
 -- The pairs of a set, asked of the files' own bytes. Assumes nothing.
-use Prim.Native.Nat.{ℕ, zero, suc, _+_, _*_, _<_, _≤_}
+use Prim.Native.Nat.{ℕ, suc, _+_, _*_, _<_, _≤_}
 use mathlib.Core.Path.{_≡_, refl, sym, ap, ap₂, _∙_, subst}
-use mathlib.Core.Bool.{true}
 use mathlib.Core.Logic.{_≢_}
 use mathlib.Core.List.{List, [], _∷_, _++_, map}
 use native.Mathlib.Omega.{arith}
-use lib.ListN.{length, take, drop, getD, length-take, length-drop, drop-of-length-le, take-append-drop}
+use lib.ListN.{length, drop, getD, length-take, length-drop, drop-of-length-le, take-append-drop}
 use lib.Seq.{drop-cons, drop-drop, getD-take, length-take-le}
 use Rattle.field.specs.Records.{Bytes, records}
 use Rattle.field.proofs.Bytes.{bytes-take, bytes-drop}
 use Rattle.field.proofs.Format.{Each, none as nothing, one}
 use Rattle.rules.specs.declared.Area.{Area}
 use Rattle.rules.specs.declared.AreaIndex.{AreaIndex}
-use Rattle.rules.specs.Values.{Index}
 use Rattle.rules.specs.File.{decodeCheckpoint}
 use Rattle.rules.specs.Load.{limited}
-use Rattle.index.specs.Index.{Tables, indexIn, numbersFrom}
-use Rattle.inspect.specs.Inspect.{foundIn}
+use Rattle.index.specs.Index.{Tables, indexIn}
 use Rattle.load.specs.Limit.{listIn}
 use Rattle.load.proofs.Filling.{ready-inside}
 use Rattle.merge.specs.QuestionsNeeds.{joinNumber}

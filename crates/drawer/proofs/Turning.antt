@@ -1,7 +1,7 @@
 -- The lists of a set, merged one after the other. Assumes nothing.
 use Prim.Native.Nat.{ℕ, _+_, _-_, _<_, _≤_}
 use mathlib.Core.Path.{_≡_, refl, sym, ap, _∙_, subst}
-use mathlib.Core.Bool.{Bool, true, _&&_}
+use mathlib.Core.Bool.{true}
 use mathlib.Core.List.{List, [], _∷_, map}
 use native.Mathlib.Omega.{arith}
 use lib.ListN.{length, take, drop, getD}
@@ -9,11 +9,11 @@ use Rattle.field.specs.Records.{Bytes}
 use Rattle.field.proofs.Bytes.{bytes-take, bytes-drop}
 use Rattle.rules.specs.declared.Area.{Area}
 use Rattle.rules.specs.declared.AreaIndex.{AreaIndex}
-use Rattle.rules.specs.Tests.{Accepted, after}
+use Rattle.rules.specs.Tests.{after}
 use Rattle.rules.specs.Values.{Index, Lengths}
 use Rattle.rules.specs.Questions.{question1, question3}
 use Rattle.rules.specs.Load.{limited}
-use Rattle.rules.specs.Merge.{question41, question42, question43, merged, mergeNumber, merge}
+use Rattle.rules.specs.Merge.{merged, mergeNumber, merge}
 use Rattle.rules.proofs.Tests.{asked, asks, both}
 use Rattle.laws.specs.Statements.{Savable}
 use Rattle.laws.proofs.Facts.{facts}
@@ -28,11 +28,11 @@ use Rattle.load.specs.Limit.{listIn, limitedIn}
 use Rattle.load.specs.Steps.{Ready}
 use Rattle.merge.specs.Merge.{hintsWritten, mergeIn}
 use Rattle.merge.specs.Needs.{outIndex}
-use Rattle.rules_drawer.specs.Drawer.{maxFiles, pairNumber, pairsWith, pairsNumber, mergeEach}
+use Rattle.rules_drawer.specs.Drawer.{pairNumber, pairsWith, pairsNumber, mergeEach}
 use Rattle.rules_drawer.proofs.Pairs.{first-of→, →first-of, mergeable→}
 use Rattle.drawer.specs.declared.ask.Entry.{Entry}
 use Rattle.drawer.specs.declared.ask.Asked.{Asked}
-use Rattle.drawer.specs.Ask.{noFile, entriesIn, bytesAt, listAt, listsAt, Holds, Held}
+use Rattle.drawer.specs.Ask.{noFile, entriesIn, bytesAt, listAt, listsAt, Holds}
 use Rattle.drawer.specs.Drawer.{mergedTables}
 use Rattle.drawer.specs.Turns.{numbersAfter, Turning, turnIn, Turns, turnsIn}
 use Rattle.drawer.proofs.Passing.{merged-one, merged-two, merged-three, merged-four, merged-fits, limited-two, limited-four, limited-fits}

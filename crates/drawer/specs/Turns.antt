@@ -2,7 +2,7 @@
 use Prim.Native.Nat.{ℕ}
 use mathlib.Core.Path.{_≡_}
 use mathlib.Core.Bool.{true}
-use mathlib.Core.List.{List, _∷_, []}
+use mathlib.Core.List.{List, _∷_}
 use Rattle.rules.specs.declared.Area.{Area}
 use Rattle.rules.specs.declared.AreaIndex.{AreaIndex}
 use Rattle.rules.specs.Values.{Index}

@@ -3,12 +3,6 @@ use borrow.Author.Needs.{needs}
 use Rattle.drawer.proofs.numbers_after.Statement.{statement}
 use Rattle.drawer.proofs.numbers_after.Tie as tie
 
-enum-known-made : tie.Need-enum-known-made
-enum-known-made c = search needs
-
-enum-known-made-2 : tie.Need-enum-known-made-2
-enum-known-made-2 c = search needs
-
 returns : tie.Need-returns
 unfolding numbersAfter
 returns c = rw (c .before .made .given .1)
@@ -18,4 +12,4 @@ unfolding numbersAfter
 returns-2 c = rw (c .before .made2 .given .1)
 
 pub numbers-after-spec : {M : Type 1} → statement M
-numbers-after-spec = tie.close (tie.spec enum-known-made enum-known-made-2 returns returns-2)
+numbers-after-spec = tie.close (tie.spec (λ c. search needs) (λ c. search needs) returns returns-2)

@@ -1,8 +1,8 @@
 use mathlib.Core.Path.{refl}
 use native.Mathlib.Omega.{arith}
+use Rattle.field.specs.Records.{Bytes}
 use Rattle.index.specs.Index.{Tables, tables}
 use Rattle.drawer.proofs.Turning.{commits, turned}
-use borrow.Author.Needs.{needs}
 use Rattle.drawer.proofs.turn.Statement.{statement}
 use Rattle.drawer.proofs.turn.Tie as tie
 
@@ -15,93 +15,87 @@ lent s =
 abbrev work : tie.Start → Tables
 work s =
     let a = s .args in
-    tables (a .work-checkpoints .now) (a .work-frames .now) (a .work-store .now) (a .work-parts .now) (a .work-malformed .now) (a .work-hints .now) (a .work-confirmed .now)
+    tables (a .work-checkpoints .now) (a .work-frames .now) (a .work-store .now) (a .work-parts .now) (a .work-malformed .now)
+    (a .work-hints .now) (a .work-confirmed .now)
 
-add-to : tie.Need-add-to
-add-to c = omega (arith, c .before .before .before .before .before .before .before .before .before .before .before .before .before .before .before .before .pre .holds .inside, c .before .before .before .before .before .before .before .before .before .before .before .before .before .before .before .before .good .1 .1 .1 .0)
+-- the lending, the load, the merge
+abbrev begin : tie.After-slice-known14 → tie.Start
+begin p = search
 
-sub-commit : tie.Need-sub-commit
-sub-commit c = omega arith
+abbrev lent-before : tie.After-commit → tie.After-slice-known14
+lent-before p = search
 
-part-commit-start : tie.Need-part-commit-start
-part-commit-start c = omega arith
+abbrev loaded : tie.After-merge → tie.After-commit
+loaded p = search
 
-part-commit-end : tie.Need-part-commit-end
-part-commit-end c = c .before .before .before .before .before .before .before .before .before .before .before .before .before .before .before .before .before .before .pre .holds .inside
+-- the working tables, as the load left them
+abbrev read-before : tie.After-merge → tie.After-slice-known21
+read-before p = search
+
+abbrev checkpoints-lent : tie.After-slice-known21 → tie.After-work-checkpoints
+checkpoints-lent p = search
+
+abbrev frames-lent : tie.After-slice-known21 → tie.After-work-frames
+frames-lent p = search
+
+abbrev store-lent : tie.After-slice-known21 → tie.After-work-store
+store-lent p = search
+
+abbrev parts-lent : tie.After-slice-known21 → tie.After-work-parts
+parts-lent p = search
+
+abbrev malformed-lent : tie.After-slice-known21 → tie.After-work-malformed
+malformed-lent p = search
+
+abbrev hints-lent : tie.After-slice-known21 → tie.After-work-hints
+hints-lent p = search
+
+abbrev confirmed-lent : tie.After-slice-known21 → tie.After-work-confirmed
+confirmed-lent p = search
+
+-- the bytes of the files
+buffer : (p : tie.After-slice-known14) → Bytes (begin p .args .files .now)
+buffer p = let b : tie.After-shared-slice-known = search in λ i. b .shared-slice-known .given i .fits
 
 commit-requires : tie.Need-commit-requires
-commit-requires c κs = commits (c .before .before .before .before .before .before .before .before .before .before .before .before .before .before .before .before .before .before .before .before .before .before .before .before .before .before .args .area) _ _ _ (c .before .before .before .before .before .before .before .before .before .before .before .before .before .before .before .before .before .before .before .before .before .before .before .before .before .before .args .e) refl (c .before .before .before .before .before .before .before .before .before .before .before .before .before .before .before .before .before .before .before .before .before .before .before .before .before .before .pre .holds)
-
-same-length : tie.Need-same-length
-same-length c = c .before .before .before .before .before .before .before .before .before .before .before .before .before .before .checkpoints .given
-
-same-length-2 : tie.Need-same-length-2
-same-length-2 c = c .before .before .before .before .before .before .before .before .before .before .before .before .frames .given
-
-same-length-3 : tie.Need-same-length-3
-same-length-3 c = c .before .before .before .before .before .before .before .before .before .before .store .given
-
-same-length-4 : tie.Need-same-length-4
-same-length-4 c = c .before .before .before .before .before .before .before .before .parts .given
-
-same-length-5 : tie.Need-same-length-5
-same-length-5 c = c .before .before .before .before .before .before .malformed .given
-
-same-length-6 : tie.Need-same-length-6
-same-length-6 c = c .before .before .before .before .hints .given
-
-same-length-7 : tie.Need-same-length-7
-same-length-7 c = c .before .before .confirmed .given
-
-same-length-8 : tie.Need-same-length-8
-same-length-8 c = c .before .before .before .before .before .before .before .before .before .before .before .before .before .before .before .before .before .before .before .before .before .before .before .before .before .before .before .before .before .before .before .before .before .before .before .before .before .before .before .before .before .before .before .work-checkpoints .given
-
-same-length-9 : tie.Need-same-length-9
-same-length-9 c = c .before .before .before .before .before .before .before .before .before .before .before .before .before .before .before .before .before .before .before .before .before .before .before .before .before .before .before .before .before .before .before .before .before .before .before .before .before .before .before .before .before .work-frames .given
-
-same-length-10 : tie.Need-same-length-10
-same-length-10 c = c .before .before .before .before .before .before .before .before .before .before .before .before .before .before .before .before .before .before .before .before .before .before .before .before .before .before .before .before .before .before .before .before .before .before .before .before .before .before .before .work-store .given
-
-same-length-11 : tie.Need-same-length-11
-same-length-11 c = c .before .before .before .before .before .before .before .before .before .before .before .before .before .before .before .before .before .before .before .before .before .before .before .before .before .before .before .before .before .before .before .before .before .before .before .before .before .work-parts .given
-
-same-length-12 : tie.Need-same-length-12
-same-length-12 c = c .before .before .before .before .before .before .before .before .before .before .before .before .before .before .before .before .before .before .before .before .before .before .before .before .before .before .before .before .before .before .before .before .before .before .before .work-malformed .given
-
-same-length-13 : tie.Need-same-length-13
-same-length-13 c = c .before .before .before .before .before .before .before .before .before .before .before .before .before .before .before .before .before .before .before .before .before .before .before .before .before .before .before .before .before .before .before .before .before .work-hints .given
-
-same-length-14 : tie.Need-same-length-14
-same-length-14 c = c .before .before .before .before .before .before .before .before .before .before .before .before .before .before .before .before .before .before .before .before .before .before .before .before .before .before .before .before .before .before .before .work-confirmed .given
+commit-requires c κs =
+    let given : tie.After-slice-known14 = search in
+    let s = begin given in
+    commits (s .args .area) _ _ _ (s .args .e) refl (s .pre .holds)
 
 returns : tie.Need-returns
 returns c =
-    turned (c .before .before .before .before .before .before .before .before .before .before .before .before .before .before .before .before .before .before .before .before .before .before .before .before .before .before .before .before .before .before .before .before .before .before .before .before .before .before .before .before .before .before .before .before .before .before .before .before .before .before .before .before .before .before .before .before .before .before .before .before .before .before .before .before .before .before .before .before .before .before .before .args .area) (c .before .before .before .before .before .before .before .before .before .before .before .before .before .before .before .before .before .before .before .before .before .before .before .before .before .before .before .before .before .before .before .before .before .before .before .before .before .before .before .before .before .before .before .before .before .before .before .before .before .before .before .before .before .before .before .before .before .before .before .before .before .before .before .before .before .before .before .before .before .before .before .args .files .now) _ (λ i. c .before .before .before .before .before .before .before .before .before .before .before .before .before .before .before .before .before .before .before .before .before .before .before .before .before .before .before .before .before .before .before .before .before .before .before .before .before .before .before .before .before .before .before .before .before .before .before .before .before .before .before .before .before .before .before .before .before .before .before .before .before .before .before .before .before .before .before .before .before .before .shared-slice-known .given i .fits) (c .before .before .before .before .before .before .before .before .before .before .before .before .before .before .before .before .before .before .before .before .before .before .before .before .before .before .before .before .before .before .before .before .before .before .before .before .before .before .before .before .before .before .before .before .before .before .before .before .before .before .before .before .before .before .before .before .before .before .before .before .before .before .before .before .before .before .before .before .before .before .before .args .x) (lent (c .before .before .before .before .before .before .before .before .before .before .before .before .before .before .before .before .before .before .before .before .before .before .before .before .before .before .before .before .before .before .before .before .before .before .before .before .before .before .before .before .before .before .before .before .before .before .before .before .before .before .before .before .before .before .before .before .before .before .before .before .before .before .before .before .before .before .before .before .before .before .before)) (c .before .before .before .before .before .before .before .before .before .before .before .before .before .before .before .before .before .before .before .before .before .before .before .before .before .before .before .before .before .before .before .before .before .before .before .before .before .before .before .before .before .before .before .before .before .before .before .before .before .before .before .before .before .before .before .before .before .before .before .before .before .before .before .before .before .before .before .before .before .before .before .args .e) (work (c .before .before .before .before .before .before .before .before .before .before .before .before .before .before .before .before .before .before .before .before .before .before .before .before .before .before .before .before .before .before .before .before .before .before .before .before .before .before .before .before .before .before .before .before .before .before .before .before .before .before .before .before .before .before .before .before .before .before .before .before .before .before .before .before .before .before .before .before .before .before .before)) (c .before .before .before .before .before .before .before .before .before .before .before .before .before .before .before .before .before .before .before .before .before .before .before .before .before .before .before .before .before .before .before .before .before .before .before .before .before .before .before .before .before .before .before .before .before .before .before .before .before .before .before .before .before .before .before .before .before .before .before .before .before .before .before .before .before .before .before .before .before .before .before .pre)
-    (c .numbers-after .ensures) refl (c .before .before .before .before .before .before .before .before .before .before .before .before .before .before .before .before .before .before .before .before .before .before .before .before .before .before .before .before .before .before .before .before .before .before .before .before .before .before .before .before .before .before .before .before .commit .ensures) (c .before .before .before .before .before .before .before .before .before .before .before .before .before .before .before .merge .ensures)
+    let merged : tie.After-merge = search in
+    let commit = loaded merged in
+    let given = lent-before commit in
+    let s = begin given in
+    let a = s .args in
+    turned (a .area) (a .files .now) _ (buffer given) (a .x) (lent s) (a .e) (work s) (s .pre) (c .numbers-after .ensures) refl
+    (commit .commit .ensures) (merged .merge .ensures)
 
 pub turn-spec : {M : Type 1} → statement M
 turn-spec =
     tie.close
     (tie.spec
-    add-to
-    sub-commit
-    part-commit-start
-    part-commit-end
+    (λ c. let s : tie.Start = search in omega (arith, s .pre .holds .inside, s .good .1 .1 .1 .0))
+    (λ c. omega arith)
+    (λ c. omega arith)
+    (λ c. let s : tie.Start = search in s .pre .holds .inside)
     commit-requires
     (λ c κs. tt)
     (λ c κs. tt)
-    same-length
-    same-length-2
-    same-length-3
-    same-length-4
-    same-length-5
-    same-length-6
-    same-length-7
-    same-length-8
-    same-length-9
-    same-length-10
-    same-length-11
-    same-length-12
-    same-length-13
-    same-length-14
+    (λ c. let lent : tie.After-checkpoints = search in lent .checkpoints .given)
+    (λ c. let lent : tie.After-frames = search in lent .frames .given)
+    (λ c. let lent : tie.After-store = search in lent .store .given)
+    (λ c. let lent : tie.After-parts = search in lent .parts .given)
+    (λ c. let lent : tie.After-malformed = search in lent .malformed .given)
+    (λ c. let lent : tie.After-hints = search in lent .hints .given)
+    (λ c. let lent : tie.After-confirmed = search in lent .confirmed .given)
+    (λ c. let merged : tie.After-merge = search in checkpoints-lent (read-before merged) .work-checkpoints .given)
+    (λ c. let merged : tie.After-merge = search in frames-lent (read-before merged) .work-frames .given)
+    (λ c. let merged : tie.After-merge = search in store-lent (read-before merged) .work-store .given)
+    (λ c. let merged : tie.After-merge = search in parts-lent (read-before merged) .work-parts .given)
+    (λ c. let merged : tie.After-merge = search in malformed-lent (read-before merged) .work-malformed .given)
+    (λ c. let merged : tie.After-merge = search in hints-lent (read-before merged) .work-hints .given)
+    (λ c. let merged : tie.After-merge = search in confirmed-lent (read-before merged) .work-confirmed .given)
     returns)

@@ -1,4 +1,5 @@
 use borrow.Author.Tests.{not-true, not-false}
+use Rattle.field.specs.Records.{Bytes}
 use Rattle.index.specs.Index.{Tables, tables}
 use Rattle.index.specs.Lent.{TableBytes}
 use Rattle.drawer.proofs.Answers.{typed, own-refused, size-refused, few-files, file-refuses, pairs-ready, pairs-decide}
@@ -14,39 +15,113 @@ lent s =
 abbrev work : tie.Start → Tables
 work s =
     let a = s .args in
-    tables (a .work-checkpoints .now) (a .work-frames .now) (a .work-store .now) (a .work-parts .now) (a .work-malformed .now) (a .work-hints .now) (a .work-confirmed .now)
+    tables (a .work-checkpoints .now) (a .work-frames .now) (a .work-store .now) (a .work-parts .now) (a .work-malformed .now)
+    (a .work-hints .now) (a .work-confirmed .now)
+
+-- the lending, the own list's questions, that none refuses, 44, that it does not
+abbrev begin : tie.After-refuses → tie.Start
+begin p = search
+
+abbrev own-asked : tie.Else1 → tie.After-refuses
+own-asked p = search
+
+abbrev own-passed : tie.After-question44 → tie.Else1
+own-passed p = search
+
+abbrev size-asked : tie.Else2 → tie.After-question44
+size-asked p = search
+
+-- the files, and that none refuses
+abbrev size-passed : tie.After-ask-files → tie.Else2
+size-passed p = search
+
+abbrev files-asked : tie.Else3 → tie.After-ask-files
+files-asked p = search
+
+-- what the types of lent things say: bytes, and numbers in range
+buffer : (p : tie.After-refuses) → Bytes (begin p .args .files .now)
+buffer p = let b : tie.After-shared-slice-known2 = search in λ i. b .shared-slice-known2 .given i .fits
+
+own-bytes : (p : tie.After-refuses) → TableBytes (lent (begin p))
+own-bytes p =
+    record {
+      checkpoints = let t : tie.After-shared-slice-known3 = search in λ i. t .shared-slice-known3 .given i .fits;
+      frames = let t : tie.After-shared-slice-known4 = search in λ i. t .shared-slice-known4 .given i .fits;
+      store = let t : tie.After-shared-slice-known5 = search in λ i. t .shared-slice-known5 .given i .fits;
+      parts = let t : tie.After-shared-slice-known6 = search in λ i. t .shared-slice-known6 .given i .fits;
+      malformed = let t : tie.After-shared-slice-known7 = search in λ i. t .shared-slice-known7 .given i .fits;
+      hints = let t : tie.After-shared-slice-known8 = search in λ i. t .shared-slice-known8 .given i .fits;
+      confirmed = let t : tie.After-shared-slice-known9 = search in λ i. t .shared-slice-known9 .given i .fits;
+    }
 
 returns : tie.Need-returns
 returns c =
-    own-refused (c .before .before .before .before .before .before .before .before .before .before .before .before .before .before .before .before .before .before .before .before .args .x) (lent (c .before .before .before .before .before .before .before .before .before .before .before .before .before .before .before .before .before .before .before .before)) (c .before .before .before .before .before .before .before .before .before .before .before .before .before .before .before .before .before .before .before .before .args .lengths .now) (c .before .before .before .before .before .before .before .before .before .before .before .before .before .before .before .before .before .before .before .before .args .files .now) (c .before .before .before .before .before .before .before .before .before .before .before .before .before .before .before .before .before .before .before .before .args .limit) (work (c .before .before .before .before .before .before .before .before .before .before .before .before .before .before .before .before .before .before .before .before)) (c .before .before .before .refuses .ensures) (c .before .before .if1 .taken)
-    (rw (c .before .unasked-files .ensures) at (c .refused .ensures))
+    let test : tie.Then1 = search in
+    let own : tie.After-refuses = search in
+    let s = begin own in
+    let none : tie.After-unasked-files = search in
+    own-refused (s .args .x) (lent s) (s .args .lengths .now) (s .args .files .now) (s .args .limit) (work s) (own .refuses .ensures)
+    (test .if1 .taken) (rw (none .unasked-files .ensures) at (c .refused .ensures))
 
 returns-2 : tie.Need-returns-2
 returns-2 c =
-    size-refused (c .before .before .before .before .before .before .before .before .before .before .before .before .before .before .before .before .before .before .before .before .before .before .args .x) (lent (c .before .before .before .before .before .before .before .before .before .before .before .before .before .before .before .before .before .before .before .before .before .before)) (c .before .before .before .before .before .before .before .before .before .before .before .before .before .before .before .before .before .before .before .before .before .before .args .lengths .now) (c .before .before .before .before .before .before .before .before .before .before .before .before .before .before .before .before .before .before .before .before .before .before .args .files .now) (c .before .before .before .before .before .before .before .before .before .before .before .before .before .before .before .before .before .before .before .before .before .before .args .limit) (work (c .before .before .before .before .before .before .before .before .before .before .before .before .before .before .before .before .before .before .before .before .before .before)) (c .before .before .before .before .before .refuses .ensures) (c .before .before .before .before .if1 .left)
-    (c .before .before .before .question44 .ensures) (not-true _ (c .before .before .if2 .taken)) (rw (c .before .unasked-files2 .ensures) at (c .refused2 .ensures))
+    let test : tie.Then2 = search in
+    let size : tie.After-question44 = search in
+    let passed = own-passed size in
+    let own = own-asked passed in
+    let s = begin own in
+    let none : tie.After-unasked-files2 = search in
+    size-refused (s .args .x) (lent s) (s .args .lengths .now) (s .args .files .now) (s .args .limit) (work s) (own .refuses .ensures)
+    (passed .if1 .left) (size .question44 .ensures) (not-true _ (test .if2 .taken))
+    (rw (none .unasked-files2 .ensures) at (c .refused2 .ensures))
 
 ask-files-requires : tie.Need-ask-files-requires
 ask-files-requires c κs =
-    few-files (c .before .before .before .before .before .before .before .before .before .before .before .before .before .before .before .before .before .before .before .before .before .args .x) (lent (c .before .before .before .before .before .before .before .before .before .before .before .before .before .before .before .before .before .before .before .before .before)) (c .before .before .before .before .before .before .before .before .before .before .before .before .before .before .before .before .before .before .before .before .before .args .lengths .now) (c .before .before .before .before .before .before .before .before .before .before .before .before .before .before .before .before .before .before .before .before .before .args .files .now) (c .before .before .before .before .before .before .before .before .before .before .before .before .before .before .before .before .before .before .before .before .before .args .limit) (work (c .before .before .before .before .before .before .before .before .before .before .before .before .before .before .before .before .before .before .before .before .before)) (c .before .before .before .before .refuses .ensures) (c .before .before .before .if1 .left)
-    (c .before .before .question44 .ensures) (not-false _ (c .before .if2 .left))
+    let few : tie.Else2 = search in
+    let size = size-asked few in
+    let passed = own-passed size in
+    let own = own-asked passed in
+    let s = begin own in
+    few-files (s .args .x) (lent s) (s .args .lengths .now) (s .args .files .now) (s .args .limit) (work s) (own .refuses .ensures)
+    (passed .if1 .left) (size .question44 .ensures) (not-false _ (few .if2 .left))
 
 returns-3 : tie.Need-returns-3
 returns-3 c =
-    file-refuses (c .before .before .before .before .before .before .before .before .before .before .before .before .before .before .before .before .before .before .before .before .before .before .before .before .args .x) (lent (c .before .before .before .before .before .before .before .before .before .before .before .before .before .before .before .before .before .before .before .before .before .before .before .before)) (c .before .before .before .before .before .before .before .before .before .before .before .before .before .before .before .before .before .before .before .before .before .before .before .before .args .lengths .now) (c .before .before .before .before .before .before .before .before .before .before .before .before .before .before .before .before .before .before .before .before .before .before .before .before .args .files .now) (c .before .before .before .before .before .before .before .before .before .before .before .before .before .before .before .before .before .before .before .before .before .before .before .before .args .limit) (work (c .before .before .before .before .before .before .before .before .before .before .before .before .before .before .before .before .before .before .before .before .before .before .before .before)) (c .before .before .before .before .before .before .before .refuses .ensures) (c .before .before .before .before .before .before .if1 .left)
-    (c .before .before .before .before .before .question44 .ensures) (not-false _ (c .before .before .before .before .if2 .left)) (c .before .before .ask-files .ensures) (not-true _ (c .if3 .taken))
+    let files : tie.After-ask-files = search in
+    let few = size-passed files in
+    let size = size-asked few in
+    let passed = own-passed size in
+    let own = own-asked passed in
+    let s = begin own in
+    file-refuses (s .args .x) (lent s) (s .args .lengths .now) (s .args .files .now) (s .args .limit) (work s) (own .refuses .ensures)
+    (passed .if1 .left) (size .question44 .ensures) (not-false _ (few .if2 .left)) (files .ask-files .ensures) (not-true _ (c .if3 .taken))
 
 join-pairs-requires : tie.Need-join-pairs-requires
 join-pairs-requires c κs =
-    pairs-ready (c .before .before .before .before .before .before .before .before .before .before .before .before .before .before .before .before .before .before .before .before .before .before .before .before .args .x) (lent (c .before .before .before .before .before .before .before .before .before .before .before .before .before .before .before .before .before .before .before .before .before .before .before .before)) (c .before .before .before .before .before .before .before .before .before .before .before .before .before .before .before .before .before .before .before .before .before .before .before .before .args .lengths .now) (c .before .before .before .before .before .before .before .before .before .before .before .before .before .before .before .before .before .before .before .before .before .before .before .before .args .files .now) (c .before .before .before .before .before .before .before .before .before .before .before .before .before .before .before .before .before .before .before .before .before .before .before .before .args .limit) (work (c .before .before .before .before .before .before .before .before .before .before .before .before .before .before .before .before .before .before .before .before .before .before .before .before)) (c .before .before .before .before .before .before .before .refuses .ensures) (c .before .before .before .before .before .before .if1 .left)
-    (c .before .before .before .before .before .question44 .ensures) (not-false _ (c .before .before .before .before .if2 .left)) (λ i. c .before .before .before .before .before .before .before .before .before .before .before .before .before .before .before .before .before .before .before .before .before .before .shared-slice-known2 .given i .fits) (c .before .before .ask-files .ensures) (not-false _ (c .if3 .left))
+    let loaded : tie.Else3 = search in
+    let files = files-asked loaded in
+    let few = size-passed files in
+    let size = size-asked few in
+    let passed = own-passed size in
+    let own = own-asked passed in
+    let s = begin own in
+    pairs-ready (s .args .x) (lent s) (s .args .lengths .now) (s .args .files .now) (s .args .limit) (work s) (own .refuses .ensures)
+    (passed .if1 .left) (size .question44 .ensures) (not-false _ (few .if2 .left)) (buffer own) (files .ask-files .ensures)
+    (not-false _ (loaded .if3 .left))
 
 returns-4 : tie.Need-returns-4
 returns-4 c =
-    let bytes : TableBytes (lent (c .before .before .before .before .before .before .before .before .before .before .before .before .before .before .before .before .before .before .before .before .before .before .before .before .before .before)) = record { checkpoints = λ i. c .before .before .before .before .before .before .before .before .before .before .before .before .before .before .before .before .before .before .before .before .before .before .before .shared-slice-known3 .given i .fits; frames = λ i. c .before .before .before .before .before .before .before .before .before .before .before .before .before .before .before .before .before .before .before .before .before .before .shared-slice-known4 .given i .fits; store = λ i. c .before .before .before .before .before .before .before .before .before .before .before .before .before .before .before .before .before .before .before .before .before .shared-slice-known5 .given i .fits; parts = λ i. c .before .before .before .before .before .before .before .before .before .before .before .before .before .before .before .before .before .before .before .before .shared-slice-known6 .given i .fits; malformed = λ i. c .before .before .before .before .before .before .before .before .before .before .before .before .before .before .before .before .before .before .before .shared-slice-known7 .given i .fits; hints = λ i. c .before .before .before .before .before .before .before .before .before .before .before .before .before .before .before .before .before .before .shared-slice-known8 .given i .fits; confirmed = λ i. c .before .before .before .before .before .before .before .before .before .before .before .before .before .before .before .before .before .shared-slice-known9 .given i .fits } in
-    pairs-decide (c .before .before .before .before .before .before .before .before .before .before .before .before .before .before .before .before .before .before .before .before .before .before .before .before .before .before .args .x) (lent (c .before .before .before .before .before .before .before .before .before .before .before .before .before .before .before .before .before .before .before .before .before .before .before .before .before .before)) (c .before .before .before .before .before .before .before .before .before .before .before .before .before .before .before .before .before .before .before .before .before .before .before .before .before .before .args .lengths .now) (c .before .before .before .before .before .before .before .before .before .before .before .before .before .before .before .before .before .before .before .before .before .before .before .before .before .before .args .files .now) (c .before .before .before .before .before .before .before .before .before .before .before .before .before .before .before .before .before .before .before .before .before .before .before .before .before .before .args .limit) (work (c .before .before .before .before .before .before .before .before .before .before .before .before .before .before .before .before .before .before .before .before .before .before .before .before .before .before)) (c .before .before .before .before .before .before .before .before .before .refuses .ensures) (c .before .before .before .before .before .before .before .before .if1 .left)
-    (c .before .before .before .before .before .before .before .question44 .ensures) (not-false _ (c .before .before .before .before .before .before .if2 .left)) (λ i. c .before .before .before .before .before .before .before .before .before .before .before .before .before .before .before .before .before .before .before .before .before .before .before .before .shared-slice-known2 .given i .fits) (c .before .before .before .before .ask-files .ensures) (not-false _ (c .before .before .if3 .left)) (typed (c .before .before .before .before .before .before .before .before .before .before .before .before .before .before .before .before .before .before .before .before .before .before .before .before .before .before .args .x) _ (c .before .before .before .before .before .before .before .before .before .before .before .before .before .before .before .before .before .before .before .before .before .before .before .before .before .before .good .0)) bytes
-    (c .before .join-pairs .ensures) (c .with-pairs .ensures)
+    let pairs : tie.After-join-pairs = search in
+    let loaded : tie.Else3 = search in
+    let files = files-asked loaded in
+    let few = size-passed files in
+    let size = size-asked few in
+    let passed = own-passed size in
+    let own = own-asked passed in
+    let s = begin own in
+    pairs-decide (s .args .x) (lent s) (s .args .lengths .now) (s .args .files .now) (s .args .limit) (work s) (own .refuses .ensures)
+    (passed .if1 .left) (size .question44 .ensures) (not-false _ (few .if2 .left)) (buffer own) (files .ask-files .ensures)
+    (not-false _ (loaded .if3 .left)) (typed (s .args .x) _ (s .good .0)) (own-bytes own) (pairs .join-pairs .ensures) (c .with-pairs .ensures)
 
 pub ask-spec : {M : Type 1} → statement M
 ask-spec =

@@ -7,32 +7,8 @@ use Rattle.drawer.proofs.ask.ask_file.Tie as tie
 abbrev begin : tie.Else1 → tie.Start
 begin p = search
 
-sub-left : tie.Need-sub-left
-sub-left c = search needs
-
 returns : tie.Need-returns
 returns c = let test : tie.Then1 = search in let start : tie.Start = search in goes-past _ _ _ _ _ _ (test .if1 .taken)
-
-add-to : tie.Need-add-to
-add-to c = search needs
-
-sub-decide : tie.Need-sub-decide
-sub-decide c = search needs
-
-part-decide-start : tie.Need-part-decide-start
-part-decide-start c = search needs
-
-part-decide-end : tie.Need-part-decide-end
-part-decide-end c = search needs
-
-decide-requires : tie.Need-decide-requires
-decide-requires c κs = search needs
-
-enum-known-said : tie.Need-enum-known-said
-enum-known-said c = search needs
-
-enum-known-said-2 : tie.Need-enum-known-said-2
-enum-known-said-2 c = search needs
 
 returns-2 : tie.Need-returns-2
 returns-2 c =
@@ -53,14 +29,14 @@ pub ask-file-spec : {M : Type 1} → statement M
 ask-file-spec =
     tie.close
     (tie.spec
-    sub-left
+    (λ c. search needs)
     returns
-    add-to
-    sub-decide
-    part-decide-start
-    part-decide-end
-    decide-requires
-    enum-known-said
-    enum-known-said-2
+    (λ c. search needs)
+    (λ c. search needs)
+    (λ c. search needs)
+    (λ c. search needs)
+    (λ c κs. search needs)
+    (λ c. search needs)
+    (λ c. search needs)
     returns-2
     returns-3)

@@ -25,17 +25,8 @@ unasked-files-requires c κs = tt
 loop-holds : tie.Need-loop-holds Inv-loop μ-loop
 loop-holds c = (asking-none _ _ _ _ _ (c .unasked-files .ensures), omega arith)
 
-mul-read-u64 : tie.Need-mul-read-u64 Inv-loop μ-loop
-mul-read-u64 c = search needs
-
-read-u64-requires : tie.Need-read-u64-requires Inv-loop μ-loop
-read-u64-requires c κs = search needs
-
 ask-file-requires : tie.Need-ask-file-requires Inv-loop μ-loop
 ask-file-requires c κs = let at : tie.At-loop Inv-loop μ-loop = search in at .loop .inv .0 .from
-
-enum-known-said : tie.Need-enum-known-said Inv-loop μ-loop
-enum-known-said c = search needs
 
 refused-requires : tie.Need-refused-requires Inv-loop μ-loop
 refused-requires c κs = tt
@@ -50,9 +41,6 @@ returns c =
     let read : tie.After-read-u64 Inv-loop μ-loop = search in
     asking-refused _ _ _ _ _ (at .loop .inv .0) (few-lengths (start .args .lengths .now) _ (turn .loop-test .taken)) (read .read-u64 .ensures ∙ sym (length-at (start .args .lengths .now) _ (turn .loop-test .taken)))
     (file .ask-file .ensures) (told .said .given .1) (c .refused .ensures)
-
-enum-known-said-2 : tie.Need-enum-known-said-2 Inv-loop μ-loop
-enum-known-said-2 c = search needs
 
 mul-e : tie.Need-mul-e Inv-loop μ-loop
 mul-e c =
@@ -119,13 +107,13 @@ ask-files-spec =
     μ-loop
     unasked-files-requires
     loop-holds
-    mul-read-u64
-    read-u64-requires
+    (λ c. search needs)
+    (λ c κs. search needs)
     ask-file-requires
-    enum-known-said
+    (λ c. search needs)
     refused-requires
     returns
-    enum-known-said-2
+    (λ c. search needs)
     mul-e
     element-set-from-e
     add-from

@@ -2,8 +2,5 @@ use borrow.Author.Needs.{needs}
 use Rattle.drawer.proofs.ask.blank_index.Statement.{statement}
 use Rattle.drawer.proofs.ask.blank_index.Tie as tie
 
-returns : tie.Need-returns
-returns c = search needs
-
 pub blank-index-spec : {M : Type 1} → statement M
-blank-index-spec = tie.close (tie.spec returns)
+blank-index-spec = tie.close (tie.spec (λ c. search needs))

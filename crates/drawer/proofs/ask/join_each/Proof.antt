@@ -4,7 +4,6 @@ use native.Mathlib.Omega.{arith}
 use lib.ListN.{drop}
 use Rattle.drawer.specs.Ask.{entriesIn, joinList}
 use Rattle.drawer.proofs.Pairing.{list-stops, list-on, list-ends}
-use borrow.Author.Needs.{needs}
 use Rattle.drawer.proofs.ask.join_each.Statement.{statement}
 use Rattle.drawer.proofs.ask.join_each.Tie as tie
 
