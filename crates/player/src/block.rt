@@ -411,7 +411,8 @@ pub fn put_made(head: &mut [u8], made: Made) -> u32
 
 pub fn put_plan(answer: &mut [u8], planned: Planned) -> u32
     requires { ⌜ 192 ≤ length (now answer) ⌝ }
-    ensures { λ r. ⌜ called r (now (answer .exit)) ≡ into planWords (now (answer .entry)) (plannedOf planned) ⌝ }
+    ensures { λ r. ⌜ called r (now (answer .exit))
+        ≡ into planWords (now (answer .entry)) (plannedOf planned) ⌝ }
 {
     match planned {
         Planned::Refused(n) => n,
@@ -424,7 +425,8 @@ pub fn put_plan(answer: &mut [u8], planned: Planned) -> u32
 
 pub fn put_sizes(answer: &mut [u8], sized: Sized) -> u32
     requires { ⌜ 192 ≤ length (now answer) ⌝ }
-    ensures { λ r. ⌜ called r (now (answer .exit)) ≡ into sizeWords (now (answer .entry)) (sizedOf sized) ⌝ }
+    ensures { λ r. ⌜ called r (now (answer .exit))
+        ≡ into sizeWords (now (answer .entry)) (sizedOf sized) ⌝ }
 {
     match sized {
         Sized::Refused(n) => n,
@@ -437,7 +439,8 @@ pub fn put_sizes(answer: &mut [u8], sized: Sized) -> u32
 
 pub fn put_area(answer: &mut [u8], area: FileArea) -> u32
     requires { ⌜ 192 ≤ length (now answer) ⌝ }
-    ensures { λ r. ⌜ called r (now (answer .exit)) ≡ into areaWords (now (answer .entry)) (fileAreaOf area) ⌝ }
+    ensures { λ r. ⌜ called r (now (answer .exit))
+        ≡ into areaWords (now (answer .entry)) (fileAreaOf area) ⌝ }
 {
     match area {
         FileArea::Refused(n) => n,
@@ -450,7 +453,8 @@ pub fn put_area(answer: &mut [u8], area: FileArea) -> u32
 
 pub fn put_brings(answer: &mut [u8], added: Added) -> u32
     requires { ⌜ 192 ≤ length (now answer) ⌝ }
-    ensures { λ r. ⌜ called r (now (answer .exit)) ≡ into bringsWords (now (answer .entry)) (addsOf added) ⌝ }
+    ensures { λ r. ⌜ called r (now (answer .exit))
+        ≡ into bringsWords (now (answer .entry)) (addsOf added) ⌝ }
 {
     match added {
         Added::Refused(n) => n,
@@ -463,7 +467,8 @@ pub fn put_brings(answer: &mut [u8], added: Added) -> u32
 
 pub fn put_first(answer: &mut [u8], first: First) -> u32
     requires { ⌜ 192 ≤ length (now answer) ⌝ }
-    ensures { λ r. ⌜ called r (now (answer .exit)) ≡ into firstWords (now (answer .entry)) (Accepted first) ⌝ }
+    ensures { λ r. ⌜ called r (now (answer .exit))
+        ≡ into firstWords (now (answer .entry)) (Accepted first) ⌝ }
 {
     write_words(answer, first_words(first));
     0

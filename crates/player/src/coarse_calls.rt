@@ -29,7 +29,16 @@ pub extern "C" fn seek_raw_coarse(
     coarse_hints: &mut [u8],
     coarse_confirmed: &mut [u8],
 ) -> u32
-    ensures { λ r. ⌜ calledOver r (now (coarse .exit)) (tables (now («coarse_checkpoints» .exit)) (now («coarse_frames» .exit)) (now («coarse_store» .exit)) (now («coarse_parts» .exit)) (now («coarse_malformed» .exit)) (now («coarse_hints» .exit)) (now («coarse_confirmed» .exit))) ≡ coarseCall (now (head .entry)) interval (now (coarse .entry)) (tables (now (checkpoints .entry)) (now (frames .entry)) (now (store .entry)) (now (parts .entry)) (now (malformed .entry)) (now (hints .entry)) (now (confirmed .entry))) (tables (now («coarse_checkpoints» .entry)) (now («coarse_frames» .entry)) (now («coarse_store» .entry)) (now («coarse_parts» .entry)) (now («coarse_malformed» .entry)) (now («coarse_hints» .entry)) (now («coarse_confirmed» .entry))) ⌝ }
+    ensures { λ r. ⌜ calledOver r (now (coarse .exit))
+        (tables (now («coarse_checkpoints» .exit)) (now («coarse_frames» .exit))
+        (now («coarse_store» .exit)) (now («coarse_parts» .exit)) (now («coarse_malformed» .exit))
+        (now («coarse_hints» .exit)) (now («coarse_confirmed» .exit)))
+        ≡ coarseCall (now (head .entry)) interval (now (coarse .entry))
+        (tables (now (checkpoints .entry)) (now (frames .entry)) (now (store .entry)) (now (parts .entry))
+        (now (malformed .entry)) (now (hints .entry)) (now (confirmed .entry)))
+        (tables (now («coarse_checkpoints» .entry)) (now («coarse_frames» .entry))
+        (now («coarse_store» .entry)) (now («coarse_parts» .entry)) (now («coarse_malformed» .entry))
+        (now («coarse_hints» .entry)) (now («coarse_confirmed» .entry))) ⌝ }
 {
     if !is_index(head) {
         return 3;

@@ -31,7 +31,15 @@ pub extern "C" fn seek_raw_merge_all(
     work_hints: &mut [u8],
     work_confirmed: &mut [u8],
 ) -> u32
-    ensures { λ r. ⌜ calledOver r (now (head .exit)) (tables (now (checkpoints .exit)) (now (frames .exit)) (now (store .exit)) (now (parts .exit)) (now (malformed .exit)) (now (hints .exit)) (now (confirmed .exit))) ≡ mergeAllCallAs role (now (head .entry)) (now (lengths .entry)) (now (files .entry)) limit (tables (now (checkpoints .entry)) (now (frames .entry)) (now (store .entry)) (now (parts .entry)) (now (malformed .entry)) (now (hints .entry)) (now (confirmed .entry))) (tables (now («work_checkpoints» .entry)) (now («work_frames» .entry)) (now («work_store» .entry)) (now («work_parts» .entry)) (now («work_malformed» .entry)) (now («work_hints» .entry)) (now («work_confirmed» .entry))) ⌝ }
+    ensures { λ r. ⌜ calledOver r (now (head .exit))
+        (tables (now (checkpoints .exit)) (now (frames .exit)) (now (store .exit)) (now (parts .exit))
+        (now (malformed .exit)) (now (hints .exit)) (now (confirmed .exit)))
+        ≡ mergeAllCallAs role (now (head .entry)) (now (lengths .entry)) (now (files .entry)) limit
+        (tables (now (checkpoints .entry)) (now (frames .entry)) (now (store .entry)) (now (parts .entry))
+        (now (malformed .entry)) (now (hints .entry)) (now (confirmed .entry)))
+        (tables (now («work_checkpoints» .entry)) (now («work_frames» .entry)) (now («work_store» .entry))
+        (now («work_parts» .entry)) (now («work_malformed» .entry)) (now («work_hints» .entry))
+        (now («work_confirmed» .entry))) ⌝ }
 {
     if role != 2 {
         return 52;

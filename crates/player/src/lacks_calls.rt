@@ -53,7 +53,8 @@ fn lacks_words(l: Lacks) -> [u64; 24]
 
 fn put_lacks(answer: &mut [u8], lacked: Lacked) -> u32
     requires { ⌜ 192 ≤ length (now answer) ⌝ }
-    ensures { λ r. ⌜ called r (now (answer .exit)) ≡ into lacksWords (now (answer .entry)) (lackedOf lacked) ⌝ }
+    ensures { λ r. ⌜ called r (now (answer .exit))
+        ≡ into lacksWords (now (answer .entry)) (lackedOf lacked) ⌝ }
 {
     match lacked {
         Lacked::Refused(n) => n,
@@ -85,7 +86,13 @@ pub extern "C" fn seek_raw_lacks(
     other_hints: &[u8],
     other_confirmed: &[u8],
 ) -> u32
-    ensures { λ r. ⌜ called r (now (answer .exit)) ≡ lacksCall (now (head .entry)) (now (other .entry)) (now (answer .entry)) (tables (now (checkpoints .entry)) (now (frames .entry)) (now (store .entry)) (now (parts .entry)) (now (malformed .entry)) (now (hints .entry)) (now (confirmed .entry))) (tables (now («other_checkpoints» .entry)) (now («other_frames» .entry)) (now («other_store» .entry)) (now («other_parts» .entry)) (now («other_malformed» .entry)) (now («other_hints» .entry)) (now («other_confirmed» .entry))) ⌝ }
+    ensures { λ r. ⌜ called r (now (answer .exit))
+        ≡ lacksCall (now (head .entry)) (now (other .entry)) (now (answer .entry))
+        (tables (now (checkpoints .entry)) (now (frames .entry)) (now (store .entry)) (now (parts .entry))
+        (now (malformed .entry)) (now (hints .entry)) (now (confirmed .entry)))
+        (tables (now («other_checkpoints» .entry)) (now («other_frames» .entry))
+        (now («other_store» .entry)) (now («other_parts» .entry)) (now («other_malformed» .entry))
+        (now («other_hints» .entry)) (now («other_confirmed» .entry))) ⌝ }
 {
     if !is_index(head) {
         return 3;

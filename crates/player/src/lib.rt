@@ -35,7 +35,8 @@ pub extern "C" fn seek_raw_sum(bytes: &[u8]) -> u64
 // The first record of a sector: its number and where its three bytes lie, or why there is none.
 #[no_mangle]
 pub extern "C" fn seek_raw_first_record(sector: &[u8], answer: &mut [u8]) -> u32
-    ensures { λ r. ⌜ called r (now (answer .exit)) ≡ firstCall (now (answer .entry)) (now (sector .entry)) ⌝ }
+    ensures { λ r. ⌜ called r (now (answer .exit))
+        ≡ firstCall (now (answer .entry)) (now (sector .entry)) ⌝ }
 {
     if answer.len() < HEAD_BYTES {
         return 3;
@@ -59,7 +60,9 @@ pub extern "C" fn seek_raw_sizes(
     most: u32,
     answer: &mut [u8],
 ) -> u32
-    ensures { λ r. ⌜ called r (now (answer .exit)) ≡ sizesCall (now (answer .entry)) (areaFrom slot channels «key_start» «key_end» sectors start end) interval budget most ⌝ }
+    ensures { λ r. ⌜ called r (now (answer .exit))
+        ≡ sizesCall (now (answer .entry)) (areaFrom slot channels «key_start» «key_end» sectors start end)
+        interval budget most ⌝ }
 {
     if answer.len() < HEAD_BYTES {
         return 3;
@@ -72,7 +75,8 @@ pub extern "C" fn seek_raw_sizes(
 // The area that a file says it is of.
 #[no_mangle]
 pub extern "C" fn seek_raw_file_area(file: &[u8], answer: &mut [u8]) -> u32
-    ensures { λ r. ⌜ called r (now (answer .exit)) ≡ fileAreaCall (now (answer .entry)) (now (file .entry)) ⌝ }
+    ensures { λ r. ⌜ called r (now (answer .exit))
+        ≡ fileAreaCall (now (answer .entry)) (now (file .entry)) ⌝ }
 {
     if answer.len() < HEAD_BYTES {
         return 3;
@@ -95,7 +99,9 @@ pub extern "C" fn seek_raw_file_sizes(
     limit: u64,
     answer: &mut [u8],
 ) -> u32
-    ensures { λ r. ⌜ called r (now (answer .exit)) ≡ fileSizesCall (now (answer .entry)) (areaFrom slot channels «key_start» «key_end» sectors start end) (now (file .entry)) limit ⌝ }
+    ensures { λ r. ⌜ called r (now (answer .exit))
+        ≡ fileSizesCall (now (answer .entry))
+        (areaFrom slot channels «key_start» «key_end» sectors start end) (now (file .entry)) limit ⌝ }
 {
     if answer.len() < HEAD_BYTES {
         return 3;
@@ -128,7 +134,11 @@ pub extern "C" fn seek_raw_new(
     hints: &[u8],
     confirmed: &[u8],
 ) -> u32
-    ensures { λ r. ⌜ called r (now (head .exit)) ≡ newCall (now (head .entry)) (areaFrom slot channels «key_start» «key_end» sectors start end) interval budget spacing most (tables (now (checkpoints .entry)) (now (frames .entry)) (now (store .entry)) (now (parts .entry)) (now (malformed .entry)) (now (hints .entry)) (now (confirmed .entry))) ⌝ }
+    ensures { λ r. ⌜ called r (now (head .exit))
+        ≡ newCall (now (head .entry)) (areaFrom slot channels «key_start» «key_end» sectors start end)
+        interval budget spacing most
+        (tables (now (checkpoints .entry)) (now (frames .entry)) (now (store .entry)) (now (parts .entry))
+        (now (malformed .entry)) (now (hints .entry)) (now (confirmed .entry))) ⌝ }
 {
     if head.len() < HEAD_BYTES {
         return 3;
@@ -173,7 +183,13 @@ pub extern "C" fn seek_raw_load(
     hints: &mut [u8],
     confirmed: &mut [u8],
 ) -> u32
-    ensures { λ r. ⌜ calledOver r (now (head .exit)) (tables (now (checkpoints .exit)) (now (frames .exit)) (now (store .exit)) (now (parts .exit)) (now (malformed .exit)) (now (hints .exit)) (now (confirmed .exit))) ≡ loadCallAs role (now (head .entry)) (areaFrom slot channels «key_start» «key_end» sectors start end) (now (file .entry)) limit (tables (now (checkpoints .entry)) (now (frames .entry)) (now (store .entry)) (now (parts .entry)) (now (malformed .entry)) (now (hints .entry)) (now (confirmed .entry))) ⌝ }
+    ensures { λ r. ⌜ calledOver r (now (head .exit))
+        (tables (now (checkpoints .exit)) (now (frames .exit)) (now (store .exit)) (now (parts .exit))
+        (now (malformed .exit)) (now (hints .exit)) (now (confirmed .exit)))
+        ≡ loadCallAs role (now (head .entry))
+        (areaFrom slot channels «key_start» «key_end» sectors start end) (now (file .entry)) limit
+        (tables (now (checkpoints .entry)) (now (frames .entry)) (now (store .entry)) (now (parts .entry))
+        (now (malformed .entry)) (now (hints .entry)) (now (confirmed .entry))) ⌝ }
 {
     if role != 2 {
         return 52;
@@ -210,7 +226,10 @@ pub extern "C" fn seek_raw_fingerprint(
     hints: &[u8],
     confirmed: &[u8],
 ) -> u32
-    ensures { λ r. ⌜ called r (now (head .exit)) ≡ fingerprintCall (now (head .entry)) value (tables (now (checkpoints .entry)) (now (frames .entry)) (now (store .entry)) (now (parts .entry)) (now (malformed .entry)) (now (hints .entry)) (now (confirmed .entry))) ⌝ }
+    ensures { λ r. ⌜ called r (now (head .exit))
+        ≡ fingerprintCall (now (head .entry)) value
+        (tables (now (checkpoints .entry)) (now (frames .entry)) (now (store .entry)) (now (parts .entry))
+        (now (malformed .entry)) (now (hints .entry)) (now (confirmed .entry))) ⌝ }
 {
     if !is_index(head) {
         return 3;
@@ -244,7 +263,10 @@ pub extern "C" fn seek_raw_plan(
     hints: &[u8],
     confirmed: &[u8],
 ) -> u32
-    ensures { λ r. ⌜ called r (now (answer .exit)) ≡ planCall (now (head .entry)) frame (now (answer .entry)) (tables (now (checkpoints .entry)) (now (frames .entry)) (now (store .entry)) (now (parts .entry)) (now (malformed .entry)) (now (hints .entry)) (now (confirmed .entry))) ⌝ }
+    ensures { λ r. ⌜ called r (now (answer .exit))
+        ≡ planCall (now (head .entry)) frame (now (answer .entry))
+        (tables (now (checkpoints .entry)) (now (frames .entry)) (now (store .entry)) (now (parts .entry))
+        (now (malformed .entry)) (now (hints .entry)) (now (confirmed .entry))) ⌝ }
 {
     if !is_index(head) {
         return 3;
@@ -279,7 +301,10 @@ pub extern "C" fn seek_raw_saved_length(
     hints: &[u8],
     confirmed: &[u8],
 ) -> u64
-    ensures { λ r. ⌜ r ≡ lengthCall (now (head .entry)) (tables (now (checkpoints .entry)) (now (frames .entry)) (now (store .entry)) (now (parts .entry)) (now (malformed .entry)) (now (hints .entry)) (now (confirmed .entry))) ⌝ }
+    ensures { λ r. ⌜ r
+        ≡ lengthCall (now (head .entry))
+        (tables (now (checkpoints .entry)) (now (frames .entry)) (now (store .entry)) (now (parts .entry))
+        (now (malformed .entry)) (now (hints .entry)) (now (confirmed .entry))) ⌝ }
 {
     if !is_index(head) {
         return 3;
@@ -311,7 +336,11 @@ pub extern "C" fn seek_raw_save(
     confirmed: &[u8],
     out: &mut [u8],
 ) -> u64
-    ensures { λ r. ⌜ called r (now (out .exit)) ≡ saveCallAs role (now (head .entry)) (tables (now (checkpoints .entry)) (now (frames .entry)) (now (store .entry)) (now (parts .entry)) (now (malformed .entry)) (now (hints .entry)) (now (confirmed .entry))) (now (out .entry)) ⌝ }
+    ensures { λ r. ⌜ called r (now (out .exit))
+        ≡ saveCallAs role (now (head .entry))
+        (tables (now (checkpoints .entry)) (now (frames .entry)) (now (store .entry)) (now (parts .entry))
+        (now (malformed .entry)) (now (hints .entry)) (now (confirmed .entry)))
+        (now (out .entry)) ⌝ }
 {
     if role != 2 {
         return 52;
@@ -355,7 +384,15 @@ pub extern "C" fn seek_raw_merge(
     other_hints: &[u8],
     other_confirmed: &[u8],
 ) -> u32
-    ensures { λ r. ⌜ calledOver r (now (head .exit)) (tables (now (checkpoints .exit)) (now (frames .exit)) (now (store .exit)) (now (parts .exit)) (now (malformed .exit)) (now (hints .exit)) (now (confirmed .exit))) ≡ mergeCallAs role (now (head .entry)) (now (other .entry)) (tables (now (checkpoints .entry)) (now (frames .entry)) (now (store .entry)) (now (parts .entry)) (now (malformed .entry)) (now (hints .entry)) (now (confirmed .entry))) (tables (now («other_checkpoints» .entry)) (now («other_frames» .entry)) (now («other_store» .entry)) (now («other_parts» .entry)) (now («other_malformed» .entry)) (now («other_hints» .entry)) (now («other_confirmed» .entry))) ⌝ }
+    ensures { λ r. ⌜ calledOver r (now (head .exit))
+        (tables (now (checkpoints .exit)) (now (frames .exit)) (now (store .exit)) (now (parts .exit))
+        (now (malformed .exit)) (now (hints .exit)) (now (confirmed .exit)))
+        ≡ mergeCallAs role (now (head .entry)) (now (other .entry))
+        (tables (now (checkpoints .entry)) (now (frames .entry)) (now (store .entry)) (now (parts .entry))
+        (now (malformed .entry)) (now (hints .entry)) (now (confirmed .entry)))
+        (tables (now («other_checkpoints» .entry)) (now («other_frames» .entry))
+        (now («other_store» .entry)) (now («other_parts» .entry)) (now («other_malformed» .entry))
+        (now («other_hints» .entry)) (now («other_confirmed» .entry))) ⌝ }
 {
     if role != 2 {
         return 52;
@@ -410,7 +447,13 @@ pub extern "C" fn seek_raw_adds(
     other_hints: &[u8],
     other_confirmed: &[u8],
 ) -> u32
-    ensures { λ r. ⌜ called r (now (answer .exit)) ≡ addsCall (now (head .entry)) (now (other .entry)) (now (answer .entry)) (tables (now (checkpoints .entry)) (now (frames .entry)) (now (store .entry)) (now (parts .entry)) (now (malformed .entry)) (now (hints .entry)) (now (confirmed .entry))) (tables (now («other_checkpoints» .entry)) (now («other_frames» .entry)) (now («other_store» .entry)) (now («other_parts» .entry)) (now («other_malformed» .entry)) (now («other_hints» .entry)) (now («other_confirmed» .entry))) ⌝ }
+    ensures { λ r. ⌜ called r (now (answer .exit))
+        ≡ addsCall (now (head .entry)) (now (other .entry)) (now (answer .entry))
+        (tables (now (checkpoints .entry)) (now (frames .entry)) (now (store .entry)) (now (parts .entry))
+        (now (malformed .entry)) (now (hints .entry)) (now (confirmed .entry)))
+        (tables (now («other_checkpoints» .entry)) (now («other_frames» .entry))
+        (now («other_store» .entry)) (now («other_parts» .entry)) (now («other_malformed» .entry))
+        (now («other_hints» .entry)) (now («other_confirmed» .entry))) ⌝ }
 {
     if !is_index(head) {
         return 3;
@@ -457,7 +500,12 @@ pub extern "C" fn seek_raw_add_hints(
     hints: &mut [u8],
     confirmed: &[u8],
 ) -> u32
-    ensures { λ r. ⌜ calledOver r (now (head .exit)) (tables (now (checkpoints .entry)) (now (frames .entry)) (now (store .entry)) (now (parts .entry)) (now (malformed .entry)) (now (hints .exit)) (now (confirmed .entry))) ≡ addHintsCall (now (head .entry)) (now (list .entry)) (tables (now (checkpoints .entry)) (now (frames .entry)) (now (store .entry)) (now (parts .entry)) (now (malformed .entry)) (now (hints .entry)) (now (confirmed .entry))) ⌝ }
+    ensures { λ r. ⌜ calledOver r (now (head .exit))
+        (tables (now (checkpoints .entry)) (now (frames .entry)) (now (store .entry)) (now (parts .entry))
+        (now (malformed .entry)) (now (hints .exit)) (now (confirmed .entry)))
+        ≡ addHintsCall (now (head .entry)) (now (list .entry))
+        (tables (now (checkpoints .entry)) (now (frames .entry)) (now (store .entry)) (now (parts .entry))
+        (now (malformed .entry)) (now (hints .entry)) (now (confirmed .entry))) ⌝ }
 {
     if !is_index(head) {
         return 3;

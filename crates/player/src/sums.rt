@@ -21,7 +21,8 @@ pub extern "C" fn seek_raw_sum32(bytes: &[u8]) -> u32
 // A folded sum is the answer's first word.
 fn put_folded(answer: &mut [u8], folded: Folded) -> u32
     requires { ⌜ 192 ≤ length (now answer) ⌝ }
-    ensures { λ r. ⌜ called r (now (answer .exit)) ≡ into oneWord (now (answer .entry)) (foldedOf folded) ⌝ }
+    ensures { λ r. ⌜ called r (now (answer .exit))
+        ≡ into oneWord (now (answer .entry)) (foldedOf folded) ⌝ }
 {
     match folded {
         Folded::Refused(n) => n,

@@ -30,7 +30,10 @@ pub extern "C" fn seek_raw_view_length(
     hints: &[u8],
     confirmed: &[u8],
 ) -> u64
-    ensures { λ r. ⌜ r ≡ viewLengthCall role (now (head .entry)) (tables (now (checkpoints .entry)) (now (frames .entry)) (now (store .entry)) (now (parts .entry)) (now (malformed .entry)) (now (hints .entry)) (now (confirmed .entry))) ⌝ }
+    ensures { λ r. ⌜ r
+        ≡ viewLengthCall role (now (head .entry))
+        (tables (now (checkpoints .entry)) (now (frames .entry)) (now (store .entry)) (now (parts .entry))
+        (now (malformed .entry)) (now (hints .entry)) (now (confirmed .entry))) ⌝ }
 {
     let number = block_refuses(role, head);
     if number != 0 {
@@ -65,7 +68,11 @@ pub extern "C" fn seek_raw_view(
     confirmed: &[u8],
     out: &mut [u8],
 ) -> u64
-    ensures { λ r. ⌜ called r (now (out .exit)) ≡ viewCall role (now (head .entry)) (tables (now (checkpoints .entry)) (now (frames .entry)) (now (store .entry)) (now (parts .entry)) (now (malformed .entry)) (now (hints .entry)) (now (confirmed .entry))) (now (out .entry)) ⌝ }
+    ensures { λ r. ⌜ called r (now (out .exit))
+        ≡ viewCall role (now (head .entry))
+        (tables (now (checkpoints .entry)) (now (frames .entry)) (now (store .entry)) (now (parts .entry))
+        (now (malformed .entry)) (now (hints .entry)) (now (confirmed .entry)))
+        (now (out .entry)) ⌝ }
 {
     let number = block_refuses(role, head);
     if number != 0 {
