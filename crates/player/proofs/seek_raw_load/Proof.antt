@@ -19,11 +19,16 @@ returns-2 c =
 abbrev role-before : tie.Else2 → tie.Else1
 role-before test = search
 
+-- the call before the tables that it was lent
+abbrev call-before : tie.After-checkpoints → tie.After-from-bytes
+call-before p = search
+
 returns-3 : tie.Need-returns-3
 unfolding loadCallAs
 returns-3 c =
     let put : tie.After-put-made = search in
-    let call : tie.After-from-bytes = c .before .before .before .before .before .before .before .before .before .before .before .before .before .before .before .before .before .before in
+    let last : tie.After-checkpoints = search in
+    let call = call-before last in
     let area : tie.After-area-from = search in
     let test : tie.Else2 = search in
     is-workshop _ _ _ (role-before test .if1 .left)

@@ -26,6 +26,10 @@ role-before test = search
 abbrev begin : tie.Else1 → tie.Start
 begin role = search
 
+-- the call before the tables that it was lent
+abbrev call-before : tie.After-checkpoints → tie.After-merge
+call-before p = search
+
 returns : tie.Need-returns
 unfolding mergeCallAs
 returns c = no-workshop _ _ _ (c .if1 .taken)
@@ -47,7 +51,8 @@ returns-4 : tie.Need-returns-4
 unfolding mergeCallAs
 returns-4 c =
     let put : tie.After-put-made = search in
-    let call : tie.After-merge = c .before .before .before .before .before .before .before .before .before .before .before .before .before .before .before .before .before .before in
+    let last : tie.After-checkpoints = search in
+    let call = call-before last in
     let other : tie.After-index-in2 = search in
     let own : tie.After-index-in = search in
     let test2 : tie.Else3 = search in

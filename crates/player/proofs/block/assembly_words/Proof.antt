@@ -13,7 +13,13 @@ returns c = rw (c .enum-told .given .1)
 
 returns-2 : tie.Need-returns-2
 unfolding assemblyWords
-returns-2 c = rw (c .before .before .before .before .before .before .a .given .1, c .before .before .before .before .kind-number .ensures, c .before .unsigned .ensures ∙ ap unsigned32 (toZ-ofZ w32 (c .before .before .before .before .before .before .a .given .0 .0 .remaining) (search needs)))
+returns-2 c =
+    let arm : tie.After-a = search in
+    rw (
+      arm .a .given .1,
+      c .before .before .before .before .kind-number .ensures,
+      c .before .unsigned .ensures ∙ ap unsigned32 (toZ-ofZ w32 (arm .a .given .0 .0 .remaining) (search needs)),
+    )
 
 pub assembly-words-spec : {M : Type 1} → statement M
 assembly-words-spec =

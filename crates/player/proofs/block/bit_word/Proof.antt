@@ -1,5 +1,4 @@
 use Rattle.rules.specs.File.{bit}
-use borrow.Author.Needs.{needs}
 use Rattle.player.proofs.block.bit_word.Statement.{statement}
 use Rattle.player.proofs.block.bit_word.Tie as tie
 

@@ -10,7 +10,9 @@ returns c = rw (c .before .area .given .1)
 
 returns-2 : tie.Need-returns-2
 unfolding into fileAreaOf
-returns-2 c = rw (c .before .before .before .before .before .before .area2 .given .1, c .before .before .write-words .ensures, c .before .before .before .area-words .ensures)
+returns-2 c =
+    let arm : tie.After-area2 = search in
+    rw (arm .area2 .given .1, c .before .before .write-words .ensures, c .before .before .before .area-words .ensures)
 
 pub put-area-spec : {M : Type 1} → statement M
 put-area-spec =

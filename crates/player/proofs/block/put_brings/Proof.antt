@@ -10,7 +10,9 @@ returns c = rw (c .before .added .given .1)
 
 returns-2 : tie.Need-returns-2
 unfolding into addsOf
-returns-2 c = rw (c .before .before .before .before .before .before .added2 .given .1, c .before .before .write-words .ensures, c .before .before .before .brings-words .ensures)
+returns-2 c =
+    let arm : tie.After-added2 = search in
+    rw (arm .added2 .given .1, c .before .before .write-words .ensures, c .before .before .before .brings-words .ensures)
 
 pub put-brings-spec : {M : Type 1} → statement M
 put-brings-spec =

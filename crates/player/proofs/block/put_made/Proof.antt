@@ -10,7 +10,9 @@ returns c = rw (c .before .made .given .1)
 
 returns-2 : tie.Need-returns-2
 unfolding into madeOf
-returns-2 c = rw (c .before .before .before .before .before .before .made2 .given .1, c .before .before .write-words .ensures, c .before .before .before .index-words .ensures)
+returns-2 c =
+    let arm : tie.After-made2 = search in
+    rw (arm .made2 .given .1, c .before .before .write-words .ensures, c .before .before .before .index-words .ensures)
 
 pub put-made-spec : {M : Type 1} → statement M
 put-made-spec =

@@ -10,7 +10,9 @@ returns c = rw (c .before .planned .given .1)
 
 returns-2 : tie.Need-returns-2
 unfolding into plannedOf
-returns-2 c = rw (c .before .before .before .before .before .before .planned2 .given .1, c .before .before .write-words .ensures, c .before .before .before .plan-words .ensures)
+returns-2 c =
+    let arm : tie.After-planned2 = search in
+    rw (arm .planned2 .given .1, c .before .before .write-words .ensures, c .before .before .before .plan-words .ensures)
 
 pub put-plan-spec : {M : Type 1} → statement M
 put-plan-spec =

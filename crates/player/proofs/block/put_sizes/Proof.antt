@@ -10,7 +10,9 @@ returns c = rw (c .before .sized .given .1)
 
 returns-2 : tie.Need-returns-2
 unfolding into sizedOf
-returns-2 c = rw (c .before .before .before .before .before .before .sized2 .given .1, c .before .before .write-words .ensures, c .before .before .before .size-words .ensures)
+returns-2 c =
+    let arm : tie.After-sized2 = search in
+    rw (arm .sized2 .given .1, c .before .before .write-words .ensures, c .before .before .before .size-words .ensures)
 
 pub put-sizes-spec : {M : Type 1} → statement M
 put-sizes-spec =

@@ -1,6 +1,5 @@
 use mathlib.Core.Path.{refl}
 use Rattle.player.specs.Block.{sizeWords}
-use borrow.Author.Needs.{needs}
 use Rattle.player.proofs.block.size_words.Statement.{statement}
 use Rattle.player.proofs.block.size_words.Tie as tie
 

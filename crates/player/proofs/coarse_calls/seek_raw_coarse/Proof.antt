@@ -1,4 +1,3 @@
-use mathlib.Core.Path.{refl}
 use Rattle.index.specs.Index.{Tables, tables}
 use Rattle.player.specs.CoarseCalls.{coarseCall}
 use Rattle.player.proofs.block.Blocks.{too-short, no-head, is-head, known, known-long}
@@ -19,6 +18,13 @@ coarser s =
     tables (a .coarse-checkpoints .now) (a .coarse-frames .now) (a .coarse-store .now) (a .coarse-parts .now) (a .coarse-malformed .now)
     (a .coarse-hints .now) (a .coarse-confirmed .now)
 
+-- the call before the tables that it was lent; the lending
+abbrev call-before : tie.After-coarse-checkpoints → tie.After-coarse
+call-before p = search
+
+abbrev begin : tie.Else1 → tie.Start
+begin p = search
+
 returns : tie.Need-returns
 unfolding coarseCall
 returns c = no-head _ _ _ (c .before .is-index .ensures) (c .if1 .taken)
@@ -32,11 +38,12 @@ returns-2 c =
 returns-3 : tie.Need-returns-3
 returns-3 c =
     let put : tie.After-put-made = search in
-    let call : tie.After-coarse = c .before .before .before .before .before .before .before .before .before .before .before .before .before .before .before .before .before .before in
+    let last : tie.After-coarse-checkpoints = search in
+    let call = call-before last in
     let own : tie.After-index-in = search in
     let test2 : tie.Else2 = search in
     let test : tie.Else1 = search in
-    let start : tie.Start = test .before .before .before .before .before .before .before .before .before .before .before .before .before .before .before .before .before .before in
+    let start = begin test in
     coarse-done (start .args .coarse .now) _ _ (test2 .if2 .left) (start .args .head .now) (known (test .before .is-index .ensures) (test .if1 .left)) (own .index-in .result)
     _ (lent start) (coarser start) _ (call .coarse .result) (put .put-made .ensures) (call .coarse .ensures) (own .index-in .ensures)
 

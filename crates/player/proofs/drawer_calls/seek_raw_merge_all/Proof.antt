@@ -28,6 +28,9 @@ role-before p = search
 abbrev tested : tie.After-index-in → tie.Else2
 tested p = search
 
+abbrev call-before : tie.After-checkpoints → tie.After-merge-all
+call-before p = search
+
 abbrev own : tie.After-merge-all → tie.After-index-in
 own p = search
 
@@ -44,8 +47,9 @@ returns-2 c =
 returns-3 : tie.Need-returns-3
 unfolding mergeAllCallAs
 returns-3 c =
-    let put : tie.After-put-made = c .before .before in
-    let call : tie.After-merge-all = c .before .before .before .before .before .before .before .before .before .before .before .before .before .before .before .before .before .before .before .before .before .before .before .before .before .before .before .before .before .before .before .before in
+    let put : tie.After-put-made = search in
+    let last : tie.After-checkpoints = search in
+    let call = call-before last in
     let head = own call in
     let test = tested head in
     let role = role-before test in
@@ -65,20 +69,22 @@ seek-raw-merge-all-spec =
     returns-2
     (λ c κs. let test : tie.Else2 = search in known-long _ _ (test .before .is-index .ensures) (test .if2 .left))
     (λ c κs. tt)
-    (λ c κs. let call : tie.After-merge-all = c .before .before .before .before .before .before .before .before .before .before .before .before .before .before .before .before .before .before .before .before .before .before .before .before .before .before .before .before .before in let test = tested (own call) in known-long _ _ (test .before .is-index .ensures) (test .if2 .left))
+    (λ c κs.
+    let last : tie.After-checkpoints = search in
+    let test = tested (own (call-before last)) in known-long _ _ (test .before .is-index .ensures) (test .if2 .left))
     (λ c. c .before .head .given)
-    (λ c. c .before .before .before .before .before .before .before .before .before .before .before .before .before .before .before .before .before .before .before .before .before .before .before .before .before .before .before .before .before .before .before .checkpoints .given)
-    (λ c. c .before .before .before .before .before .before .before .before .before .before .before .before .before .before .before .before .before .before .before .before .before .before .before .before .before .before .before .before .before .frames .given)
-    (λ c. c .before .before .before .before .before .before .before .before .before .before .before .before .before .before .before .before .before .before .before .before .before .before .before .before .before .before .before .store .given)
-    (λ c. c .before .before .before .before .before .before .before .before .before .before .before .before .before .before .before .before .before .before .before .before .before .before .before .before .before .parts .given)
-    (λ c. c .before .before .before .before .before .before .before .before .before .before .before .before .before .before .before .before .before .before .before .before .before .before .before .malformed .given)
-    (λ c. c .before .before .before .before .before .before .before .before .before .before .before .before .before .before .before .before .before .before .before .before .before .hints .given)
-    (λ c. c .before .before .before .before .before .before .before .before .before .before .before .before .before .before .before .before .before .before .before .confirmed .given)
-    (λ c. c .before .before .before .before .before .before .before .before .before .before .before .before .before .before .before .before .before .work-checkpoints .given)
-    (λ c. c .before .before .before .before .before .before .before .before .before .before .before .before .before .before .before .work-frames .given)
-    (λ c. c .before .before .before .before .before .before .before .before .before .before .before .before .before .work-store .given)
-    (λ c. c .before .before .before .before .before .before .before .before .before .before .before .work-parts .given)
-    (λ c. c .before .before .before .before .before .before .before .before .before .work-malformed .given)
-    (λ c. c .before .before .before .before .before .before .before .work-hints .given)
-    (λ c. c .before .before .before .before .before .work-confirmed .given)
+    (λ c. let lent : tie.After-checkpoints = search in lent .checkpoints .given)
+    (λ c. let lent : tie.After-frames = search in lent .frames .given)
+    (λ c. let lent : tie.After-store = search in lent .store .given)
+    (λ c. let lent : tie.After-parts = search in lent .parts .given)
+    (λ c. let lent : tie.After-malformed = search in lent .malformed .given)
+    (λ c. let lent : tie.After-hints = search in lent .hints .given)
+    (λ c. let lent : tie.After-confirmed = search in lent .confirmed .given)
+    (λ c. let lent : tie.After-work-checkpoints = search in lent .work-checkpoints .given)
+    (λ c. let lent : tie.After-work-frames = search in lent .work-frames .given)
+    (λ c. let lent : tie.After-work-store = search in lent .work-store .given)
+    (λ c. let lent : tie.After-work-parts = search in lent .work-parts .given)
+    (λ c. let lent : tie.After-work-malformed = search in lent .work-malformed .given)
+    (λ c. let lent : tie.After-work-hints = search in lent .work-hints .given)
+    (λ c. let lent : tie.After-work-confirmed = search in lent .work-confirmed .given)
     returns-3)
