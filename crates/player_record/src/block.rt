@@ -84,7 +84,8 @@ pub fn image_given(mark: u8, image: u64) -> ImageId
 // ---- into blocks
 pub fn put_recorded(block: &mut [u8], recorded: Recorded) -> u32
     requires { ⌜ 192 ≤ length (now block) ⌝ }
-    ensures { λ r. ⌜ called r (now (block .exit)) ≡ into recorderWords (now (block .entry)) (recordedOf recorded) ⌝ }
+    ensures { λ r. ⌜ called r (now (block .exit))
+        ≡ into recorderWords (now (block .entry)) (recordedOf recorded) ⌝ }
 {
     match recorded {
         Recorded::Refused(n) => n,
@@ -97,7 +98,8 @@ pub fn put_recorded(block: &mut [u8], recorded: Recorded) -> u32
 
 pub fn put_seen(block: &mut [u8], seen: Seen) -> u32
     requires { ⌜ 192 ≤ length (now block) ⌝ }
-    ensures { λ r. ⌜ called r (now (block .exit)) ≡ into hintRecorderWords (now (block .entry)) (seenOf seen) ⌝ }
+    ensures { λ r. ⌜ called r (now (block .exit))
+        ≡ into hintRecorderWords (now (block .entry)) (seenOf seen) ⌝ }
 {
     match seen {
         Seen::Refused(n) => n,
@@ -127,7 +129,8 @@ pub fn put_saw(block: &mut [u8], saw: Saw) -> u32
 // Where there is no hint recorder, the words are 0.
 pub fn put_created(block: &mut [u8], created: Created) -> u32
     requires { ⌜ 192 ≤ length (now block) ⌝ }
-    ensures { λ r. ⌜ called r (now (block .exit)) ≡ into createdWords (now (block .entry)) (createdOf created) ⌝ }
+    ensures { λ r. ⌜ called r (now (block .exit))
+        ≡ into createdWords (now (block .entry)) (createdOf created) ⌝ }
 {
     match created {
         Created::Refused(n) => n,
@@ -192,7 +195,8 @@ pub fn made_number(made: Made) -> u32
 // Where there is no hint, the words are 0.
 pub fn put_hint(answer: &mut [u8], hinted: HintAnswer) -> u32
     requires { ⌜ 192 ≤ length (now answer) ⌝ }
-    ensures { λ r. ⌜ called r (now (answer .exit)) ≡ into hintWords (now (answer .entry)) (answerOf hinted) ⌝ }
+    ensures { λ r. ⌜ called r (now (answer .exit))
+        ≡ into hintWords (now (answer .entry)) (answerOf hinted) ⌝ }
 {
     match hinted {
         HintAnswer::Refused(n) => n,
@@ -211,7 +215,8 @@ pub fn put_hint(answer: &mut [u8], hinted: HintAnswer) -> u32
 pub fn put_taken(block: &mut [u8], answer: &mut [u8], taken: Taken) -> u32
     requires { ⌜ 192 ≤ length (now block) ⌝ }
     requires { ⌜ 192 ≤ length (now answer) ⌝ }
-    ensures { λ r. ⌜ calledBoth r (now (block .exit)) (now (answer .exit)) ≡ takenInto (now (block .entry)) (now (answer .entry)) taken ⌝ }
+    ensures { λ r. ⌜ calledBoth r (now (block .exit)) (now (answer .exit))
+        ≡ takenInto (now (block .entry)) (now (answer .entry)) taken ⌝ }
 {
     match taken {
         Taken::Refused(n) => n,
@@ -228,7 +233,8 @@ pub fn put_taken(block: &mut [u8], answer: &mut [u8], taken: Taken) -> u32
 pub fn put_kept(head: &mut [u8], answer: &mut [u8], kept: Kept) -> u32
     requires { ⌜ 192 ≤ length (now head) ⌝ }
     requires { ⌜ 192 ≤ length (now answer) ⌝ }
-    ensures { λ r. ⌜ calledBoth r (now (head .exit)) (now (answer .exit)) ≡ keptInto (now (head .entry)) (now (answer .entry)) kept ⌝ }
+    ensures { λ r. ⌜ calledBoth r (now (head .exit)) (now (answer .exit))
+        ≡ keptInto (now (head .entry)) (now (answer .entry)) kept ⌝ }
 {
     match kept {
         Kept::Refused(n) => n,
@@ -248,7 +254,8 @@ pub fn put_kept(head: &mut [u8], answer: &mut [u8], kept: Kept) -> u32
 pub fn put_absorbed(head: &mut [u8], block: &mut [u8], absorbed: Absorbed) -> u32
     requires { ⌜ 192 ≤ length (now head) ⌝ }
     requires { ⌜ 192 ≤ length (now block) ⌝ }
-    ensures { λ r. ⌜ calledBoth r (now (head .exit)) (now (block .exit)) ≡ absorbedInto (now (head .entry)) (now (block .entry)) absorbed ⌝ }
+    ensures { λ r. ⌜ calledBoth r (now (head .exit)) (now (block .exit))
+        ≡ absorbedInto (now (head .entry)) (now (block .entry)) absorbed ⌝ }
 {
     let number = absorbed.number;
     let x = absorbed.index;
@@ -300,7 +307,8 @@ fn lsn_words(lsn: u64) -> [u64; 24]
 // Where there is no such boundary, the words are 0.
 pub fn put_boundary(answer: &mut [u8], boundary: Boundary) -> u32
     requires { ⌜ 192 ≤ length (now answer) ⌝ }
-    ensures { λ r. ⌜ called r (now (answer .exit)) ≡ into boundaryWords (now (answer .entry)) (boundaryOf boundary) ⌝ }
+    ensures { λ r. ⌜ called r (now (answer .exit))
+        ≡ into boundaryWords (now (answer .entry)) (boundaryOf boundary) ⌝ }
 {
     match boundary {
         Boundary::Refused(n) => n,

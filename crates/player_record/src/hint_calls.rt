@@ -31,7 +31,10 @@ pub extern "C" fn seek_raw_hint_recorder(
     hints: &[u8],
     confirmed: &[u8],
 ) -> u32
-    ensures { λ r. ⌜ called r (now (block .exit)) ≡ hintRecorderCall (now (head .entry)) (now (block .entry)) (tables (now (checkpoints .entry)) (now (frames .entry)) (now (store .entry)) (now (parts .entry)) (now (malformed .entry)) (now (hints .entry)) (now (confirmed .entry))) ⌝ }
+    ensures { λ r. ⌜ called r (now (block .exit))
+        ≡ hintRecorderCall (now (head .entry)) (now (block .entry))
+        (tables (now (checkpoints .entry)) (now (frames .entry)) (now (store .entry)) (now (parts .entry))
+        (now (malformed .entry)) (now (hints .entry)) (now (confirmed .entry))) ⌝ }
 {
     if !is_index(head) {
         return 3;
@@ -56,7 +59,8 @@ pub extern "C" fn seek_raw_hint_recorder(
 // A sector seen at an LSN: words 7 to 10 of the block tell its first record.
 #[no_mangle]
 pub extern "C" fn seek_raw_see(block: &mut [u8], lsn: u64, sector: &[u8], list: &mut [u8]) -> u32
-    ensures { λ r. ⌜ calledList r (now (block .exit)) (now (list .exit)) ≡ seeCall (now (block .entry)) lsn (now (sector .entry)) (now (list .entry)) ⌝ }
+    ensures { λ r. ⌜ calledList r (now (block .exit)) (now (list .exit))
+        ≡ seeCall (now (block .entry)) lsn (now (sector .entry)) (now (list .entry)) ⌝ }
 {
     if !is_hint_recorder(block) {
         return 3;
@@ -69,7 +73,8 @@ pub extern "C" fn seek_raw_see(block: &mut [u8], lsn: u64, sector: &[u8], list: 
 // The tail listed.
 #[no_mangle]
 pub extern "C" fn seek_raw_flush(block: &mut [u8], list: &mut [u8]) -> u32
-    ensures { λ r. ⌜ calledList r (now (block .exit)) (now (list .exit)) ≡ flushCall (now (block .entry)) (now (list .entry)) ⌝ }
+    ensures { λ r. ⌜ calledList r (now (block .exit)) (now (list .exit))
+        ≡ flushCall (now (block .entry)) (now (list .entry)) ⌝ }
 {
     if !is_hint_recorder(block) {
         return 3;
@@ -82,7 +87,8 @@ pub extern "C" fn seek_raw_flush(block: &mut [u8], list: &mut [u8]) -> u32
 // The list taken: how many hints of its table is the answer's first word.
 #[no_mangle]
 pub extern "C" fn seek_raw_take(block: &mut [u8], answer: &mut [u8], list: &[u8]) -> u32
-    ensures { λ r. ⌜ calledBoth r (now (block .exit)) (now (answer .exit)) ≡ takeCall (now (block .entry)) (now (answer .entry)) (now (list .entry)) ⌝ }
+    ensures { λ r. ⌜ calledBoth r (now (block .exit)) (now (answer .exit))
+        ≡ takeCall (now (block .entry)) (now (answer .entry)) (now (list .entry)) ⌝ }
 {
     if !is_hint_recorder(block) {
         return 3;
@@ -111,7 +117,12 @@ pub extern "C" fn seek_raw_keep_confirmation(
     hints: &[u8],
     confirmed: &mut [u8],
 ) -> u32
-    ensures { λ r. ⌜ calledKept r (now (head .exit)) (now (answer .exit)) (tables (now (checkpoints .entry)) (now (frames .entry)) (now (store .entry)) (now (parts .entry)) (now (malformed .entry)) (now (hints .entry)) (now (confirmed .exit))) ≡ keepCall (now (head .entry)) (given lsn threshold digest) (now (answer .entry)) (tables (now (checkpoints .entry)) (now (frames .entry)) (now (store .entry)) (now (parts .entry)) (now (malformed .entry)) (now (hints .entry)) (now (confirmed .entry))) ⌝ }
+    ensures { λ r. ⌜ calledKept r (now (head .exit)) (now (answer .exit))
+        (tables (now (checkpoints .entry)) (now (frames .entry)) (now (store .entry)) (now (parts .entry))
+        (now (malformed .entry)) (now (hints .entry)) (now (confirmed .exit)))
+        ≡ keepCall (now (head .entry)) (given lsn threshold digest) (now (answer .entry))
+        (tables (now (checkpoints .entry)) (now (frames .entry)) (now (store .entry)) (now (parts .entry))
+        (now (malformed .entry)) (now (hints .entry)) (now (confirmed .entry))) ⌝ }
 {
     if !is_index(head) {
         return 3;
@@ -149,7 +160,12 @@ pub extern "C" fn seek_raw_keep_hint(
     hints: &mut [u8],
     confirmed: &[u8],
 ) -> u32
-    ensures { λ r. ⌜ calledTables r (tables (now (checkpoints .entry)) (now (frames .entry)) (now (store .entry)) (now (parts .entry)) (now (malformed .entry)) (now (hints .exit)) (now (confirmed .entry))) ≡ keepHintCall (now (head .entry)) lsn (tables (now (checkpoints .entry)) (now (frames .entry)) (now (store .entry)) (now (parts .entry)) (now (malformed .entry)) (now (hints .entry)) (now (confirmed .entry))) ⌝ }
+    ensures { λ r. ⌜ calledTables r
+        (tables (now (checkpoints .entry)) (now (frames .entry)) (now (store .entry)) (now (parts .entry))
+        (now (malformed .entry)) (now (hints .exit)) (now (confirmed .entry)))
+        ≡ keepHintCall (now (head .entry)) lsn
+        (tables (now (checkpoints .entry)) (now (frames .entry)) (now (store .entry)) (now (parts .entry))
+        (now (malformed .entry)) (now (hints .entry)) (now (confirmed .entry))) ⌝ }
 {
     if !is_index(head) {
         return 3;
@@ -185,7 +201,10 @@ pub extern "C" fn seek_raw_hint(
     hints: &[u8],
     confirmed: &[u8],
 ) -> u32
-    ensures { λ r. ⌜ called r (now (answer .exit)) ≡ hintCall (now (head .entry)) first end playtime (now (answer .entry)) (tables (now (checkpoints .entry)) (now (frames .entry)) (now (store .entry)) (now (parts .entry)) (now (malformed .entry)) (now (hints .entry)) (now (confirmed .entry))) ⌝ }
+    ensures { λ r. ⌜ called r (now (answer .exit))
+        ≡ hintCall (now (head .entry)) first end playtime (now (answer .entry))
+        (tables (now (checkpoints .entry)) (now (frames .entry)) (now (store .entry)) (now (parts .entry))
+        (now (malformed .entry)) (now (hints .entry)) (now (confirmed .entry))) ⌝ }
 {
     if !is_index(head) {
         return 3;

@@ -35,7 +35,10 @@ pub extern "C" fn seek_raw_recorder(
     hints: &[u8],
     confirmed: &[u8],
 ) -> u32
-    ensures { λ r. ⌜ called r (now (block .exit)) ≡ recorderCall (now (head .entry)) from (now (block .entry)) (tables (now (checkpoints .entry)) (now (frames .entry)) (now (store .entry)) (now (parts .entry)) (now (malformed .entry)) (now (hints .entry)) (now (confirmed .entry))) ⌝ }
+    ensures { λ r. ⌜ called r (now (block .exit))
+        ≡ recorderCall (now (head .entry)) from (now (block .entry))
+        (tables (now (checkpoints .entry)) (now (frames .entry)) (now (store .entry)) (now (parts .entry))
+        (now (malformed .entry)) (now (hints .entry)) (now (confirmed .entry))) ⌝ }
 {
     if !is_index(head) {
         return 3;
@@ -77,7 +80,13 @@ pub extern "C" fn seek_raw_record(
     store: &mut [u8],
     parts: &mut [u8],
 ) -> u32
-    ensures { λ r. ⌜ calledFour r (now (block .exit)) (recorderTables (now (checkpoints .exit)) (now (frames .exit)) (now (store .exit)) (now (parts .exit))) ≡ recordCall (now (block .entry)) lsn threshold malformed (frameFrom mark start number kind remaining) (now (bytes .entry)) (now (sector .entry)) (recorderTables (now (checkpoints .entry)) (now (frames .entry)) (now (store .entry)) (now (parts .entry))) ⌝ }
+    ensures { λ r. ⌜ calledFour r (now (block .exit))
+        (recorderTables (now (checkpoints .exit)) (now (frames .exit)) (now (store .exit))
+        (now (parts .exit)))
+        ≡ recordCall (now (block .entry)) lsn threshold malformed
+        (frameFrom mark start number kind remaining) (now (bytes .entry)) (now (sector .entry))
+        (recorderTables (now (checkpoints .entry)) (now (frames .entry)) (now (store .entry))
+        (now (parts .entry))) ⌝ }
 {
     if !is_recorder(block) {
         return 3;
@@ -111,7 +120,10 @@ pub extern "C" fn seek_raw_finish(
     store: &[u8],
     parts: &[u8],
 ) -> u32
-    ensures { λ r. ⌜ called r (now (block .exit)) ≡ finishCall (now (block .entry)) (endState threshold malformed) (recorderTables (now (checkpoints .entry)) (now (frames .entry)) (now (store .entry)) (now (parts .entry))) ⌝ }
+    ensures { λ r. ⌜ called r (now (block .exit))
+        ≡ finishCall (now (block .entry)) (endState threshold malformed)
+        (recorderTables (now (checkpoints .entry)) (now (frames .entry)) (now (store .entry))
+        (now (parts .entry))) ⌝ }
 {
     if !is_recorder(block) {
         return 3;
@@ -144,7 +156,8 @@ pub extern "C" fn seek_raw_due(block: &[u8], answer: &mut [u8]) -> u32
 // The LSN of a list's checkpoint by its number, from its head alone.
 #[no_mangle]
 pub extern "C" fn seek_raw_boundary(head: &[u8], number: u32, answer: &mut [u8]) -> u32
-    ensures { λ r. ⌜ called r (now (answer .exit)) ≡ boundaryCall (now (head .entry)) number (now (answer .entry)) ⌝ }
+    ensures { λ r. ⌜ called r (now (answer .exit))
+        ≡ boundaryCall (now (head .entry)) number (now (answer .entry)) ⌝ }
 {
     if !is_index(head) {
         return 3;
@@ -185,7 +198,14 @@ pub extern "C" fn seek_raw_absorb(
     new_store: &[u8],
     new_parts: &[u8],
 ) -> u32
-    ensures { λ r. ⌜ calledAbsorbed r (now (head .exit)) (now (block .exit)) (tables (now (checkpoints .exit)) (now (frames .exit)) (now (store .exit)) (now (parts .exit)) (now (malformed .exit)) (now (hints .entry)) (now (confirmed .entry))) ≡ absorbCall (now (head .entry)) (now (block .entry)) (imageFrom mark image) (now (given .entry)) (tables (now (checkpoints .entry)) (now (frames .entry)) (now (store .entry)) (now (parts .entry)) (now (malformed .entry)) (now (hints .entry)) (now (confirmed .entry))) (recorderTables (now («new_checkpoints» .entry)) (now («new_frames» .entry)) (now («new_store» .entry)) (now («new_parts» .entry))) ⌝ }
+    ensures { λ r. ⌜ calledAbsorbed r (now (head .exit)) (now (block .exit))
+        (tables (now (checkpoints .exit)) (now (frames .exit)) (now (store .exit)) (now (parts .exit))
+        (now (malformed .exit)) (now (hints .entry)) (now (confirmed .entry)))
+        ≡ absorbCall (now (head .entry)) (now (block .entry)) (imageFrom mark image) (now (given .entry))
+        (tables (now (checkpoints .entry)) (now (frames .entry)) (now (store .entry)) (now (parts .entry))
+        (now (malformed .entry)) (now (hints .entry)) (now (confirmed .entry)))
+        (recorderTables (now («new_checkpoints» .entry)) (now («new_frames» .entry))
+        (now («new_store» .entry)) (now («new_parts» .entry))) ⌝ }
 {
     if !is_index(head) {
         return 3;
