@@ -9,7 +9,7 @@ use Rattle.blocks.specs.IsHead.{isIndex, isRecorder}
 use Rattle.index.specs.Index.{Tables}
 use Rattle.recorder.specs.declared.Recorded.{Recorded}
 use Rattle.recorder.specs.Recorder.{RecorderTables, startedIn, finishedIn}
-use Rattle.recorder.specs.Record.{RecorderOut, recordIn}
+use Rattle.recorder.specs.Record.{recordIn}
 use Rattle.recorder.specs.Boundary.{dueAt, checkpointAt}
 use Rattle.absorb.specs.Absorb.{absorbIn}
 use Rattle.player.specs.Block.{Called, called, into, inBlock, inHead, headIndex, headRecorder}

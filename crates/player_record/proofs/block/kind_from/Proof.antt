@@ -1,6 +1,5 @@
 use borrow.Author.Tests.{eq-eqb, ne-eqb}
 use Rattle.player_record.specs.Block.{kindFrom}
-use borrow.Author.Needs.{needs}
 use Rattle.player_record.proofs.block.kind_from.Statement.{statement}
 use Rattle.player_record.proofs.block.kind_from.Tie as tie
 

@@ -1,6 +1,5 @@
 use borrow.Author.Tests.{le-leb, lt-leb}
 use Rattle.player_record.specs.Block.{numberFrom}
-use borrow.Author.Needs.{needs}
 use Rattle.player_record.proofs.block.number_from.Statement.{statement}
 use Rattle.player_record.proofs.block.number_from.Tie as tie
 
