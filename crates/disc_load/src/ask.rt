@@ -47,7 +47,10 @@ fn ask_body(
     confirmed: &[u8],
 ) -> Asked
     requires { ⌜ Inside (now bytes) place ⌝ }
-    ensures { λ r. ⌜ BodyDecision area (now (bytes .entry)) limit (tables (now (checkpoints .entry)) (now (frames .entry)) (now (store .entry)) (now (parts .entry)) (now (malformed .entry)) (now (hints .entry)) (now (confirmed .entry))) place r ⌝ }
+    ensures { λ r. ⌜ BodyDecision area (now (bytes .entry)) limit
+        (tables (now (checkpoints .entry)) (now (frames .entry)) (now (store .entry)) (now (parts .entry))
+        (now (malformed .entry)) (now (hints .entry)) (now (confirmed .entry)))
+        place r ⌝ }
 {
     match place {
         Place::Absent => Asked::Passed(Body::Absent),
@@ -112,7 +115,13 @@ fn decide_bodies(
     other_confirmed: &[u8],
 ) -> Decided
     requires { ⌜ Located area0 area1 (now bytes) first second ⌝ }
-    ensures { λ r. ⌜ Decision area0 area1 (now (bytes .entry)) limit (tables (now (checkpoints .entry)) (now (frames .entry)) (now (store .entry)) (now (parts .entry)) (now (malformed .entry)) (now (hints .entry)) (now (confirmed .entry))) (tables (now («other_checkpoints» .entry)) (now («other_frames» .entry)) (now («other_store» .entry)) (now («other_parts» .entry)) (now («other_malformed» .entry)) (now («other_hints» .entry)) (now («other_confirmed» .entry))) r ⌝ }
+    ensures { λ r. ⌜ Decision area0 area1 (now (bytes .entry)) limit
+        (tables (now (checkpoints .entry)) (now (frames .entry)) (now (store .entry)) (now (parts .entry))
+        (now (malformed .entry)) (now (hints .entry)) (now (confirmed .entry)))
+        (tables (now («other_checkpoints» .entry)) (now («other_frames» .entry))
+        (now («other_store» .entry)) (now («other_parts» .entry)) (now («other_malformed» .entry))
+        (now («other_hints» .entry)) (now («other_confirmed» .entry)))
+        r ⌝ }
 {
     let asked = ask_body(
         first,
@@ -164,7 +173,13 @@ pub fn decide(
     other_hints: &[u8],
     other_confirmed: &[u8],
 ) -> Decided
-    ensures { λ r. ⌜ Decision area0 area1 (now (bytes .entry)) limit (tables (now (checkpoints .entry)) (now (frames .entry)) (now (store .entry)) (now (parts .entry)) (now (malformed .entry)) (now (hints .entry)) (now (confirmed .entry))) (tables (now («other_checkpoints» .entry)) (now («other_frames» .entry)) (now («other_store» .entry)) (now («other_parts» .entry)) (now («other_malformed» .entry)) (now («other_hints» .entry)) (now («other_confirmed» .entry))) r ⌝ }
+    ensures { λ r. ⌜ Decision area0 area1 (now (bytes .entry)) limit
+        (tables (now (checkpoints .entry)) (now (frames .entry)) (now (store .entry)) (now (parts .entry))
+        (now (malformed .entry)) (now (hints .entry)) (now (confirmed .entry)))
+        (tables (now («other_checkpoints» .entry)) (now («other_frames» .entry))
+        (now («other_store» .entry)) (now («other_parts» .entry)) (now («other_malformed» .entry))
+        (now («other_hints» .entry)) (now («other_confirmed» .entry)))
+        r ⌝ }
 {
     if !areas_ok(area0, area1) {
         return Decided::Refused(1);

@@ -119,7 +119,8 @@ pub fn write_one(out: &mut [u8], e: Entry) -> usize
 // The contents table of two lists.
 pub fn write_two(out: &mut [u8], e: Entry, f: Entry) -> usize
     requires { ⌜ 28 ≤ length (now out) ⌝ }
-    ensures { λ r. ⌜ Put (encode 4 2 ++ (encodeEntry e ++ encodeEntry f)) 28 (now (out .entry)) 0 r (now (out .exit)) ⌝ }
+    ensures { λ r. ⌜ Put (encode 4 2 ++ (encodeEntry e ++ encodeEntry f)) 28 (now (out .entry)) 0 r
+        (now (out .exit)) ⌝ }
 {
     write_u32(out, 0, 2);
     let at = write_entry(out, 4, e);

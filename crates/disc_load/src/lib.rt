@@ -41,8 +41,16 @@ fn commit_body(
     hints: &mut [u8],
     confirmed: &mut [u8],
 ) -> Listed
-    requires { ⌜ Holds area (now bytes) limit (tables (now checkpoints) (now frames) (now store) (now parts) (now malformed) (now hints) (now confirmed)) body ⌝ }
-    ensures { λ r. ⌜ (r ≡ listedFrom (heldIn area (now (bytes .entry)) limit body)) × (tables (now (checkpoints .exit)) (now (frames .exit)) (now (store .exit)) (now (parts .exit)) (now (malformed .exit)) (now (hints .exit)) (now (confirmed .exit)) ≡ tablesWith (heldIn area (now (bytes .entry)) limit body) (tables (now (checkpoints .entry)) (now (frames .entry)) (now (store .entry)) (now (parts .entry)) (now (malformed .entry)) (now (hints .entry)) (now (confirmed .entry)))) ⌝ }
+    requires { ⌜ Holds area (now bytes) limit
+        (tables (now checkpoints) (now frames) (now store) (now parts) (now malformed) (now hints)
+        (now confirmed))
+        body ⌝ }
+    ensures { λ r. ⌜ (r ≡ listedFrom (heldIn area (now (bytes .entry)) limit body))
+        × (tables (now (checkpoints .exit)) (now (frames .exit)) (now (store .exit)) (now (parts .exit))
+        (now (malformed .exit)) (now (hints .exit)) (now (confirmed .exit))
+        ≡ tablesWith (heldIn area (now (bytes .entry)) limit body)
+        (tables (now (checkpoints .entry)) (now (frames .entry)) (now (store .entry)) (now (parts .entry))
+        (now (malformed .entry)) (now (hints .entry)) (now (confirmed .entry)))) ⌝ }
 {
     match body {
         Body::Absent => Listed::Absent,
@@ -89,7 +97,18 @@ pub fn from_disc(
     other_hints: &mut [u8],
     other_confirmed: &mut [u8],
 ) -> Loaded
-    ensures { λ r. ⌜ discOut r (tables (now (checkpoints .exit)) (now (frames .exit)) (now (store .exit)) (now (parts .exit)) (now (malformed .exit)) (now (hints .exit)) (now (confirmed .exit))) (tables (now («other_checkpoints» .exit)) (now («other_frames» .exit)) (now («other_store» .exit)) (now («other_parts» .exit)) (now («other_malformed» .exit)) (now («other_hints» .exit)) (now («other_confirmed» .exit))) ≡ loadDiscIn area0 area1 (now (bytes .entry)) limit (tables (now (checkpoints .entry)) (now (frames .entry)) (now (store .entry)) (now (parts .entry)) (now (malformed .entry)) (now (hints .entry)) (now (confirmed .entry))) (tables (now («other_checkpoints» .entry)) (now («other_frames» .entry)) (now («other_store» .entry)) (now («other_parts» .entry)) (now («other_malformed» .entry)) (now («other_hints» .entry)) (now («other_confirmed» .entry))) ⌝ }
+    ensures { λ r. ⌜ discOut r
+        (tables (now (checkpoints .exit)) (now (frames .exit)) (now (store .exit)) (now (parts .exit))
+        (now (malformed .exit)) (now (hints .exit)) (now (confirmed .exit)))
+        (tables (now («other_checkpoints» .exit)) (now («other_frames» .exit)) (now («other_store» .exit))
+        (now («other_parts» .exit)) (now («other_malformed» .exit)) (now («other_hints» .exit))
+        (now («other_confirmed» .exit)))
+        ≡ loadDiscIn area0 area1 (now (bytes .entry)) limit
+        (tables (now (checkpoints .entry)) (now (frames .entry)) (now (store .entry)) (now (parts .entry))
+        (now (malformed .entry)) (now (hints .entry)) (now (confirmed .entry)))
+        (tables (now («other_checkpoints» .entry)) (now («other_frames» .entry))
+        (now («other_store» .entry)) (now («other_parts» .entry)) (now («other_malformed» .entry))
+        (now («other_hints» .entry)) (now («other_confirmed» .entry))) ⌝ }
 {
     let decided = decide(
         area0,
