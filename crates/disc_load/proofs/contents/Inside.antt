@@ -1,6 +1,6 @@
 -- The bodies of a right contents table lie inside the file. Assumes nothing.
-use mathlib.Core.Path.{_≡_, refl, sym, ap, _∙_}
-use mathlib.Core.Bool.{Bool, true, false, cond}
+use mathlib.Core.Path.{_≡_, refl}
+use mathlib.Core.Bool.{true, false}
 use mathlib.Core.List.{List, [], _∷_}
 use mathlib.Core.Option.{Option, none, some}
 use Prim.Native.Nat.{ℕ, _+_, _≤_}
@@ -11,10 +11,8 @@ use lib.ListN.{length}
 use Rattle.rules.proofs.Tests.{test, all→}
 use Rattle.rules_disc.specs.declared.Entry.{Entry}
 use Rattle.rules_disc.specs.Disc.{laid, contentsOk, entriesIn, entryOf, countIn, tableSize}
-use Rattle.disc_load.specs.declared.contents.Contents.{Contents}
 use Rattle.disc_load.specs.declared.contents.Contents.the-variants.{Broken, Lists}
 use Rattle.disc_load.specs.declared.contents.Place.{Place}
-use Rattle.disc_load.specs.declared.contents.Place.the-variants.{Absent, At}
 use Rattle.disc_load.specs.Contents.{placeFrom, entryIn, contentsFrom, contentsIn}
 use Rattle.disc_load.specs.Inside.{Inside, Locates}
 
@@ -27,7 +25,7 @@ laid→ : (size s at : ℕ) (e : Entry) (es : List Entry) → laid size s at (e 
 unfolding laid
 laid→ size s at e es h = let g = all→ _ h in record { here = eqb-true (e .offset) at (g .1 .1 .0); rest = g .1 .1 .1 .0 }
 
-none-laid : (size s at : ℕ) → laid size s at [] ≡ true → at ≡ size
+pub none-laid : (size s at : ℕ) → laid size s at [] ≡ true → at ≡ size
 unfolding laid
 none-laid size s at h = eqb-true at size h
 

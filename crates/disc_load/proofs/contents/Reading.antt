@@ -1,10 +1,9 @@
 -- The contents table by its count. Assumes nothing.
 use mathlib.Core.Path.{_≡_, refl, sym, ap, _∙_}
-use mathlib.Core.Bool.{Bool, true, false, cond, and-true}
+use mathlib.Core.Bool.{Bool, true, false, and-true}
 use mathlib.Core.Logic.{_≢_}
-use mathlib.Core.List.{List, [], _∷_, _++_}
-use mathlib.Core.Option.{Option, none, some}
-use Prim.Native.Nat.{ℕ, _+_, _*_, _≤_, _<_}
+use mathlib.Core.List.{List, [], _∷_}
+use Prim.Native.Nat.{ℕ, _+_, _≤_, _<_}
 use native.Mathlib.Nat.{add-zero}
 use native.Mathlib.Omega.{arith}
 use borrow.Author.Tests.{leb-true, le-leb, eq-eqb, ne-eqb}
@@ -14,12 +13,11 @@ use Rattle.field.specs.Number.{encode, numberAt, put}
 use Rattle.field.specs.Records.{records}
 use Rattle.field.proofs.Number.{number-part}
 use Rattle.rules.specs.Tests.{all}
-use Rattle.rules.proofs.Tests.{test, never, all→}
+use Rattle.rules.proofs.Tests.{test, all→}
 use Rattle.rules_disc.specs.declared.Entry.{Entry}
-use Rattle.rules_disc.specs.Disc.{entry, encodeEntry, decodeEntry, laid, contentsOk, countIn, entriesIn, entryOf, tableSize}
+use Rattle.rules_disc.specs.Disc.{entry, encodeEntry, decodeEntry, laid, contentsOk, countIn, entryOf, tableSize}
 use Rattle.save.specs.Output.{Put}
 use Rattle.save.proofs.output.Stretches.{put-both, put-one}
-use Rattle.disc_load.specs.declared.contents.Contents.{Contents}
 use Rattle.disc_load.specs.declared.contents.Contents.the-variants.{Broken, Lists}
 use Rattle.disc_load.specs.declared.contents.Place.{Place}
 use Rattle.disc_load.specs.declared.contents.Place.the-variants.{Absent, At}

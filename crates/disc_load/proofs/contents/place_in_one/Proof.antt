@@ -1,6 +1,5 @@
 use mathlib.Core.List.{[]}
 use Rattle.disc_load.proofs.contents.Reading.{place-here, place-none}
-use borrow.Author.Needs.{needs}
 use Rattle.disc_load.proofs.contents.place_in_one.Statement.{statement}
 use Rattle.disc_load.proofs.contents.place_in_one.Tie as tie
 

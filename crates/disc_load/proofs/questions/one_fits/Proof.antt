@@ -1,5 +1,4 @@
 use Rattle.disc_load.proofs.questions.Entries.{one-listed}
-use borrow.Author.Needs.{needs}
 use Rattle.disc_load.proofs.questions.one_fits.Statement.{statement}
 use Rattle.disc_load.proofs.questions.one_fits.Tie as tie
 
