@@ -45,8 +45,23 @@ fn put_list(
     hints: &[u8],
     confirmed: &[u8],
 ) -> usize
-    requires { ⌜ (refusal x (tables (now checkpoints) (now frames) (now store) (now parts) (now malformed) (now hints) (now confirmed)) ≡ 0) × (len ≡ savedLength (indexIn x (tables (now checkpoints) (now frames) (now store) (now parts) (now malformed) (now hints) (now confirmed)))) × (at + len ≤ length (now out)) ⌝ }
-    ensures { λ r. ⌜ Put (saved (indexIn x (tables (now (checkpoints .entry)) (now (frames .entry)) (now (store .entry)) (now (parts .entry)) (now (malformed .entry)) (now (hints .entry)) (now (confirmed .entry))))) len (now (out .entry)) at r (now (out .exit)) ⌝ }
+    requires { ⌜
+        (refusal x
+        (tables (now checkpoints) (now frames) (now store) (now parts) (now malformed) (now hints)
+        (now confirmed))
+        ≡ 0)
+        × (len
+        ≡ savedLength
+        (indexIn x
+        (tables (now checkpoints) (now frames) (now store) (now parts) (now malformed) (now hints)
+        (now confirmed))))
+        × (at + len ≤ length (now out)) ⌝ }
+    ensures { λ r. ⌜ Put
+        (saved
+        (indexIn x
+        (tables (now (checkpoints .entry)) (now (frames .entry)) (now (store .entry)) (now (parts .entry))
+        (now (malformed .entry)) (now (hints .entry)) (now (confirmed .entry)))))
+        len (now (out .entry)) at r (now (out .exit)) ⌝ }
 {
     let to = at + len as usize;
     let _saved = to_bytes(
@@ -76,8 +91,17 @@ fn write_list(
     confirmed: &[u8],
     out: &mut [u8],
 ) -> Saved
-    requires { ⌜ refusal x (tables (now checkpoints) (now frames) (now store) (now parts) (now malformed) (now hints) (now confirmed)) ≡ 0 ⌝ }
-    ensures { λ r. ⌜ made r (now (out .exit)) ≡ savedAs (indexIn x (tables (now (checkpoints .entry)) (now (frames .entry)) (now (store .entry)) (now (parts .entry)) (now (malformed .entry)) (now (hints .entry)) (now (confirmed .entry))) ∷ []) (now (out .entry)) ⌝ }
+    requires { ⌜ refusal x
+        (tables (now checkpoints) (now frames) (now store) (now parts) (now malformed) (now hints)
+        (now confirmed))
+        ≡ 0 ⌝ }
+    ensures { λ r. ⌜ made r (now (out .exit))
+        ≡ savedAs
+        (indexIn x
+        (tables (now (checkpoints .entry)) (now (frames .entry)) (now (store .entry)) (now (parts .entry))
+        (now (malformed .entry)) (now (hints .entry)) (now (confirmed .entry)))
+        ∷ [])
+        (now (out .entry)) ⌝ }
 {
     let slot = slot_of(x);
     let m = saved_length(x, frames);
@@ -117,7 +141,11 @@ pub fn save_one(
     confirmed: &[u8],
     out: &mut [u8],
 ) -> Saved
-    ensures { λ r. ⌜ made r (now (out .exit)) ≡ saveOneIn x (tables (now (checkpoints .entry)) (now (frames .entry)) (now (store .entry)) (now (parts .entry)) (now (malformed .entry)) (now (hints .entry)) (now (confirmed .entry))) (now (out .entry)) ⌝ }
+    ensures { λ r. ⌜ made r (now (out .exit))
+        ≡ saveOneIn x
+        (tables (now (checkpoints .entry)) (now (frames .entry)) (now (store .entry)) (now (parts .entry))
+        (now (malformed .entry)) (now (hints .entry)) (now (confirmed .entry)))
+        (now (out .entry)) ⌝ }
 {
     let number = refuses(
         x,
@@ -185,8 +213,26 @@ fn write_lists(
     other_confirmed: &[u8],
     out: &mut [u8],
 ) -> Saved
-    requires { ⌜ (refusal x (tables (now checkpoints) (now frames) (now store) (now parts) (now malformed) (now hints) (now confirmed)) ≡ 0) × (refusal y (tables (now «other_checkpoints») (now «other_frames») (now «other_store») (now «other_parts») (now «other_malformed») (now «other_hints») (now «other_confirmed»)) ≡ 0) ⌝ }
-    ensures { λ r. ⌜ made r (now (out .exit)) ≡ savedAs (indexIn x (tables (now (checkpoints .entry)) (now (frames .entry)) (now (store .entry)) (now (parts .entry)) (now (malformed .entry)) (now (hints .entry)) (now (confirmed .entry))) ∷ indexIn y (tables (now («other_checkpoints» .entry)) (now («other_frames» .entry)) (now («other_store» .entry)) (now («other_parts» .entry)) (now («other_malformed» .entry)) (now («other_hints» .entry)) (now («other_confirmed» .entry))) ∷ []) (now (out .entry)) ⌝ }
+    requires { ⌜
+        (refusal x
+        (tables (now checkpoints) (now frames) (now store) (now parts) (now malformed) (now hints)
+        (now confirmed))
+        ≡ 0)
+        × (refusal y
+        (tables (now «other_checkpoints») (now «other_frames») (now «other_store») (now «other_parts»)
+        (now «other_malformed») (now «other_hints») (now «other_confirmed»))
+        ≡ 0) ⌝ }
+    ensures { λ r. ⌜ made r (now (out .exit))
+        ≡ savedAs
+        (indexIn x
+        (tables (now (checkpoints .entry)) (now (frames .entry)) (now (store .entry)) (now (parts .entry))
+        (now (malformed .entry)) (now (hints .entry)) (now (confirmed .entry)))
+        ∷ indexIn y
+        (tables (now («other_checkpoints» .entry)) (now («other_frames» .entry))
+        (now («other_store» .entry)) (now («other_parts» .entry)) (now («other_malformed» .entry))
+        (now («other_hints» .entry)) (now («other_confirmed» .entry)))
+        ∷ [])
+        (now (out .entry)) ⌝ }
 {
     let slot = slot_of(x);
     let next = slot_of(y);
@@ -248,7 +294,15 @@ pub fn ask_both(
     other_hints: &[u8],
     other_confirmed: &[u8],
 ) -> u32
-    ensures { λ r. ⌜ r ≡ lowest (refusal x (tables (now (checkpoints .entry)) (now (frames .entry)) (now (store .entry)) (now (parts .entry)) (now (malformed .entry)) (now (hints .entry)) (now (confirmed .entry)))) (refusal y (tables (now («other_checkpoints» .entry)) (now («other_frames» .entry)) (now («other_store» .entry)) (now («other_parts» .entry)) (now («other_malformed» .entry)) (now («other_hints» .entry)) (now («other_confirmed» .entry)))) ⌝ }
+    ensures { λ r. ⌜ r
+        ≡ lowest
+        (refusal x
+        (tables (now (checkpoints .entry)) (now (frames .entry)) (now (store .entry)) (now (parts .entry))
+        (now (malformed .entry)) (now (hints .entry)) (now (confirmed .entry))))
+        (refusal y
+        (tables (now («other_checkpoints» .entry)) (now («other_frames» .entry))
+        (now («other_store» .entry)) (now («other_parts» .entry)) (now («other_malformed» .entry))
+        (now («other_hints» .entry)) (now («other_confirmed» .entry)))) ⌝ }
 {
     let own = refuses(
         x,
@@ -293,8 +347,26 @@ fn write_by_slot(
     other_confirmed: &[u8],
     out: &mut [u8],
 ) -> Saved
-    requires { ⌜ (refusal x (tables (now checkpoints) (now frames) (now store) (now parts) (now malformed) (now hints) (now confirmed)) ≡ 0) × (refusal y (tables (now «other_checkpoints») (now «other_frames») (now «other_store») (now «other_parts») (now «other_malformed») (now «other_hints») (now «other_confirmed»)) ≡ 0) ⌝ }
-    ensures { λ r. ⌜ made r (now (out .exit)) ≡ savedAs (bySlot (indexIn x (tables (now (checkpoints .entry)) (now (frames .entry)) (now (store .entry)) (now (parts .entry)) (now (malformed .entry)) (now (hints .entry)) (now (confirmed .entry)))) (indexIn y (tables (now («other_checkpoints» .entry)) (now («other_frames» .entry)) (now («other_store» .entry)) (now («other_parts» .entry)) (now («other_malformed» .entry)) (now («other_hints» .entry)) (now («other_confirmed» .entry))))) (now (out .entry)) ⌝ }
+    requires { ⌜
+        (refusal x
+        (tables (now checkpoints) (now frames) (now store) (now parts) (now malformed) (now hints)
+        (now confirmed))
+        ≡ 0)
+        × (refusal y
+        (tables (now «other_checkpoints») (now «other_frames») (now «other_store») (now «other_parts»)
+        (now «other_malformed») (now «other_hints») (now «other_confirmed»))
+        ≡ 0) ⌝ }
+    ensures { λ r. ⌜ made r (now (out .exit))
+        ≡ savedAs
+        (bySlot
+        (indexIn x
+        (tables (now (checkpoints .entry)) (now (frames .entry)) (now (store .entry)) (now (parts .entry))
+        (now (malformed .entry)) (now (hints .entry)) (now (confirmed .entry))))
+        (indexIn y
+        (tables (now («other_checkpoints» .entry)) (now («other_frames» .entry))
+        (now («other_store» .entry)) (now («other_parts» .entry)) (now («other_malformed» .entry))
+        (now («other_hints» .entry)) (now («other_confirmed» .entry)))))
+        (now (out .entry)) ⌝ }
 {
     if stands_first(x, y) {
         return write_lists(
@@ -358,7 +430,15 @@ pub fn save_both(
     other_confirmed: &[u8],
     out: &mut [u8],
 ) -> Saved
-    ensures { λ r. ⌜ made r (now (out .exit)) ≡ saveBothIn x (tables (now (checkpoints .entry)) (now (frames .entry)) (now (store .entry)) (now (parts .entry)) (now (malformed .entry)) (now (hints .entry)) (now (confirmed .entry))) y (tables (now («other_checkpoints» .entry)) (now («other_frames» .entry)) (now («other_store» .entry)) (now («other_parts» .entry)) (now («other_malformed» .entry)) (now («other_hints» .entry)) (now («other_confirmed» .entry))) (now (out .entry)) ⌝ }
+    ensures { λ r. ⌜ made r (now (out .exit))
+        ≡ saveBothIn x
+        (tables (now (checkpoints .entry)) (now (frames .entry)) (now (store .entry)) (now (parts .entry))
+        (now (malformed .entry)) (now (hints .entry)) (now (confirmed .entry)))
+        y
+        (tables (now («other_checkpoints» .entry)) (now («other_frames» .entry))
+        (now («other_store» .entry)) (now («other_parts» .entry)) (now («other_malformed» .entry))
+        (now («other_hints» .entry)) (now («other_confirmed» .entry)))
+        (now (out .entry)) ⌝ }
 {
     let number = ask_both(
         x,
