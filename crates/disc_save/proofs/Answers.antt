@@ -1,21 +1,20 @@
 -- What saving a disc file answers. Assumes nothing.
-use mathlib.Core.Path.{_≡_, refl, sym, ap, _∙_}
-use mathlib.Core.Bool.{Bool, true, false, _&&_, cond}
+use mathlib.Core.Path.{_≡_, refl, sym, _∙_}
+use mathlib.Core.Bool.{Bool, true, false, _&&_}
 use mathlib.Core.List.{List, [], _∷_}
 use Prim.Native.Nat.{ℕ, _+_, _≤_, _<_}
-use native.Mathlib.Nat.{add-zero}
 use native.Mathlib.Omega.{arith}
 use borrow.Author.Tests.{leb-true, le-leb, lt-leb, lt-ltb, le-ltb, ne-eqb, eq-eqb}
-use lib.Dec.{leb, ltb}
+use lib.Dec.{leb}
 use lib.ListN.{length}
 use Rattle.rules.specs.declared.AreaIndex.{AreaIndex}
-use Rattle.rules.specs.Tests.{all, each, Ask, ask, firstNo, Answer, Refused, Accepted, after}
-use Rattle.rules.specs.Questions.{Four, both, fourOf, askFour}
+use Rattle.rules.specs.Tests.{each, Ask, ask, firstNo, Refused, Accepted, after}
+use Rattle.rules.specs.Questions.{both, fourOf, askFour}
 use Rattle.rules.specs.Values.{Index, max32}
-use Rattle.rules.specs.File.{savedLength, over}
-use Rattle.rules.proofs.Tests.{test, all→}
+use Rattle.rules.specs.File.{savedLength}
+use Rattle.rules.proofs.Tests.{all→}
 use Rattle.rules_disc.specs.Disc.{entry, slotOf, contentsOf, entriesFrom, listed, bodiesLength, discLength, discBytes, saveLists, saveOne, bySlot, saveBoth}
-use Rattle.index.specs.Index.{Tables, roomOf, indexIn, kindsIn, kindedNumber, kinded, refusal}
+use Rattle.index.specs.Index.{Tables, roomOf, indexIn, kindsIn, kindedNumber, refusal}
 use Rattle.index.specs.Lowest.{lowest}
 use Rattle.index.proofs.Four.{Later, kinded-more, kinded-index, lowest-both}
 use Rattle.merge.proofs.questions.Refusal.{lowest-zero}
