@@ -146,7 +146,8 @@ fn slot_words(s: TableSizes, first: u64, t: TableSizes, second: u64) -> [u64; 24
 
 pub fn put_disc_sizes(answer: &mut [u8], sized: DiscSized) -> u32
     requires { ⌜ 192 ≤ length (now answer) ⌝ }
-    ensures { λ r. ⌜ called r (now (answer .exit)) ≡ into discSizeWords (now (answer .entry)) (discSizedOf sized) ⌝ }
+    ensures { λ r. ⌜ called r (now (answer .exit))
+        ≡ into discSizeWords (now (answer .entry)) (discSizedOf sized) ⌝ }
 {
     match sized {
         DiscSized::Refused(n) => n,
@@ -211,7 +212,8 @@ pub fn put_loaded(head: &mut [u8], other: &mut [u8], answer: &mut [u8], loaded: 
     requires { ⌜ 192 ≤ length (now head) ⌝ }
     requires { ⌜ 192 ≤ length (now other) ⌝ }
     requires { ⌜ 192 ≤ length (now answer) ⌝ }
-    ensures { λ r. ⌜ calledLists r (now (head .exit)) (now (other .exit)) (now (answer .exit)) ≡ loadedInto (now (head .entry)) (now (other .entry)) (now (answer .entry)) loaded ⌝ }
+    ensures { λ r. ⌜ calledLists r (now (head .exit)) (now (other .exit)) (now (answer .exit))
+        ≡ loadedInto (now (head .entry)) (now (other .entry)) (now (answer .entry)) loaded ⌝ }
 {
     match loaded {
         Loaded::Refused(n) => n,

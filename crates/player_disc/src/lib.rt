@@ -19,7 +19,8 @@ ghost use Rattle.player_disc.specs.Calls.{discContentsCall, discSizesCal
 // Whether there is a list of each slot, and where its file lies.
 #[no_mangle]
 pub extern "C" fn seek_raw_disc_contents(file: &[u8], answer: &mut [u8]) -> u32
-    ensures { λ r. ⌜ called r (now (answer .exit)) ≡ discContentsCall (now (answer .entry)) (now (file .entry)) ⌝ }
+    ensures { λ r. ⌜ called r (now (answer .exit))
+        ≡ discContentsCall (now (answer .entry)) (now (file .entry)) ⌝ }
 {
     if answer.len() < HEAD_BYTES {
         return 3;
@@ -49,7 +50,11 @@ pub extern "C" fn seek_raw_disc_sizes(
     limit: u64,
     answer: &mut [u8],
 ) -> u32
-    ensures { λ r. ⌜ called r (now (answer .exit)) ≡ discSizesCall (now (answer .entry)) (areaFrom slot0 channels0 «key_start0» «key_end0» sectors0 start0 end0) (areaFrom slot1 channels1 «key_start1» «key_end1» sectors1 start1 end1) (now (file .entry)) limit ⌝ }
+    ensures { λ r. ⌜ called r (now (answer .exit))
+        ≡ discSizesCall (now (answer .entry))
+        (areaFrom slot0 channels0 «key_start0» «key_end0» sectors0 start0 end0)
+        (areaFrom slot1 channels1 «key_start1» «key_end1» sectors1 start1 end1) (now (file .entry)) limit
+        ⌝ }
 {
     if answer.len() < HEAD_BYTES {
         return 3;
@@ -114,7 +119,21 @@ pub extern "C" fn seek_raw_disc_load(
     other_hints: &mut [u8],
     other_confirmed: &mut [u8],
 ) -> u32
-    ensures { λ r. ⌜ calledDisc (calledLists r (now (head .exit)) (now (other .exit)) (now (answer .exit))) (tables (now (checkpoints .exit)) (now (frames .exit)) (now (store .exit)) (now (parts .exit)) (now (malformed .exit)) (now (hints .exit)) (now (confirmed .exit))) (tables (now («other_checkpoints» .exit)) (now («other_frames» .exit)) (now («other_store» .exit)) (now («other_parts» .exit)) (now («other_malformed» .exit)) (now («other_hints» .exit)) (now («other_confirmed» .exit))) ≡ discLoadCallAs role (now (head .entry)) (now (other .entry)) (areaFrom slot0 channels0 «key_start0» «key_end0» sectors0 start0 end0) (areaFrom slot1 channels1 «key_start1» «key_end1» sectors1 start1 end1) (now (file .entry)) limit (now (answer .entry)) (tables (now (checkpoints .entry)) (now (frames .entry)) (now (store .entry)) (now (parts .entry)) (now (malformed .entry)) (now (hints .entry)) (now (confirmed .entry))) (tables (now («other_checkpoints» .entry)) (now («other_frames» .entry)) (now («other_store» .entry)) (now («other_parts» .entry)) (now («other_malformed» .entry)) (now («other_hints» .entry)) (now («other_confirmed» .entry))) ⌝ }
+    ensures { λ r. ⌜ calledDisc (calledLists r (now (head .exit)) (now (other .exit)) (now (answer .exit)))
+        (tables (now (checkpoints .exit)) (now (frames .exit)) (now (store .exit)) (now (parts .exit))
+        (now (malformed .exit)) (now (hints .exit)) (now (confirmed .exit)))
+        (tables (now («other_checkpoints» .exit)) (now («other_frames» .exit)) (now («other_store» .exit))
+        (now («other_parts» .exit)) (now («other_malformed» .exit)) (now («other_hints» .exit))
+        (now («other_confirmed» .exit)))
+        ≡ discLoadCallAs role (now (head .entry)) (now (other .entry))
+        (areaFrom slot0 channels0 «key_start0» «key_end0» sectors0 start0 end0)
+        (areaFrom slot1 channels1 «key_start1» «key_end1» sectors1 start1 end1) (now (file .entry)) limit
+        (now (answer .entry))
+        (tables (now (checkpoints .entry)) (now (frames .entry)) (now (store .entry)) (now (parts .entry))
+        (now (malformed .entry)) (now (hints .entry)) (now (confirmed .entry)))
+        (tables (now («other_checkpoints» .entry)) (now («other_frames» .entry))
+        (now («other_store» .entry)) (now («other_parts» .entry)) (now («other_malformed» .entry))
+        (now («other_hints» .entry)) (now («other_confirmed» .entry))) ⌝ }
 {
     if role != 2 {
         return 52;
@@ -182,7 +201,10 @@ pub extern "C" fn seek_raw_disc_saved_length(
     hints: &[u8],
     confirmed: &[u8],
 ) -> u64
-    ensures { λ r. ⌜ r ≡ discLengthCall (now (head .entry)) (tables (now (checkpoints .entry)) (now (frames .entry)) (now (store .entry)) (now (parts .entry)) (now (malformed .entry)) (now (hints .entry)) (now (confirmed .entry))) ⌝ }
+    ensures { λ r. ⌜ r
+        ≡ discLengthCall (now (head .entry))
+        (tables (now (checkpoints .entry)) (now (frames .entry)) (now (store .entry)) (now (parts .entry))
+        (now (malformed .entry)) (now (hints .entry)) (now (confirmed .entry))) ⌝ }
 {
     if !is_index(head) {
         return 3;
@@ -220,7 +242,13 @@ pub extern "C" fn seek_raw_disc_saved_length_both(
     other_hints: &[u8],
     other_confirmed: &[u8],
 ) -> u64
-    ensures { λ r. ⌜ r ≡ discLengthBothCall (now (head .entry)) (now (other .entry)) (tables (now (checkpoints .entry)) (now (frames .entry)) (now (store .entry)) (now (parts .entry)) (now (malformed .entry)) (now (hints .entry)) (now (confirmed .entry))) (tables (now («other_checkpoints» .entry)) (now («other_frames» .entry)) (now («other_store» .entry)) (now («other_parts» .entry)) (now («other_malformed» .entry)) (now («other_hints» .entry)) (now («other_confirmed» .entry))) ⌝ }
+    ensures { λ r. ⌜ r
+        ≡ discLengthBothCall (now (head .entry)) (now (other .entry))
+        (tables (now (checkpoints .entry)) (now (frames .entry)) (now (store .entry)) (now (parts .entry))
+        (now (malformed .entry)) (now (hints .entry)) (now (confirmed .entry)))
+        (tables (now («other_checkpoints» .entry)) (now («other_frames» .entry))
+        (now («other_store» .entry)) (now («other_parts» .entry)) (now («other_malformed» .entry))
+        (now («other_hints» .entry)) (now («other_confirmed» .entry))) ⌝ }
 {
     if !is_index(head) {
         return 3;
@@ -264,7 +292,11 @@ pub extern "C" fn seek_raw_disc_save(
     confirmed: &[u8],
     out: &mut [u8],
 ) -> u64
-    ensures { λ r. ⌜ called r (now (out .exit)) ≡ discSaveCallAs role (now (head .entry)) (tables (now (checkpoints .entry)) (now (frames .entry)) (now (store .entry)) (now (parts .entry)) (now (malformed .entry)) (now (hints .entry)) (now (confirmed .entry))) (now (out .entry)) ⌝ }
+    ensures { λ r. ⌜ called r (now (out .exit))
+        ≡ discSaveCallAs role (now (head .entry))
+        (tables (now (checkpoints .entry)) (now (frames .entry)) (now (store .entry)) (now (parts .entry))
+        (now (malformed .entry)) (now (hints .entry)) (now (confirmed .entry)))
+        (now (out .entry)) ⌝ }
 {
     if role != 2 {
         return 52;
@@ -309,7 +341,14 @@ pub extern "C" fn seek_raw_disc_save_both(
     other_confirmed: &[u8],
     out: &mut [u8],
 ) -> u64
-    ensures { λ r. ⌜ called r (now (out .exit)) ≡ discSaveBothCallAs role (now (head .entry)) (now (other .entry)) (tables (now (checkpoints .entry)) (now (frames .entry)) (now (store .entry)) (now (parts .entry)) (now (malformed .entry)) (now (hints .entry)) (now (confirmed .entry))) (tables (now («other_checkpoints» .entry)) (now («other_frames» .entry)) (now («other_store» .entry)) (now («other_parts» .entry)) (now («other_malformed» .entry)) (now («other_hints» .entry)) (now («other_confirmed» .entry))) (now (out .entry)) ⌝ }
+    ensures { λ r. ⌜ called r (now (out .exit))
+        ≡ discSaveBothCallAs role (now (head .entry)) (now (other .entry))
+        (tables (now (checkpoints .entry)) (now (frames .entry)) (now (store .entry)) (now (parts .entry))
+        (now (malformed .entry)) (now (hints .entry)) (now (confirmed .entry)))
+        (tables (now («other_checkpoints» .entry)) (now («other_frames» .entry))
+        (now («other_store» .entry)) (now («other_parts» .entry)) (now («other_malformed» .entry))
+        (now («other_hints» .entry)) (now («other_confirmed» .entry)))
+        (now (out .entry)) ⌝ }
 {
     if role != 2 {
         return 52;
