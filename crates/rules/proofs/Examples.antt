@@ -5,14 +5,14 @@ use Rattle.field.specs.Number.{encode, decode, numberAt, put, sameBytes}
 use Rattle.field.specs.Records.{bytesOf}
 use Rattle.fnv.specs.Fnv.{fnvFrom}
 use Rattle.rules.specs.Create.{new, bindFingerprint, recorder, hintRecorder}
-use Rattle.rules.specs.HintRecorderExamples.{tailNumbers, seenNumbers, takenNumbers, spacingNumbers, firstRecords, hintRecorders}
-use Rattle.rules.specs.RecorderExamples.{modeNumbers, checkpointNumbers, recorderNumbers, recorders}
-use Rattle.rules.specs.AbsorbExamples.{absorbedNumbers, absorbs}
-use Rattle.rules.specs.HintExamples.{fingerprintNumbers, fingerprints, additions, confirmations, hints}
-use Rattle.rules.specs.MergeExamples.{placesOf, scanNumbers, restNumbers, merges, orders, ordersShown, partRule, files}
-use Rattle.rules.specs.VersionExamples.{versions}
-use Rattle.rules.specs.MarkExamples.{markNumbers, maybeMarks, marks, markedThinning, markedFiles}
-use Rattle.rules.specs.Examples.{numbersOf, knownNumbers, firstNumbers, hintNumbers, confirmedNumbers, planNumbers, hintedNumbers, indexNumbers, partNumbers, keptNumbers, Hold, starred, traps}
+use Rattle.rules.specs.examples.HintRecorders.{tailNumbers, seenNumbers, takenNumbers, spacingNumbers, firstRecords, hintRecorders}
+use Rattle.rules.specs.examples.Recorders.{modeNumbers, checkpointNumbers, recorderNumbers, recorders}
+use Rattle.rules.specs.examples.Absorbs.{absorbedNumbers, absorbs}
+use Rattle.rules.specs.examples.Hints.{fingerprintNumbers, fingerprints, additions, confirmations, hints}
+use Rattle.rules.specs.examples.Merges.{placesOf, scanNumbers, restNumbers, merges, orders, ordersShown, partRule, files}
+use Rattle.rules.specs.examples.Versions.{versions}
+use Rattle.rules.specs.examples.Marks.{markNumbers, maybeMarks, marks, markedThinning, markedFiles}
+use Rattle.rules.specs.examples.Starred.{numbersOf, knownNumbers, firstNumbers, hintNumbers, confirmedNumbers, planNumbers, hintedNumbers, indexNumbers, partNumbers, keptNumbers, Hold, starred, traps}
 use Rattle.rules.specs.File.{headerFields, fieldAt, readHeader, writeFields, encodeCheckpoint, decodeCheckpoint, encodeFrameHeader, encodeFrame, unsigned32, signed32, kindNumber, kindOf, encodeHeld, decodeHeld, encodeLsn, decodeLsn, encodeHint, decodeHint, encodeConfirmation, decodeConfirmation, orZero, endOrZero, bit, hasHinting, versionOf, headerOf, hintSection, confirmedSection, bodyOf, saved, savedLength, save}
 use Rattle.rules.specs.FirstRecord.{timeAt, firstRecord, recordNumber}
 use Rattle.rules.specs.Hints.{spaced, seenRecord, see, flushedList, flush, takeList, insert, countOf, rise, riseAt, gap, sooner, rank, kept, thin, inArea, insertAll, limitedTo, joinedHints, question13, addHints, unkept, placeOf, question53, withMark, keepHint, heldConfirmation, lastOnes, keep, keepAll, question14, keepConfirmation, larger, largerOf, largestOf, near, confirmedAt, hintPlace, firstFrom, runFrom, densityBefore, local, denser, orHint, upperEnd, hintedLocally, hintedLater, hintedAt, hint}

@@ -14,11 +14,4 @@ pub mod File
 pub mod Load
 pub mod Sizes
 pub mod Run
-pub mod Examples
-pub mod HintRecorderExamples
-pub mod RecorderExamples
-pub mod AbsorbExamples
-pub mod HintExamples
-pub mod MergeExamples
-pub mod VersionExamples
-pub mod MarkExamples
+pub mod examples

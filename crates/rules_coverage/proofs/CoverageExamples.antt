@@ -1,6 +1,6 @@
 -- The definitions of change request 2 give what the examples should be. Assumes nothing.
 use mathlib.Core.Path.{refl}
-use Rattle.rules.specs.Examples.{Hold}
+use Rattle.rules.specs.examples.Starred.{Hold}
 use Rattle.rules.proofs.Examples.{evaluated}
 use Rattle.rules_coverage.specs.Lines.{onFirst, linesOf, linesRead, wordsOf, between, isName, isNumber, valueFrom, lineFrom, lineOf}
 use Rattle.rules_coverage.specs.Coverage.{rangeOk, rowFrom, rowOf, fileRow, lineRow, coverage, plus, totals, digits, decimalText, numberText, answerText, rowText, nameOf, totalText, fileOf, sheet}

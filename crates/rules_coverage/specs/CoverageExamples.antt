@@ -10,7 +10,7 @@ use Rattle.rules.specs.declared.Fingerprint.the-variants.{Unknown}
 use Rattle.rules.specs.Tests.{numberOf, Refused, Accepted}
 use Rattle.rules.specs.Values.{Index}
 use Rattle.rules.specs.File.{bodyOf, saved}
-use Rattle.rules.specs.Examples.{area, checkpoint, indexOf, three, holding, numbersOf, Example, example}
+use Rattle.rules.specs.examples.Starred.{area, checkpoint, indexOf, three, holding, numbersOf, Example, example}
 use Rattle.rules_coverage.specs.declared.Row.{Row}
 use Rattle.rules_coverage.specs.Lines.{Line, linesOf, linesRead, lineOf}
 use Rattle.rules_coverage.specs.Coverage.{row, rowOf, fileRow, lineRow, coverage, totals, decimalText, sheet}

@@ -1,7 +1,7 @@
 -- The definitions of change request 14 give what the examples should be. Assumes nothing.
 use mathlib.Core.Path.{refl}
 use Rattle.field.specs.Records.{records}
-use Rattle.rules.specs.Examples.{Hold}
+use Rattle.rules.specs.examples.Starred.{Hold}
 use Rattle.rules.proofs.Examples.{evaluated}
 use Rattle.rules_disc.specs.Disc.{encodeEntry, decodeEntry, laid, contentsOk, entryOf, bodyOf, slotArea, loadBody, loadBodies, loadDisc, entriesFrom, discBytes, bodiesLength, discLength, listed, saveLists, saveOne, bySlot, saveBoth}
 use Rattle.rules_disc.specs.DiscExamples.{countOf, discNumbers, discs}

@@ -11,7 +11,7 @@ use Rattle.rules.specs.Tests.{Answer, Accepted, numberOf}
 use Rattle.rules.specs.Values.{Index}
 use Rattle.rules.specs.Create.{emptyIndex}
 use Rattle.rules.specs.File.{saved}
-use Rattle.rules.specs.Examples.{ample, short, area, checkpoint, indexOf, three, empty, numbersOf, Example, example}
+use Rattle.rules.specs.examples.Starred.{ample, short, area, checkpoint, indexOf, three, empty, numbersOf, Example, example}
 use Rattle.rules_disc.specs.declared.Entry.{Entry}
 use Rattle.rules_disc.specs.Disc.{entry, Disc, discBytes, contentsOf, listed, saveOne, saveBoth, loadDisc}
 

@@ -1,6 +1,6 @@
 -- The definitions of change request 7 give what the examples should be. Assumes nothing.
 use mathlib.Core.Path.{refl}
-use Rattle.rules.specs.Examples.{Hold}
+use Rattle.rules.specs.examples.Starred.{Hold}
 use Rattle.rules.proofs.Examples.{evaluated}
 use Rattle.rules_jump.specs.Names.{heldRule, planRule, chosenBy, startRule, densityRule, namedEnd, localRule}
 use Rattle.rules_jump.specs.Names.{endRule, named, namedAt, namedHint, planRuleNumber, startRuleNumber, endRuleNumber}

@@ -12,9 +12,9 @@ use Rattle.rules.specs.declared.Hint.{Hint}
 use Rattle.rules.specs.declared.Plan.{Plan}
 use Rattle.rules.specs.Values.{Index, Lengths}
 use Rattle.rules.specs.Plan.{plan}
-use Rattle.rules.specs.Examples.{ample, short, area, hintAt, confirmedAt, checkpoint, indexOf, three, holding, closed}
-use Rattle.rules.specs.Examples.{hintedNumbers, planNumbers, numbersOf, Example, example}
-use Rattle.rules.specs.HintExamples.{hinting}
+use Rattle.rules.specs.examples.Starred.{ample, short, area, hintAt, confirmedAt, checkpoint, indexOf, three, holding, closed}
+use Rattle.rules.specs.examples.Starred.{hintedNumbers, planNumbers, numbersOf, Example, example}
+use Rattle.rules.specs.examples.Hints.{hinting}
 use Rattle.rules_jump.specs.Names.{planRule, planRuleNumber, startRuleNumber, endRuleNumber, NamedHint, namedHint}
 
 -- ---- values

@@ -9,10 +9,10 @@ use Rattle.rules.specs.File.{bit}
 use Rattle.rules.specs.Tests.{numberOf}
 use Rattle.rules.specs.Values.{Frame, Index}
 use Rattle.rules.specs.Load.{limited}
-use Rattle.rules.specs.Examples.{ample, area, hintAt, confirmedAt, checkpoint, three, closed, first, numbersOf, Example, example}
-use Rattle.rules.specs.AbsorbExamples.{ofImage}
-use Rattle.rules.specs.HintExamples.{hinting}
-use Rattle.rules.specs.MergeExamples.{partAt, withParts}
+use Rattle.rules.specs.examples.Starred.{ample, area, hintAt, confirmedAt, checkpoint, three, closed, first, numbersOf, Example, example}
+use Rattle.rules.specs.examples.Absorbs.{ofImage}
+use Rattle.rules.specs.examples.Hints.{hinting}
+use Rattle.rules.specs.examples.Merges.{partAt, withParts}
 use Rattle.rules_lacks.specs.declared.Lacks.{Lacks}
 use Rattle.rules_lacks.specs.Lacks.{holdsAll, lacks}
 

@@ -8,9 +8,9 @@ use Rattle.rules.specs.Tests.{numberOf}
 use Rattle.rules.specs.Values.{HintRecorder, Recorder}
 use Rattle.rules.specs.Hints.{SeenSector, see, flush, question13}
 use Rattle.rules.specs.Record.{recordAt}
-use Rattle.rules.specs.Examples.{ample, hintAt, recording, knownNumbers, partNumbers, numbersOf, Example, example}
-use Rattle.rules.specs.HintRecorderExamples.{seeing, sectorOf, tailNumbers, told}
-use Rattle.rules.specs.RecorderExamples.{frameOf, sector}
+use Rattle.rules.specs.examples.Starred.{ample, hintAt, recording, knownNumbers, partNumbers, numbersOf, Example, example}
+use Rattle.rules.specs.examples.HintRecorders.{seeing, sectorOf, tailNumbers, told}
+use Rattle.rules.specs.examples.Recorders.{frameOf, sector}
 
 -- ---- values
 -- a hint recorder with n hints listed, and a tail

@@ -1,6 +1,6 @@
 -- The definitions of change request 9 give what the examples should be. Assumes nothing.
 use mathlib.Core.Path.{refl}
-use Rattle.rules.specs.Examples.{Hold}
+use Rattle.rules.specs.examples.Starred.{Hold}
 use Rattle.rules.proofs.Examples.{evaluated}
 use Rattle.rules_shelf.specs.Shelf.{sum, placeOf, among, noTwo, dropAt, without, older, oldestOf, roomy, makeRoom, staying, entered, restamped, jumped, shelfOk, entering, jumpedIn, jumping, enter, heldBy, jump}
 use Rattle.rules_shelf.specs.ShelfExamples.{full, listNumbers, shelfNumbers, tableNumbers, jumpNumbers, shelves, fullShelves}

@@ -5,7 +5,7 @@ use mathlib.Core.Option.{Option, none, some}
 use lib.ListN.{length, replicate, take}
 use Rattle.rules.specs.declared.Area.{Area}
 use Rattle.rules.specs.Tests.{Answer}
-use Rattle.rules.specs.Examples.{area, numbersOf, Example, example}
+use Rattle.rules.specs.examples.Starred.{area, numbersOf, Example, example}
 use Rattle.rules_shelf.specs.declared.ShelfRecord.{ShelfRecord}
 use Rattle.rules_shelf.specs.declared.Shelf.{Shelf}
 use Rattle.rules_shelf.specs.Shelf.{noRecord, recordOf, After, enter, jump}

@@ -12,7 +12,7 @@ use Rattle.rules.specs.declared.Hint.{Hint}
 use Rattle.rules.specs.Tests.{Answer, numberOf}
 use Rattle.rules.specs.Values.{Index}
 use Rattle.rules.specs.File.{saved, encodeLsn}
-use Rattle.rules.specs.Examples.{ample, short, area, checkpoint, confirmedAt, indexOf, three, empty, holding, closed, numbersOf, knownNumbers, hintNumbers, confirmedNumbers, Example, example}
+use Rattle.rules.specs.examples.Starred.{ample, short, area, checkpoint, confirmedAt, indexOf, three, empty, holding, closed, numbersOf, knownNumbers, hintNumbers, confirmedNumbers, Example, example}
 use Rattle.rules_view.specs.View.{Seen, Listener, Backing, HeldLength, Workshop, listenerOf, workshopOf, wordBytes, listenerBytes, workshopBytes, readListener, readWorkshop, viewLength, view, viewSize}
 use Rattle.rules_view.specs.Roles.{loadAs, saveAs, mergeAs, mergeAllAs, loadDiscAs, saveOneAs, saveBothAs}
 

@@ -13,7 +13,7 @@ use Rattle.rules.specs.Tests.{numberOf}
 use Rattle.rules.specs.Values.{Recorder, lastCheckpoint}
 use Rattle.rules.specs.Create.{recorder, emptyRecorder, emptyIndex}
 use Rattle.rules.specs.Record.{Assembling, recorded, recordAt, withMode, finish}
-use Rattle.rules.specs.Examples.{ample, area, checkpoint, three, closed, recording, partNumbers, numbersOf, Example, example}
+use Rattle.rules.specs.examples.Starred.{ample, area, checkpoint, three, closed, recording, partNumbers, numbersOf, Example, example}
 
 -- ---- values
 -- a recorder of 1000..1250 by 100 that began with checkpoint number first

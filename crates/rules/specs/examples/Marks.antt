@@ -13,10 +13,10 @@ use Rattle.rules.specs.Hints.{thin, addHints, keepHint, keepConfirmation
 use Rattle.rules.specs.Merge.{merge}
 use Rattle.rules.specs.File.{saved, save}
 use Rattle.rules.specs.Load.{load, limited}
-use Rattle.rules.specs.Examples.{ample, short, area, hintAt, confirmedAt, checkpoint, indexOf, version2, hintedNumbers, numbersOf, Example, example}
-use Rattle.rules.specs.AbsorbExamples.{from1}
-use Rattle.rules.specs.HintExamples.{hinting}
-use Rattle.rules.specs.VersionExamples.{changed}
+use Rattle.rules.specs.examples.Starred.{ample, short, area, hintAt, confirmedAt, checkpoint, indexOf, version2, hintedNumbers, numbersOf, Example, example}
+use Rattle.rules.specs.examples.Absorbs.{from1}
+use Rattle.rules.specs.examples.Hints.{hinting}
+use Rattle.rules.specs.examples.Versions.{changed}
 
 -- ---- values
 abbrev pub markedWith : ℕ → ℕ → ℕ → Hint

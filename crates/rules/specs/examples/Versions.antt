@@ -10,8 +10,8 @@ use Rattle.rules.specs.Create.{new}
 use Rattle.rules.specs.Merge.{merge}
 use Rattle.rules.specs.File.{readHeader, bodyOf, savedLength, save, versionOf}
 use Rattle.rules.specs.Load.{headerNumber, readSections, limited}
-use Rattle.rules.specs.Examples.{ample, area, hintAt, confirmedAt, version2, version3, indexNumbers, numbersOf, reloaded, Example, example}
-use Rattle.rules.specs.HintExamples.{hinting}
+use Rattle.rules.specs.examples.Starred.{ample, area, hintAt, confirmedAt, version2, version3, indexNumbers, numbersOf, reloaded, Example, example}
+use Rattle.rules.specs.examples.Hints.{hinting}
 
 -- ---- values
 -- the lowest limit of version 4, with nothing else

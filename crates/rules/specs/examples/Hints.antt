@@ -11,7 +11,7 @@ use Rattle.rules.specs.declared.Hint.{Hint}
 use Rattle.rules.specs.Values.{Index}
 use Rattle.rules.specs.Create.{bindFingerprint}
 use Rattle.rules.specs.Hints.{thin, addHints, keepConfirmation, hint}
-use Rattle.rules.specs.Examples.{ample, area, hintAt, confirmedAt, indexOf, hintNumbers, keptNumbers, hintedNumbers, numbersOf, Example, example}
+use Rattle.rules.specs.examples.Starred.{ample, area, hintAt, confirmedAt, indexOf, hintNumbers, keptNumbers, hintedNumbers, numbersOf, Example, example}
 
 -- ---- values
 -- an index of 0..1000 without checkpoints

@@ -10,7 +10,7 @@ use Rattle.rules.specs.Values.{HintRecorder}
 use Rattle.rules.specs.Create.{hintRecorder, emptyIndex}
 use Rattle.rules.specs.FirstRecord.{firstRecord, recordNumber}
 use Rattle.rules.specs.Hints.{seenRecord, SeenSector, see, flush, Taken, takeList}
-use Rattle.rules.specs.Examples.{ample, area, hintAt, firstNumbers, knownNumbers, hintNumbers, numbersOf, Example, example}
+use Rattle.rules.specs.examples.Starred.{ample, area, hintAt, firstNumbers, knownNumbers, hintNumbers, numbersOf, Example, example}
 
 -- ---- values
 -- a hint recorder of spacing 75: the number listed last, the tail and the list

@@ -23,9 +23,9 @@ use Rattle.rules.specs.Merge.{merge}
 use Rattle.rules.specs.File.{saved, save}
 use Rattle.rules.specs.Load.{load}
 use Rattle.rules.specs.Run.{Place, Call, mergeCall, begin, run}
-use Rattle.rules.specs.Examples.{ample, short, area, hintAt, confirmedAt, checkpoint, indexOf, three, empty, first, version2, version3, closed, holding, storedIn, knownNumbers, hintNumbers, confirmedNumbers, numbersOf, Example, example}
-use Rattle.rules.specs.AbsorbExamples.{two, ofImage, malformed1}
-use Rattle.rules.specs.HintExamples.{hinting, fingerprintNumbers}
+use Rattle.rules.specs.examples.Starred.{ample, short, area, hintAt, confirmedAt, checkpoint, indexOf, three, empty, first, version2, version3, closed, holding, storedIn, knownNumbers, hintNumbers, confirmedNumbers, numbersOf, Example, example}
+use Rattle.rules.specs.examples.Absorbs.{two, ofImage, malformed1}
+use Rattle.rules.specs.examples.Hints.{hinting, fingerprintNumbers}
 
 -- ---- values
 -- three, with another last checkpoint
