@@ -6,7 +6,7 @@ use native.Mathlib.Nat.{mul-assoc}
 use native.Mathlib.Omega.{arith}
 use lib.ListN.{length, getD, take, drop, length-append, length-drop}
 use lib.Seq.{take-at, take-suc, take-all, drop-append-add, drop-drop, length-take-le}
-use Rattle.field.specs.Records.{Bytes, records, bytesOf, recordAt}
+use Rattle.field.specs.Records.{Bytes, bytesOf, recordAt}
 use Rattle.field.proofs.Bytes.{bytes-part}
 use Rattle.field.proofs.Records.{records-length, records-at}
 use Rattle.field.proofs.Format.{bytesOf-append, bytesOf-one, bytesOf-length}
@@ -16,7 +16,7 @@ use Rattle.rules.specs.File.{encodeCheckpoint, decodeCheckpoint, over}
 use Rattle.rules_coarsen.specs.Coarse.{everyNth}
 use Rattle.laws.proofs.Layouts.{checkpoint-layout}
 use Rattle.tables.specs.Tables.{checkpointsIn}
-use Rattle.coarsen.specs.Steps.{keptOf, Keeps}
+use Rattle.coarsen.specs.Steps.{Keeps}
 use Rattle.coarsen.proofs.Every.{up→, kept-at, every-length}
 
 module _ (n m r : ℕ) (t : List ℕ) (k : Keeps n m r t) where

@@ -18,14 +18,14 @@ use Rattle.rules.specs.declared.ImageId.the-variants.{Anonymous, Id}
 use Rattle.rules.specs.Tests.{Accepted, after}
 use Rattle.rules.proofs.Tests.{test}
 use Rattle.rules.specs.Values.{Index, maxMalformed}
-use Rattle.rules.specs.File.{encodeCheckpoint, encodeFrameHeader, encodeHeld, encodeLsn, encodeConfirmation, decodeCheckpoint, decodeLsn, decodeConfirmation, over}
+use Rattle.rules.specs.File.{encodeCheckpoint, encodeLsn, decodeCheckpoint, decodeLsn, decodeConfirmation, over}
 use Rattle.rules_coarsen.specs.Coarse.{everyNth, coarseParts, unstored, coarserScan, coarser, coarseNumber, coarse}
 use Rattle.laws.proofs.Layouts.{lsn-layout, confirmation-layout}
 use Rattle.tables.proofs.Kept.{kept-layout}
 use Rattle.tables.specs.Tables.{checkpointsIn, framesIn, partsIn, lsnsIn, decodeKept}
 use Rattle.sections.specs.Numbers.{endIn, endFrom, idIn, idFrom}
 use Rattle.index.specs.declared.Made.the-variants as made
-use Rattle.index.specs.Index.{Tables, tables, roomOf, indexIn, storeOf, numbersFrom, tablesFrom, refusal, Out, out, outOf}
+use Rattle.index.specs.Index.{Tables, tables, roomOf, indexIn, numbersFrom, tablesFrom, refusal, Out, out, outOf}
 use Rattle.parts.specs.declared.Counts.{Counts}
 use Rattle.parts.specs.Parts.{partTables, Held, held, heldFrom}
 use Rattle.coarsen.specs.Coarsen.{coarseRefusal, coarseIn}

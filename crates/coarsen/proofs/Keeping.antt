@@ -1,7 +1,7 @@
 -- The parts for checkpoints whose numbers are multiples of r, as a choice of parts. Assumes nothing.
 use mathlib.Core.Path.{_≡_, ap}
 use mathlib.Core.Bool.{true, false}
-use mathlib.Core.List.{List, [], _∷_}
+use mathlib.Core.List.{List, _∷_}
 use Prim.Native.Nat.{ℕ, suc, _/_, _%_}
 use native.Mathlib.Nat.{div-le-self}
 use lib.Dec.{eqb}

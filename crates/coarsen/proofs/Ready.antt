@@ -1,12 +1,10 @@
 -- What each step of coarsening needs of the tables, where nothing refuses. Assumes nothing.
-use mathlib.Core.Path.{_≡_, refl, sym, ap, _∙_}
-use mathlib.Core.Bool.{true}
-use mathlib.Core.List.{List}
+use mathlib.Core.Path.{_≡_, refl, _∙_}
 use Prim.Native.Nat.{ℕ, _+_, _-_, _*_, _/_, _<_, _≤_, min}
 use native.Mathlib.Nat.{div-le-self}
 use native.Mathlib.Omega.{arith}
 use borrow.Author.Tests.{leb-true}
-use lib.ListN.{length, take, length-take}
+use lib.ListN.{length, length-take}
 use Rattle.field.specs.Records.{records}
 use Rattle.field.proofs.Records.{records-length}
 use Rattle.rules.specs.declared.AreaIndex.{AreaIndex}
@@ -19,12 +17,10 @@ use Rattle.rules_coarsen.specs.Coarse.{everyNth, coarserScan, coarser, coarseFr
 use Rattle.laws.proofs.scans.Scans.{ScanIs, scan→, scan-of}
 use Rattle.laws.proofs.hint_lists.Closure.{HintingIs, hinting→}
 use Rattle.laws.proofs.Ranges.{boundaries-small}
-use Rattle.tables.specs.Tables.{framesOf, framesIn, checkpointsIn, partsIn, lsnsIn, decodeKept}
-use Rattle.index.specs.Index.{Tables, roomOf, roomIn, indexIn, kindsOk}
-use Rattle.index.specs.Needs.{Passes}
-use Rattle.index.proofs.Questions.{range, passes-long, passes-hints, passes-store}
+use Rattle.tables.specs.Tables.{framesOf, checkpointsIn, partsIn, decodeKept}
+use Rattle.index.specs.Index.{Tables, roomIn, indexIn, kindsOk}
+use Rattle.index.proofs.Questions.{range, passes-long, passes-hints}
 use Rattle.parts.specs.Parts.{partTables}
-use Rattle.parts.specs.Needs.{Ready, Room, Lent}
 use Rattle.parts.proofs.Callers.{lent-from}
 use Rattle.coarsen.specs.Laws.{multiples}
 use Rattle.coarsen.specs.Steps.{keptOf, Keeps, Copies, Holds, countedIn, Coarsens}

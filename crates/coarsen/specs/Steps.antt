@@ -6,7 +6,6 @@ use mathlib.Core.List.{List, [], _∷_}
 use lib.Dec.{eqb, leb, ltb}
 use lib.ListN.{length, getD}
 use Rattle.rules.specs.declared.AreaIndex.{AreaIndex}
-use Rattle.rules.specs.declared.Area.{Area}
 use Rattle.rules.specs.Tests.{all}
 use Rattle.rules.specs.Values.{maxInterval, maxMalformed, counted, frontierOf}
 use Rattle.rules.specs.Questions.{question3}

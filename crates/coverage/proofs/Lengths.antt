@@ -6,7 +6,7 @@ use native.Mathlib.Omega.{arith}
 use lib.ListN.{length, length-take}
 use Rattle.sheet.specs.Text.{Written}
 use Rattle.coverage.specs.declared.file.Step.{Step}
-use Rattle.coverage.specs.declared.file.Step.the-variants.{Failed, Bytes}
+use Rattle.coverage.specs.declared.file.Step.the-variants.{Bytes}
 use Rattle.coverage.specs.Input.{read}
 
 pub bytes-read : (r : Step) (k n m : ℕ) → r ≡ Bytes k → n + read r ≤ m → n + k ≤ m

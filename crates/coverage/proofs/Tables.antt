@@ -1,16 +1,13 @@
 -- The rows of a table are those of lines. Assumes nothing.
 use Prim.Native.Nat.{ℕ, _+_, _≤_, _<_, min}
-use mathlib.Core.Path.{_≡_, sym, _∙_}
 use mathlib.Core.List.{List, [], _∷_, _++_}
 use native.Mathlib.Omega.{arith}
-use lib.ListN.{length, take, length-append}
+use lib.ListN.{length, length-append}
 use lib.Seq.{take-all}
 use Rattle.field.specs.Records.{records}
 use Rattle.field.proofs.Records.{records-length}
-use Rattle.rules.specs.Tests.{Answer}
-use Rattle.rules_coverage.specs.declared.Row.{Row}
 use Rattle.sheet.specs.Rows.{wordsRow, rowsIn}
-use Rattle.coverage.specs.Sheets.{Answered, OfLines, nothing, further, Rows}
+use Rattle.coverage.specs.Sheets.{Answered, nothing, further, Rows}
 
 pub no-rows : (t : List ℕ) → Rows 0 t
 unfolding rowsIn records

@@ -13,9 +13,7 @@ use sheet::text::line_text;
 use sheet::text::total_text;
 use sheet::totals::put_row;
 ghost use Prim.Native.Nat.{_+_, _≤_, _<_};
-ghost use mathlib.Core.Path.{_≡_};
-ghost use lib.ListN.{length};
-ghost use Rattle.sheet.specs.Rows.{answerIn, rowsIn};
+ghost use Rattle.sheet.specs.Rows.{answerIn};
 ghost use Rattle.coverage.specs.Sheets.{RowOfLine, Answered, Rows};
 
 // What was read, the rows in the table, whether there may be more of them, and whether each was written.

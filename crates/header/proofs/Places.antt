@@ -8,7 +8,7 @@ use lib.Seq.{take-at, drop-drop, drop-append-add}
 use Rattle.field.specs.Number.{encode, numberAt, put}
 use Rattle.field.proofs.Number.{number-more, number-none, encode-length, put-split}
 use Rattle.fnv.specs.Fnv.{fnvStep, fnvFrom, prime64}
-use Rattle.rules.specs.File.{Field, field, headerFields, fieldAt, writeFields}
+use Rattle.rules.specs.File.{Field, headerFields, fieldAt, writeFields}
 use Rattle.header.specs.Place.{entry, total, Placed}
 
 -- a byte is a number

@@ -1,14 +1,14 @@
 -- What a section that was read leaves, and where the cursor is behind it. Assumes nothing.
 use mathlib.Core.Path.{_≡_, refl, sym, ap, _∙_}
-use mathlib.Core.Bool.{Bool, true, false, cond}
-use mathlib.Core.List.{List, [], _∷_}
-use Prim.Native.Nat.{ℕ, zero, suc, _+_, _*_, _-_, _<_, _≤_}
+use mathlib.Core.Bool.{Bool, true}
+use mathlib.Core.List.{List}
+use Prim.Native.Nat.{ℕ, zero, suc, _+_, _*_, _-_, _≤_}
 use native.Mathlib.Nat.{zero-mul, suc-mul}
 use native.Mathlib.Omega.{arith}
-use borrow.Author.Tests.{leb-true, eq-eqb, ne-eqb}
-use lib.Dec.{eqb, leb}
+use borrow.Author.Tests.{leb-true}
+use lib.Dec.{leb}
 use lib.ListN.{length, take, drop, length-drop}
-use lib.Seq.{drop-drop, take-all, length-take-le}
+use lib.Seq.{drop-drop, length-take-le}
 use Rattle.field.specs.Number.{numberAt}
 use Rattle.field.specs.Records.{records}
 use Rattle.field.proofs.Number.{number-drop}
@@ -16,24 +16,22 @@ use Rattle.rules.specs.declared.Area.{Area}
 use Rattle.rules.specs.declared.Checkpoint.{Checkpoint}
 use Rattle.rules.specs.declared.Confirmation.{Confirmation}
 use Rattle.rules.specs.declared.Header.{Header}
-use Rattle.rules.specs.declared.Held.{Held}
 use Rattle.rules.specs.declared.HintHeader.{HintHeader}
-use Rattle.rules.specs.Tests.{Answer, Refused, Accepted, bind, numberOf}
+use Rattle.rules.specs.Tests.{Answer, Refused, Accepted, bind}
 use Rattle.rules.specs.Values.{Frame, used}
 use Rattle.rules.specs.Sections.{Filled, risen, hintLsn, confirmedLsn}
 use Rattle.rules.specs.File.{decodeHeld, decodeLsn}
-use Rattle.rules.specs.Load.{Read, read, readEach, readRecord, readFrame, readPart, readFrames, readParts, readHintSection, readConfirmedSection, HintSection, hintNumber, confirmedNumber}
-use Rattle.rules.proofs.Tests.{test, asked→, after→, accepted-eq, bind→, numberOf-accepted}
+use Rattle.rules.specs.Load.{Read, read, readEach, readRecord, readFrame, readFrames, readParts, readHintSection, readConfirmedSection, HintSection, hintNumber, confirmedNumber}
+use Rattle.rules.proofs.Tests.{test, asked→, accepted-eq, bind→, numberOf-accepted}
 use Rattle.tables.specs.Tables.{partsIn, lsnsIn}
 use Rattle.tables.specs.Files.{frameNext, placeAt, framesRead, listed}
-use Rattle.tables.proofs.Reading.{Steady, read-each, steady-record, steady-part, steady-frame, listed-records, behind-records}
+use Rattle.tables.proofs.Reading.{Steady, read-each, steady-record, steady-part, steady-frame, listed-records}
 use Rattle.tables.proofs.Files.{place-first, place-shift, place-inside}
 use Rattle.inspect.specs.declared.cursor.Cursor.{Cursor}
 use Rattle.inspect.specs.declared.cursor.Word.{Word}
 use Rattle.inspect.specs.declared.cursor.Word.the-variants as word
 use Rattle.inspect.specs.declared.cursor.Headed.{Headed}
 use Rattle.inspect.specs.declared.cursor.Headed.the-variants as headed
-use Rattle.inspect.specs.Cursors.{to}
 use Rattle.inspect.specs.Behind.{behind, headedOf, countedOf}
 use Rattle.inspect.specs.declared.scan.Taken.{Taken}
 use Rattle.inspect.specs.declared.scan.Taken.the-variants as taken

@@ -1,25 +1,24 @@
 -- The sections from each one on, by what was read of the first. Assumes nothing.
-use mathlib.Core.Path.{_≡_, refl, sym, ap, _∙_}
+use mathlib.Core.Path.{_≡_, refl, sym, _∙_}
 use mathlib.Core.Bool.{Bool, true, false, not}
-use mathlib.Core.List.{List, [], _∷_}
+use mathlib.Core.List.{List}
 use Prim.Native.Nat.{ℕ, _+_, _*_, _-_, _<_, _≤_}
 use native.Mathlib.Omega.{arith}
 use borrow.Author.Tests.{leb-true, le-leb, lt-leb, eq-eqb, ne-eqb, not-true, not-false}
-use lib.Dec.{eqb, leb}
+use lib.Dec.{eqb}
 use lib.ListN.{length, take, drop, length-drop}
 use lib.Seq.{drop-drop, length-take-le}
 use Rattle.field.specs.Number.{decode}
 use Rattle.field.proofs.Records.{records-take}
 use Rattle.fnv.specs.Fnv.{fnv64}
 use Rattle.rules.specs.declared.Area.{Area}
-use Rattle.rules.specs.declared.Checkpoint.{Checkpoint}
 use Rattle.rules.specs.declared.Header.{Header}
 use Rattle.rules.specs.declared.HintHeader.{HintHeader}
-use Rattle.rules.specs.Tests.{Answer, Refused, Accepted, after, ask, bind, firstNo}
+use Rattle.rules.specs.Tests.{Answer, Refused, Accepted, after, bind, firstNo}
 use Rattle.rules.specs.Values.{boundaries}
 use Rattle.rules.specs.Sections.{begun, passed, checkpointOk, checkpointsOk, countsOk}
-use Rattle.rules.specs.File.{readHeader, magicBytes, decodeCheckpoint}
-use Rattle.rules.specs.Load.{Read, read, readConfirmedSection, readCheckpoints, headerNumber, isComplete, fixedSize}
+use Rattle.rules.specs.File.{readHeader, decodeCheckpoint}
+use Rattle.rules.specs.Load.{Read, read, readCheckpoints, headerNumber, isComplete, fixedSize}
 use Rattle.rules.proofs.Tests.{asked, and-right}
 use Rattle.tables.specs.Tables.{checkpointsIn}
 use Rattle.tables.proofs.Reading.{read-all}

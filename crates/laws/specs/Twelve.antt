@@ -5,7 +5,6 @@ use mathlib.Core.List.{List, [], _∷_}
 use lib.Dec.{eqb, leb}
 use lib.ListN.{length, take, getD}
 use Rattle.field.specs.Number.{sameBytes}
-use Rattle.rules.specs.declared.Area.{Area}
 use Rattle.rules.specs.declared.Checkpoint.{Checkpoint}
 use Rattle.rules.specs.Tests.{all}
 use Rattle.rules.specs.Values.{Scan, Recorder, maxMalformed, max32, checkpointAt, lastCheckpoint, count, frontier, counted}

@@ -27,7 +27,7 @@ use Rattle.sizes.specs.declared.FileArea.{FileArea}
 use Rattle.sizes.specs.declared.Sized.{Sized}
 use Rattle.sizes.specs.Sizes.{sizedOf, newSizes, fileSizes, fileAreaOf, fileArea, fileLength}
 use Rattle.player.specs.Block.{called, into, headIndex, planWords, firstWords, sizeWords, areaWords, bringsWords, savedNumber}
-use Rattle.player.specs.Calls.{calledOver, outInto, firstCall, sizesCall, fileAreaCall, fileSizesCall, newCall, loadCall, fingerprintCall, planCall, lengthCall, saveCall, mergeCall, addsCall, addHintsCall}
+use Rattle.player.specs.Calls.{calledOver, firstCall, sizesCall, fileAreaCall, fileSizesCall, newCall, loadCall, fingerprintCall, planCall, lengthCall, saveCall, mergeCall, addsCall, addHintsCall}
 use Rattle.player.proofs.block.Blocks.{long-enough, is-head}
 
 -- ---- the block is the answer's

@@ -7,7 +7,6 @@ use blocks::write_words;
 use lacks::Lacked;
 use rules_lacks::Lacks;
 ghost use mathlib.Core.Path.{_≡_};
-ghost use mathlib.Core.List.{_∷_, []};
 ghost use Prim.Native.Nat.{_≤_};
 ghost use lib.ListN.{length};
 ghost use Rattle.index.specs.Index.{tables};

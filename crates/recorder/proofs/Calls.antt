@@ -1,30 +1,27 @@
 -- What recorder and finish answer, by the numbers that refuse. Assumes nothing.
 use mathlib.Core.Path.{_≡_, refl, sym, ap, _∙_}
 use mathlib.Core.Bool.{Bool, true, false, _&&_, not, cond}
-use mathlib.Core.List.{List, [], _∷_}
+use mathlib.Core.List.{[], _∷_}
 use mathlib.Core.Option.{some}
-use Prim.Native.Nat.{ℕ, _+_, _*_, _≤_}
-use native.Mathlib.Omega.{arith}
+use Prim.Native.Nat.{ℕ, _+_}
 use borrow.Author.Tests.{eq-eqb, ne-eqb, not-true, not-false}
 use lib.Dec.{eqb}
-use lib.ListN.{length}
 use Rattle.field.proofs.Records.{records-length}
 use Rattle.rules.specs.declared.AreaIndex.{AreaIndex}
 use Rattle.rules.specs.declared.EndState.{EndState}
 use Rattle.rules.specs.declared.Mode.{Mode}
 use Rattle.rules.specs.declared.Mode.the-variants.{Finished}
 use Rattle.rules.specs.declared.Recorder.{Recorder}
-use Rattle.rules.specs.Tests.{each, Answer, Refused, Accepted, after, Ask, ask, firstNo}
+use Rattle.rules.specs.Tests.{each, Answer, Refused, Accepted, after, ask, firstNo}
 use Rattle.rules.specs.Values.{boundaries, lastCheckpoint}
 use Rattle.rules.specs.Values as values
 use Rattle.rules.specs.Sections.{endOk, endingOk}
-use Rattle.rules.specs.Questions.{areaOk, recorderFourOf}
+use Rattle.rules.specs.Questions.{recorderFourOf}
 use Rattle.rules.specs.Create.{recorder, emptyRecorder}
 use Rattle.rules.specs.Record.{isRunning, withMode, finish}
 use Rattle.rules.specs.File.{decodeCheckpoint, decodeHeld}
 use Rattle.rules.proofs.Tests.{test, asked, and-left}
 use Rattle.index.specs.Index.{Tables, indexIn, refusal}
-use Rattle.sections.specs.Numbers.{endIn}
 use Rattle.index.proofs.Four.{kinded-index, kinded-more}
 use Rattle.parts.proofs.Frames.{count}
 use Rattle.recorder.specs.declared.Recorded.{Recorded}

@@ -1,13 +1,11 @@
 -- New, the fingerprint entry and the recorders that an index gives.
 use Prim.Native.Nat.{ℕ, min}
-use mathlib.Core.Bool.{Bool, _||_, cond}
-use mathlib.Core.List.{List, [], _∷_}
+use mathlib.Core.Bool.{_||_, cond}
+use mathlib.Core.List.{[], _∷_}
 use mathlib.Core.Option.{Option, none, some}
 use lib.Dec.{eqb}
 use Rattle.rules.specs.declared.Area.{Area}
-use Rattle.rules.specs.declared.Fingerprint.{Fingerprint}
 use Rattle.rules.specs.declared.Fingerprint.the-variants.{Unknown, Checked}
-use Rattle.rules.specs.declared.Mode.{Mode}
 use Rattle.rules.specs.declared.Mode.the-variants.{Running, Stopped}
 use Rattle.rules.specs.Tests.{agree, Answer, Accepted, after, ask, firstNo}
 use Rattle.rules.specs.Values.{Scan, Hinting, Index, Recorder, HintRecorder, Lengths, maxHints, count, complete, stated}

@@ -1,19 +1,17 @@
 -- Document 01, "File": the layout, and saving.
-use Prim.Native.Nat.{ℕ, zero, suc, _+_, _-_, _*_}
-use mathlib.Core.Bool.{Bool, true, false, _&&_, _||_, not, cond}
+use Prim.Native.Nat.{ℕ, _+_, _-_, _*_}
+use mathlib.Core.Bool.{Bool, _&&_, _||_, not, cond}
 use mathlib.Core.List.{List, [], _∷_, _++_}
 use mathlib.Core.Option.{Option, none, some}
 use lib.Dec.{eqb, leb, ltb}
 use lib.IntN.{ℤ, pos, negsuc}
-use lib.ListN.{length, getD, take, drop}
+use lib.ListN.{length, getD, drop}
 use Rattle.field.specs.Number.{encode, decode, numberAt}
 use Rattle.field.specs.Records.{bytesOf}
 use Rattle.fnv.specs.Fnv.{fnv64}
-use Rattle.rules.specs.declared.AreaKey.{AreaKey}
 use Rattle.rules.specs.declared.Checkpoint.{Checkpoint}
 use Rattle.rules.specs.declared.Confirmation.{Confirmation}
 use Rattle.rules.specs.declared.EndState.{EndState}
-use Rattle.rules.specs.declared.Fingerprint.{Fingerprint}
 use Rattle.rules.specs.declared.FrameKind.{FrameKind}
 use Rattle.rules.specs.declared.FrameKind.the-variants.{Dst, Dsd}
 use Rattle.rules.specs.declared.Header.{Header}

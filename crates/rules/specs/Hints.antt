@@ -12,7 +12,7 @@ use Rattle.rules.specs.declared.First.the-variants.{Number, Nothing}
 use Rattle.rules.specs.declared.Hint.{Hint}
 use Rattle.rules.specs.FirstRecord.{firstRecord}
 use Rattle.rules.specs.Tests.{each, orElse, Answer, Accepted, after, ask, firstNo}
-use Rattle.rules.specs.Values.{Scan, Hinting, Index, HintRecorder, Lengths, lim, maxList, max32, max64, hintReach, noHint, isChecked}
+use Rattle.rules.specs.Values.{Hinting, Index, HintRecorder, Lengths, lim, maxList, max32, max64, hintReach, noHint, isChecked}
 use Rattle.rules.specs.Sections.{hintLsn, confirmedLsn, isKept, keptCount}
 use Rattle.rules.specs.Questions.{four, hintRecorderFour}
 

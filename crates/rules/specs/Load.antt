@@ -1,7 +1,7 @@
 -- Document 01, "File": loading, in the order of from_bytes, and the limited index.
 use Prim.Native.Nat.{ℕ, zero, suc, _+_, _-_, _*_, _/_, _%_, min}
-use mathlib.Core.Bool.{Bool, true, false, _&&_, _||_, not, cond}
-use mathlib.Core.List.{List, [], _∷_, _++_}
+use mathlib.Core.Bool.{Bool, _&&_, _||_, not, cond}
+use mathlib.Core.List.{List, [], _∷_}
 use mathlib.Core.Option.{Option, none, some}
 use lib.Dec.{eqb, leb, ltb}
 use lib.ListN.{length, take, drop}
@@ -19,12 +19,11 @@ use Rattle.rules.specs.declared.Header.{Header}
 use Rattle.rules.specs.declared.Held.{Held}
 use Rattle.rules.specs.declared.Hint.{Hint}
 use Rattle.rules.specs.declared.HintHeader.{HintHeader}
-use Rattle.rules.specs.Tests.{all, Ask, ask, firstNo, Answer, Refused, Accepted, after, bind}
-use Rattle.rules.specs.Values.{Frame, Scan, Hinting, Index, Lengths, maxMalformed, maxHints, maxShortHints, maxInterval, max32, defaultSpacing, defaultHints, boundaries, frontierOf, counted, lastCheckpoint, sameKey}
-use Rattle.rules.specs.Sections.{countsOk, Passed, begun, passed, checkpointOk, Filled, unfilled, filled, frameOk, partOk, reached, endingOk, risingOk, risen, ownLsn, anyLsn, hintLsn, hintOk, confirmedLsn, confirmationOk}
+use Rattle.rules.specs.Tests.{all, ask, firstNo, Answer, Accepted, after, bind}
+use Rattle.rules.specs.Values.{Frame, Scan, Hinting, Index, Lengths, maxMalformed, maxHints, maxShortHints, maxInterval, max32, defaultSpacing, defaultHints, boundaries, frontierOf, counted, sameKey}
+use Rattle.rules.specs.Sections.{countsOk, begun, passed, checkpointOk, Filled, unfilled, filled, frameOk, partOk, reached, endingOk, risingOk, risen, ownLsn, anyLsn, hintLsn, hintOk, confirmedLsn, confirmationOk}
 use Rattle.rules.specs.Questions.{areaOk, question3}
 use Rattle.rules.specs.Hints.{thin, lastOnes, unkept}
-use Rattle.rules.specs.Merge.{heldFrom}
 use Rattle.rules.specs.File.{readHeader, magicBytes, decodeCheckpoint, decodeHeld, decodeLsn, decodeHint, decodeConfirmation}
 
 -- ---- reading in order

@@ -8,17 +8,16 @@ use lib.Dec.{eqb, leb, ltb}
 use lib.ListN.{length, take, drop}
 use Rattle.field.specs.Number.{sameBytes}
 use Rattle.fnv.specs.Fnv.{fnv64}
-use Rattle.rules.specs.declared.Area.{Area}
 use Rattle.rules.specs.declared.Checkpoint.{Checkpoint}
 use Rattle.rules.specs.declared.EndState.{EndState}
 use Rattle.rules.specs.declared.FrameKind.{FrameKind}
 use Rattle.rules.specs.declared.Mode.{Mode}
 use Rattle.rules.specs.declared.Mode.the-variants.{Running, Finished, Stopped}
-use Rattle.rules.specs.Tests.{all, isSome, orElse, agree, agrees, Answer, Accepted, after, ask, firstNo}
+use Rattle.rules.specs.Tests.{all, orElse, agree, agrees, Answer, Accepted, after, ask, firstNo}
 use Rattle.rules.specs.Values.{Scan, Index, Recorder, Lengths, lim, maxMalformed, max32, replaySectors, boundaries, lsnOf, count, frontier, counted, lastCheckpoint, sameArea, sameEnd}
 use Rattle.rules.specs.Sections.{endOk, rising, ownLsn, anyLsn}
 use Rattle.rules.specs.Questions.{question4, both, askFour, fourOf, recorderFourOf, recorderFour, endOf}
-use Rattle.rules.specs.PartRule.{Stored, Piece, addPart, addParts}
+use Rattle.rules.specs.PartRule.{Stored, addPart, addParts}
 
 -- ---- record
 -- a frame under assembly

@@ -14,7 +14,7 @@ use Rattle.rules.specs.declared.EndState.{EndState}
 use Rattle.rules.specs.declared.FrameKind.{FrameKind}
 use Rattle.rules.specs.declared.Held.{Held}
 use Rattle.rules.specs.Tests.{Answer, Refused, Accepted}
-use Rattle.rules.specs.Values.{Frame, Scan, Index, Lengths, maxMalformed, noHeld, partBytes, boundaries, lsnOf, count, complete, frontier}
+use Rattle.rules.specs.Values.{Frame, Index, Lengths, maxMalformed, noHeld, partBytes, boundaries, lsnOf, count, complete, frontier}
 use Rattle.rules.specs.Questions.{question1, question2, question4}
 use Rattle.rules.specs.Sizes.{sized}
 use Rattle.rules.specs.Record.{below}

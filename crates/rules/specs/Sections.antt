@@ -12,7 +12,7 @@ use Rattle.rules.specs.declared.Held.{Held}
 use Rattle.rules.specs.declared.Hint.{Hint}
 use Rattle.rules.specs.declared.Confirmation.{Confirmation}
 use Rattle.rules.specs.Tests.{all, each, walk, lastOr}
-use Rattle.rules.specs.Values.{Frame, lim, maxFrame, maxMalformed, maxHints, checkpointAt, frameAt, lastCheckpoint, noHeld, lsnOf, sameKind}
+use Rattle.rules.specs.Values.{Frame, lim, maxFrame, maxMalformed, checkpointAt, frameAt, lastCheckpoint, noHeld, lsnOf, sameKind}
 
 -- ---- counts: of boundaries, checkpoints, completeness, frames, parts, malformed LSNs
 unfoldable pub countsOk : ℕ → ℕ → Bool → ℕ → ℕ → ℕ → Bool

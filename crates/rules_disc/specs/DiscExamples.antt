@@ -3,17 +3,15 @@ use Prim.Native.Nat.{ℕ, _+_}
 use mathlib.Core.Bool.{cond}
 use mathlib.Core.List.{List, [], _∷_, _++_}
 use mathlib.Core.Option.{Option, none, some}
-use lib.ListN.{length, set, take, replicate}
+use lib.ListN.{length, set, take}
 use Rattle.field.specs.Number.{encode}
 use Rattle.rules.specs.declared.Area.{Area}
 use Rattle.rules.specs.declared.Fingerprint.the-variants.{Unknown}
-use Rattle.rules.specs.Tests.{Answer, Accepted, numberOf}
+use Rattle.rules.specs.Tests.{Answer, numberOf}
 use Rattle.rules.specs.Values.{Index}
 use Rattle.rules.specs.Create.{emptyIndex}
-use Rattle.rules.specs.File.{saved}
 use Rattle.rules.specs.examples.Starred.{ample, short, area, checkpoint, indexOf, three, empty, numbersOf, Example, example}
-use Rattle.rules_disc.specs.declared.Entry.{Entry}
-use Rattle.rules_disc.specs.Disc.{entry, Disc, discBytes, contentsOf, listed, saveOne, saveBoth, loadDisc}
+use Rattle.rules_disc.specs.Disc.{entry, Disc, discBytes, listed, saveOne, saveBoth, loadDisc}
 
 -- ---- values
 -- the multichannel area of the same disc

@@ -2,9 +2,8 @@
 use Prim.Native.Nat.{ℕ, zero, suc, _+_}
 use mathlib.Core.List.{List, [], _∷_, _++_}
 use mathlib.Core.Option.{Option, none, some}
-use lib.ListN.{length, replicate, take}
+use lib.ListN.{replicate, take}
 use Rattle.rules.specs.declared.Area.{Area}
-use Rattle.rules.specs.Tests.{Answer}
 use Rattle.rules.specs.examples.Starred.{area, numbersOf, Example, example}
 use Rattle.rules_shelf.specs.declared.ShelfRecord.{ShelfRecord}
 use Rattle.rules_shelf.specs.declared.Shelf.{Shelf}

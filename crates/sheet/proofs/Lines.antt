@@ -3,20 +3,19 @@ use Prim.Native.Nat.{ℕ, suc, _+_, _-_, _*_, _^_, _≤_, _<_}
 use mathlib.Core.Path.{_≡_, refl, sym, ap, _∙_}
 use mathlib.Core.Bool.{Bool, true, false, _&&_, cond}
 use mathlib.Core.List.{List, [], _∷_}
-use mathlib.Core.Option.{Option, none, some}
+use mathlib.Core.Option.{none, some}
 use native.Mathlib.Nat.{pow-suc, pow-le-pow-right}
 use native.Mathlib.Numerals.{add-one}
 use native.Mathlib.Omega.{arith}
-use borrow.Author.Tests.{eq-eqb, ne-eqb, eqb-true, leb-true}
+use borrow.Author.Tests.{eq-eqb, ne-eqb, leb-true}
 use lib.Dec.{eqb, leb}
-use lib.ListN.{length, getD, take, drop, length-take, length-drop, drop-of-length-le}
+use lib.ListN.{length, getD, take, drop, length-drop, drop-of-length-le}
 use lib.Seq.{drop-cons, drop-drop, take-all, length-take-le}
 use Rattle.rules.specs.Tests.{all, each}
 use Rattle.rules.proofs.Tests.{test, and-left, and-right}
 use Rattle.rules_coverage.specs.Lines.{onFirst, wordsOf, isName, isNumber, isDigit, between, valueFrom, lineFrom, lineOf}
 use Rattle.sheet.specs.declared.line.Parsed.{Parsed}
 use Rattle.sheet.specs.declared.line.Parsed.the-variants as parsed
-use Rattle.sheet.specs.declared.line.Number.{Number}
 use Rattle.sheet.specs.declared.line.Number.the-variants.{Nothing, Value}
 use Rattle.sheet.specs.Lines.{wordLength, numberOf, parsedFrom, lineIn, nameLength}
 

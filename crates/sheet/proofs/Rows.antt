@@ -1,11 +1,11 @@
 -- The row of a file, from what inspecting it says. Assumes nothing.
 use Prim.Native.Nat.{ℕ, _-_, _≤_, _<_}
 use mathlib.Core.Path.{_≡_, refl, sym, ap, _∙_}
-use mathlib.Core.Bool.{Bool, true, false, cond}
+use mathlib.Core.Bool.{true, false}
 use mathlib.Core.List.{List}
-use mathlib.Core.Option.{Option, none, some}
+use mathlib.Core.Option.{Option}
 use native.Mathlib.Omega.{arith}
-use borrow.Author.Tests.{eqb-true, ltb-true, leb-true, le-ltb, le-leb, lt-leb}
+use borrow.Author.Tests.{eqb-true, ltb-true, leb-true, le-ltb, lt-leb}
 use lib.Dec.{eqb, leb, ltb}
 use lib.ListN.{length, take, length-take}
 use Rattle.field.specs.Records.{Bytes}
@@ -16,7 +16,7 @@ use Rattle.rules.specs.Tests.{all, Answer, Refused, Accepted, firstNo, after, b
 use Rattle.rules.specs.Values.{Index, used}
 use Rattle.rules.specs.Questions.{areaOk, question1, question2, question4}
 use Rattle.rules.specs.File.{readHeader}
-use Rattle.rules.specs.Load.{bodyIn, headerNumber, readSections, fileNumber, fromBytes}
+use Rattle.rules.specs.Load.{bodyIn, headerNumber, fileNumber, fromBytes}
 use Rattle.rules.proofs.Tests.{test, never, choose, all→, asked}
 use Rattle.laws.proofs.Facts.{numbersOk→, scanOk→}
 use Rattle.laws.proofs.Loaded.{loaded-valid}
@@ -30,7 +30,7 @@ use Rattle.sheet.specs.declared.line.Parsed.the-variants as parsed
 use Rattle.sheet.specs.declared.row.RowAnswer.{RowAnswer}
 use Rattle.sheet.specs.declared.row.RowAnswer.the-variants as answer
 use Rattle.sheet.specs.Lines.{lineIn}
-use Rattle.sheet.specs.Rows.{answerIn, fileIn, askedSlot, askedKey, foundRow}
+use Rattle.sheet.specs.Rows.{answerIn, askedSlot, askedKey, foundRow}
 
 -- the area that a file is inspected under
 abbrev pub askedArea : List ℕ → ℕ → ℕ → Area

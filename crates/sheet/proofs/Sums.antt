@@ -1,11 +1,10 @@
 -- Rows in a table, and the sums over them. Assumes nothing.
 use Prim.Native.Nat.{ℕ, zero, suc, _+_, _-_, _*_, _≤_, _<_, min}
 use mathlib.Core.Path.{_≡_, refl, sym, ap, _∙_}
-use mathlib.Core.Bool.{cond}
 use mathlib.Core.List.{List, [], _∷_, _++_, append-assoc}
 use native.Mathlib.Omega.{arith}
 use borrow.Author.Tests.{eq-eqb, ne-eqb}
-use lib.ListN.{length, getD, take, drop, set, length-append, length-take}
+use lib.ListN.{length, getD, take, drop, set, length-append}
 use lib.Seq.{take-all, take-at, drop-at, take-set-le, drop-set-add, getD-take, getD-drop, sets, sets-eq, length-take-le}
 use Rattle.field.specs.Records.{records, recordAt}
 use Rattle.field.proofs.Records.{records-length, records-more}

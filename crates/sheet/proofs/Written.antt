@@ -9,16 +9,15 @@ use borrow.Author.Tests.{lt-ltb, le-ltb, ltb-true, ltb-false}
 use lib.Dec.{ltb}
 use lib.ListN.{length, getD, take, drop, set, length-set, length-take, length-drop, drop-of-length-le}
 use lib.Seq.{drop-cons, drop-set-lt, getD-set-same, append-snoc, take-all, sets, sets-eq}
-use Rattle.rules.specs.File.{over}
 use Rattle.rules.proofs.Tests.{test}
 use Rattle.rules.specs.Tests.{Answer, Refused, Accepted}
 use Rattle.rules_coverage.specs.declared.Row.{Row}
 use Rattle.rules_coverage.specs.Lines.{lineOf}
-use Rattle.rules_coverage.specs.Coverage.{coverage, digits, decimalText, numberText, refusedText, newline, answerText, rowText, nameOf, totalName, totalText}
+use Rattle.rules_coverage.specs.Coverage.{coverage, digits, numberText, refusedText, newline, answerText, rowText, nameOf, totalName, totalText}
 use Rattle.sheet.specs.declared.line.Parsed.{Parsed}
 use Rattle.sheet.specs.declared.line.Parsed.the-variants as parsed
 use Rattle.sheet.specs.Lines.{lineIn, nameLength}
-use Rattle.sheet.specs.Text.{fitting, Written, Output, output, put, puts}
+use Rattle.sheet.specs.Text.{Written, Output, output, put, puts}
 
 -- ---- bytes behind each other
 pub puts-append : (o : Output) (a b : List ℕ) → puts o (a ++ b) ≡ puts (puts o a) b

@@ -1,7 +1,6 @@
 -- What only the proofs of this crate use: a row's words, and the sums while they are made.
-use Prim.Native.Nat.{ℕ, _+_, _*_, _≤_}
+use Prim.Native.Nat.{ℕ, _*_, _≤_}
 use mathlib.Core.List.{List, [], _∷_}
-use lib.ListN.{getD}
 use Rattle.field.specs.Records.{recordAt}
 use Rattle.rules.specs.Tests.{Answer, Refused, Accepted}
 use Rattle.rules_coverage.specs.declared.Row.{Row}

@@ -2,9 +2,9 @@
 use crate::row::RowAnswer;
 use rules_coverage::Row;
 ghost use mathlib.Core.Path.{_≡_};
-ghost use mathlib.Core.List.{List, [], _∷_, _++_};
-ghost use Prim.Native.Nat.{_+_, _*_, _≤_, _<_, min};
-ghost use lib.ListN.{length, take, getD};
+ghost use mathlib.Core.List.{[], _∷_, _++_};
+ghost use Prim.Native.Nat.{_+_, _*_, _≤_, _<_};
+ghost use lib.ListN.{length, take};
 ghost use lib.Seq.{sets};
 ghost use Rattle.rules_coverage.specs.Lines.{mostLines};
 ghost use Rattle.rules_coverage.specs.Coverage.{totals};

@@ -14,7 +14,7 @@ ghost use mathlib.Core.Bool.{cond};
 ghost use mathlib.Core.List.{[], _∷_};
 ghost use Prim.Native.Nat.{_+_, _-_, _<_, _≤_};
 ghost use lib.Dec.{leb, ltb};
-ghost use lib.ListN.{length, getD, take, drop, set, replicate};
+ghost use lib.ListN.{getD, drop, set, replicate};
 ghost use Rattle.rules.specs.Questions.{areaOk};
 ghost use Rattle.rules.specs.Tests.{ask, firstNo};
 ghost use Rattle.rules.specs.Values.{sameArea, max64};

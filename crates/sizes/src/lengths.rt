@@ -9,7 +9,7 @@ use rules::MERGE_ROOM;
 use sections::area_boundaries;
 ghost use mathlib.Core.Path.{_≡_};
 ghost use mathlib.Core.Bool.{true};
-ghost use Prim.Native.Nat.{min, max, _/_};
+ghost use Prim.Native.Nat.{max, _/_};
 ghost use Rattle.rules.specs.Questions.{areaOk};
 ghost use Rattle.rules.specs.Load.{keyOf};
 ghost use Rattle.sizes.specs.LengthsSizes.{sizesOf, limitedSizes, rangeOf};

@@ -2,7 +2,7 @@
 use mathlib.Core.Path.{_≡_, refl, sym, ap, _∙_}
 use mathlib.Core.Bool.{true}
 use mathlib.Core.List.{List, [], _∷_, _++_, append-nil}
-use Prim.Native.Nat.{ℕ, zero, suc, _+_, _*_, _/_, _%_, _^_, _<_}
+use Prim.Native.Nat.{ℕ, zero, suc, _+_, _/_, _%_, _^_, _<_}
 use native.Mathlib.Nat.{add-zero}
 use native.Mathlib.Omega.{arith}
 use borrow.Author.Tests.{ltb-true}
@@ -13,7 +13,7 @@ use Rattle.field.specs.Number.{encode, numberAt, put}
 use Rattle.field.specs.Records.{records, Bytes}
 use Rattle.field.specs.Fields.{FieldsFit}
 use Rattle.field.proofs.Number.{encode-add, encode-low, number-more, number-none, number-part, number-below, number-join}
-use Rattle.field.proofs.Format.{Layout, Each, none, one}
+use Rattle.field.proofs.Format.{Layout, Each, one}
 use Rattle.field.proofs.Fields.{of-fields, fields-put}
 use Rattle.rules.specs.declared.Area.{Area}
 use Rattle.rules.specs.declared.Hint.{Hint}

@@ -3,11 +3,10 @@ use mathlib.Core.Path.{_≡_, refl, sym, ap, _∙_}
 use mathlib.Core.Bool.{Bool, true, false, _&&_, cond}
 use mathlib.Core.List.{List, [], _∷_, _++_, append-nil}
 use Prim.Native.Nat.{ℕ, zero, suc, _+_, _*_, _-_, _<_, _≤_}
-use native.Mathlib.Nat.{sub-zero, eq-or-lt-of-le, add-zero, zero-mul, suc-mul, zero-add, suc-add, add-comm}
+use native.Mathlib.Nat.{add-zero, zero-mul, suc-mul, zero-add, suc-add, add-comm}
 use native.Mathlib.Omega.{arith}
-use mathlib.Core.Logic.{⊎-elim}
-use borrow.Author.Tests.{le-leb, lt-leb, le-ltb, lt-ltb, eqb-false}
-use lib.Dec.{eqb, ltb}
+use borrow.Author.Tests.{le-leb, lt-leb, eqb-false}
+use lib.Dec.{eqb}
 use lib.ListN.{length, take, drop, length-drop}
 use lib.Seq.{drop-drop}
 use Rattle.field.specs.Records.{records}

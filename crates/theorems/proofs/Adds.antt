@@ -1,16 +1,16 @@
 -- Nothing is named exactly where a merge leaves the own list as it is. Assumes nothing.
 use mathlib.Core.Path.{_≡_, refl, sym, ap, ap₂, _∙_}
-use mathlib.Core.Bool.{Bool, true, false, _&&_, not, cond}
+use mathlib.Core.Bool.{Bool, true, false, _&&_, not}
 use mathlib.Core.List.{List}
 use Prim.Native.Nat.{ℕ}
-use borrow.Author.Tests.{eqb-true, not-true}
+use borrow.Author.Tests.{eqb-true}
 use lib.Dec.{eqb}
-use Rattle.rules.specs.Tests.{all, Answer, Accepted, after, firstNo}
-use Rattle.rules.specs.Values.{Scan, Hinting, Index, Lengths, sameCheckpoint, sameEnd}
+use Rattle.rules.specs.Tests.{all, Answer, Accepted, after}
+use Rattle.rules.specs.Values.{Scan, Index, Lengths, sameCheckpoint, sameEnd}
 use Rattle.rules.specs.Questions.{question1, question2, question3, question4}
 use Rattle.rules.specs.Plan.{plan, bytesAt}
 use Rattle.rules_jump.specs.Names.{namedHint}
-use Rattle.rules.specs.Merge.{further, takenScan, mergedScan, merged, mergeNumber, merge}
+use Rattle.rules.specs.Merge.{further, mergedScan, merged, mergeNumber, merge}
 use Rattle.rules.specs.File.{over, hasHinting, versionOf, headerOf, hintSection, confirmedSection, bodyOf, saved}
 use Rattle.rules.proofs.Tests.{test, both, and-left, and-right, all→, →all, accepted→, accepted-eq, →after}
 use Rattle.rules.proofs.Same.{eqb-self, sameCheckpoint-self, sameCheckpoint-eq, sameEnd-self, sameEnd-eq}
@@ -24,7 +24,7 @@ use Rattle.index.proofs.Lent.{put-back}
 use Rattle.plan.specs.Calls.{planIn}
 use Rattle.hint.specs.Calls.{hintIn}
 use Rattle.adds.specs.declared.Brings.{Brings}
-use Rattle.adds.specs.Brings.{sameKnown, sameFrame, sameHeld, sameFingerprint, bringsOf, brings}
+use Rattle.adds.specs.Brings.{sameFrame, sameHeld, bringsOf, brings}
 use Rattle.theorems.specs.Adds.{noneButImage, noneNamed, NothingNamed, OnlyImageNamed, NothingNamedInTables, OnlyImageNamedInTables}
 use Rattle.theorems.proofs.MergeInTables.{kinded→, Left, merge-left}
 use Rattle.theorems.proofs.TableRun.{kinds-pass}

@@ -4,28 +4,24 @@ use mathlib.Core.Bool.{Bool, true, false}
 use mathlib.Core.Logic.{⊎-elim, _⊎_}
 use mathlib.Core.List.{List}
 use mathlib.Core.Option.{none, some}
-use Prim.Native.Nat.{ℕ, _+_, _≤_, min}
+use Prim.Native.Nat.{ℕ, _+_, _≤_}
 use native.Mathlib.Omega.{arith}
-use lib.Dec.{leb}
 use lib.ListN.{take}
-use borrow.Author.Tests.{eq-eqb, leb-true, le-leb}
+use borrow.Author.Tests.{eq-eqb}
 use Rattle.rules.specs.declared.Checkpoint.{Checkpoint}
 use Rattle.rules.specs.Tests.{isSome, agree, agrees}
-use Rattle.rules.specs.Values.{Scan, Index, Lengths, maxMalformed, max32, boundaries, complete, count, frontierOf, frontier, sameCheckpoint, sameEnd}
-use Rattle.rules.specs.Questions.{numbersOk, scanRoom, question1, question2, question3, question4}
+use Rattle.rules.specs.Values.{Scan, Index, Lengths, maxMalformed, boundaries, complete, count, frontierOf, frontier, sameCheckpoint, sameEnd}
+use Rattle.rules.specs.Questions.{question1, question3}
 use Rattle.rules.specs.Record.{below}
 use Rattle.rules.specs.Merge.{question41, question42, question43, further, takenScan, mergedScan, merged, mergeNumber}
 use Rattle.rules.specs.Load.{limited}
-use Rattle.rules.specs.Sizes.{sized}
 use Rattle.rules.specs.Run.{Reading, checkpointsOf, endStateOf, Cut}
 use Rattle.laws.proofs.hint_lists.Closure as hinting
-use Rattle.laws.proofs.hint_lists.Calls.{merged-numbers, holds-of, merged-holds}
 use Rattle.laws.proofs.scans.Scans.{ScanIs, scan-of, scan→}
 use Rattle.laws.proofs.scans.Merge.{appended, further-prefix}
-use Rattle.laws.proofs.scans.Theorems.{merge-closed, merge-bytes, limit-closed, limit-bytes}
-use Rattle.laws.proofs.scans.Sizes.{merged-sized, limited-sized}
-use Rattle.rules.proofs.Tests.{never, choose, both, all→, →all, agrees-take, agree-none, asks}
-use Rattle.rules.proofs.Same.{sameCheckpoint-self, sameEnd-self, sameArea-self, sameArea-eq}
+use Rattle.laws.proofs.scans.Theorems.{merge-bytes, limit-bytes}
+use Rattle.rules.proofs.Tests.{never, choose, both, →all, agrees-take, agree-none, asks}
+use Rattle.rules.proofs.Same.{sameCheckpoint-self, sameEnd-self, sameArea-self}
 pub use Rattle.drawer.proofs.Passing.{merged-one, merged-two, merged-three, merged-four, merged-fits, limited-two, limited-three, limited-four, limited-fits}
 use Rattle.theorems.proofs.ScanLaws.{Counts, counts, one, level}
 

@@ -19,7 +19,7 @@ use Rattle.rules.specs.Run.{Reading, Cut, Place, Call, mergeCall, saveCall, loa
 use Rattle.laws.proofs.Limit.{limited-load}
 use Rattle.laws.proofs.hint_lists.Closure.{unmarked-stated}
 use Rattle.theorems.specs.Terms.{SameRead, AllCut, afterCalls, storedIn}
-use Rattle.theorems.specs.Demand3.{Outcome, Outcomes, MergedParts, LoadLeaves, JustLeaves, PartsLeft, PartsByRule, PartsAgree, NoneRefused, Demand3}
+use Rattle.theorems.specs.Demand3.{Outcome, Outcomes, MergedParts, JustLeaves, PartsLeft, PartsByRule, PartsAgree, NoneRefused, Demand3}
 use Rattle.rules.proofs.Tests.{test, all→, →all, agree-none, asked}
 use Rattle.rules.proofs.Same.{eqb-self}
 use Rattle.theorems.proofs.Jump.{jump-not-back}

@@ -1,5 +1,5 @@
 -- A set of files over the tables that players hold, and files that saving wrote. Assumes nothing.
-use Prim.Native.Nat.{ℕ, zero, suc, _*_, _<_, _≤_}
+use Prim.Native.Nat.{ℕ, zero, suc, _<_}
 use mathlib.Core.Path.{_≡_, refl, sym, ap, subst, _∙_}
 use mathlib.Core.Bool.{true}
 use mathlib.Core.Logic.{_≢_}
@@ -35,9 +35,9 @@ use Rattle.index.proofs.Standing.{stands, stands-cleared, kinds-from, within, r
 use Rattle.merge.specs.Merge.{hintsWritten}
 use Rattle.drawer.specs.Drawer.{mergedTables, listsOf, mergeAllIn}
 use Rattle.drawer.proofs.Joining.{pairs-both}
-use Rattle.theorems.specs.Terms.{Valid, ValidIn}
+use Rattle.theorems.specs.Terms.{Valid}
 use Rattle.theorems.specs.TableRun.{LentIn}
-use Rattle.theorems.specs.Drawer.{InTurn, SetAsked, Gathers}
+use Rattle.theorems.specs.Drawer.{InTurn, SetAsked}
 use Rattle.theorems.specs.DrawerInTables.{SetLeft, SetAnswers, SetInTables, SetOfSaved}
 use Rattle.theorems.proofs.Closure.{closure}
 use Rattle.theorems.proofs.CutLaws.{merged-fits, cut-limited}

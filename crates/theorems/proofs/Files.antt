@@ -1,19 +1,17 @@
 -- The area that a file is of is loading's. Assumes nothing.
 use Prim.Native.Nat.{ℕ}
-use mathlib.Core.Path.{_≡_, refl, sym, ap, subst, _∙_}
-use mathlib.Core.Bool.{Bool, true, false, cond, _&&_}
+use mathlib.Core.Path.{_≡_, refl, ap, subst}
+use mathlib.Core.Bool.{Bool, true, false}
 use mathlib.Core.List.{List, [], _∷_}
 use native.Mathlib.Omega.{arith}
-use lib.Dec.{eqb, leb}
+use lib.Dec.{eqb}
 use lib.ListN.{length, drop}
-use borrow.Author.Tests.{eqb-true}
 use Rattle.rules.specs.declared.Area.{Area}
 use Rattle.rules.specs.declared.AreaKey.{AreaKey}
-use Rattle.rules.specs.declared.Header.{Header}
 use Rattle.rules.specs.Tests.{all, ask, firstNo, Answer, Refused, Accepted, after}
 use Rattle.rules.specs.Values.{Index, sameKey}
 use Rattle.rules.specs.File.{readHeader}
-use Rattle.rules.specs.Load.{keyOf, bodyIn, fileNumber, headerNumber, readSections, fromBytes}
+use Rattle.rules.specs.Load.{keyOf, bodyIn, fileNumber, headerNumber, fromBytes}
 use Rattle.rules.proofs.Same.{eqb-self}
 use Rattle.rules.proofs.Tests.{test, never, →all, asked, after→, accepted→}
 use Rattle.sizes.specs.LengthsSizes.{rangeOf}

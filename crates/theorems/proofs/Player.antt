@@ -1,15 +1,14 @@
 -- The numbers and tables that a player in C rests on. Assumes nothing.
-use Prim.Native.Nat.{ℕ, zero, suc, _/_, _≤_, _*_}
-use mathlib.Core.Path.{_≡_, refl, sym, _∙_}
+use Prim.Native.Nat.{ℕ, zero, suc, _≤_}
+use mathlib.Core.Path.{_≡_, refl, sym}
 use mathlib.Core.Bool.{Bool, true, false, cond}
 use mathlib.Core.List.{List, [], _∷_}
-use mathlib.Core.Option.{Option, none, some}
 use native.Mathlib.Omega.{arith}
 use borrow.Author.Tests.{le-leb}
 use lib.Dec.{eqb, leb}
 use lib.ListN.{length}
 use Rattle.rules.specs.declared.HintRecorder.{HintRecorder}
-use Rattle.rules.specs.Tests.{Answer, Refused, Accepted, ask, firstNo, after, numberOf, all}
+use Rattle.rules.specs.Tests.{Refused, Accepted, ask, firstNo, after, numberOf, all}
 use Rattle.rules.specs.Values.{Index, Hinting, boundaries}
 use Rattle.rules.specs.Values as values
 use Rattle.rules.specs.Questions.{recorderQuestion3, scanRoom}

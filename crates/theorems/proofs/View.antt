@@ -6,14 +6,13 @@ use mathlib.Core.List.{List, [], _∷_, _++_, append-nil, append-assoc}
 use mathlib.Core.Option.{Option, none, some}
 use native.Mathlib.Omega.{arith}
 use lib.Dec.{eqb, leb}
-use lib.ListN.{length, take, drop, getD, length-append}
+use lib.ListN.{length, take, drop, getD}
 use lib.Seq.{take-at, drop-at}
 use borrow.Author.Tests.{eqb-true, eq-eqb, leb-true, ltb-true}
 use Rattle.field.specs.Number.{encode, decode}
 use Rattle.field.specs.Records.{records, bytesOf}
-use Rattle.field.specs.Fields.{fieldsAt, fieldBytes, FieldsFit}
+use Rattle.field.specs.Fields.{fieldsAt, FieldsFit}
 use Rattle.field.proofs.Number.{encode-length, decode-encode}
-use Rattle.field.proofs.Fields.{of-fields, fieldBytes-length}
 use Rattle.field.proofs.Format.{Layout, Each, none as nothing, one, bytesOf-length, records-bytes}
 use Rattle.rules.specs.declared.Area.{Area}
 use Rattle.rules.specs.declared.Checkpoint.{Checkpoint}
@@ -35,8 +34,8 @@ use Rattle.laws.proofs.Facts.{Facts, facts}
 use Rattle.laws.proofs.Header.{scan-counts, few-boundaries}
 use Rattle.laws.proofs.Ranges.{AreaFacts, frontier-small, checkpoints-fit, Placed, frames-placed, parts-fit}
 use Rattle.laws.proofs.scans.Scans.{in-boundary}
-use Rattle.view.proofs.Layouts.{headWidths, head-writes, head-length, countWidths, counts-writes, counts-length, SeenFits, seen-layout, BackingFits, behind-layout, LengthFits, length-layout, seen-count, behind-count, lengths-count, behind-size, same-counts, marks-length, seen-length, workshop-length, view-length}
-use Rattle.rules_view.specs.View.{listener, workshop, Seen, Listener, seenFrom, listenerOf, Backing, HeldLength, Workshop, backingsOf, lengthsOf, workshopOf, wordBytes, Head, headWords, readHead, headOf, encodeSeen, decodeSeen, seenBytes, listenerBytes, Totals, totalWords, readTotals, totalsOf, encodeBacking, decodeBacking, encodeHeldLength, decodeHeldLength, encodeMark, workshopBytes, listenerFrom, seenIn, readListener, withMarks, workshopFrom, workshopSize, behindSeen, readWorkshop, isRole, viewBytes, viewLength, view, viewSize}
+use Rattle.view.proofs.Layouts.{headWidths, head-writes, head-length, countWidths, counts-writes, counts-length, SeenFits, seen-layout, BackingFits, behind-layout, LengthFits, length-layout, seen-count, lengths-count, same-counts, marks-length, seen-length, workshop-length, view-length}
+use Rattle.rules_view.specs.View.{listener, workshop, Listener, seenFrom, listenerOf, Workshop, backingsOf, lengthsOf, workshopOf, wordBytes, Head, headWords, readHead, headOf, encodeSeen, seenBytes, listenerBytes, Totals, totalWords, readTotals, totalsOf, encodeBacking, encodeHeldLength, encodeMark, workshopBytes, listenerFrom, seenIn, readListener, withMarks, workshopFrom, workshopSize, behindSeen, readWorkshop, isRole, viewBytes, viewLength, view, viewSize}
 use Rattle.rules_view.specs.Roles.{asWorkshop}
 use Rattle.theorems.specs.Terms.{Valid}
 use Rattle.theorems.specs.View.{ListenerTold, WorkshopTold, ViewsTell, ListenerSees, WorkshopAdds, WorkshopIsBase, ListenerRefused, ViewNumber}

@@ -9,8 +9,7 @@ use borrow.Author.Tests.{ne-eqb}
 use Rattle.rules.specs.declared.AreaIndex.{AreaIndex}
 use Rattle.rules.specs.Tests.{Answer, Accepted, after, firstNo}
 use Rattle.rules.specs.File.{over}
-use Rattle.rules_view.specs.View.{listener, workshop, listenerOf, isRole, viewBytes, viewLength, view, viewSize}
-use Rattle.blocks.specs.IsHead.{isIndex}
+use Rattle.rules_view.specs.View.{listener, workshop, isRole, viewBytes, viewLength, view, viewSize}
 use Rattle.index.specs.Index.{Tables, roomOf, indexIn, kindsIn, kinded}
 use Rattle.view.specs.declared.Viewed.the-variants as viewed
 use Rattle.view.specs.View.{ViewOut, viewOut, inRole, viewIn, viewSizeIn}

@@ -8,7 +8,7 @@ use lib.Dec.{eqb}
 use lib.ListN.{length, getD}
 use Rattle.field.specs.Records.{Bytes, bytesOf}
 use Rattle.rules.specs.declared.AreaIndex.{AreaIndex}
-use Rattle.rules.specs.Tests.{agree, Refused, Accepted}
+use Rattle.rules.specs.Tests.{agree, Refused}
 use Rattle.rules.specs.Values.{Index, Lengths, stated}
 use Rattle.rules.specs.Questions.{question3}
 use Rattle.rules.specs.File.{saved}

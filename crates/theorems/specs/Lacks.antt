@@ -16,7 +16,7 @@ use Rattle.rules.specs.declared.Hint.{Hint}
 use Rattle.rules.specs.declared.Plan.the-variants.{At}
 use Rattle.rules.specs.declared.Resume.{Resume}
 use Rattle.rules.specs.Tests.{Accepted, agree, orElse}
-use Rattle.rules.specs.Values.{Frame, Scan, Index, Lengths, noConfirmation, count, complete, stated, isChecked}
+use Rattle.rules.specs.Values.{Frame, Index, Lengths, noConfirmation, count, complete, stated, isChecked}
 use Rattle.rules.specs.Plan.{jump, planned, bytesAt}
 use Rattle.index.specs.Index.{storeOf}
 use Rattle.rules.specs.Run.{Content, contentOf, Reading, Cut}

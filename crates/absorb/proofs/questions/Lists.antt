@@ -1,20 +1,19 @@
 -- The malformed LSNs that are taken. Assumes nothing.
-use mathlib.Core.Path.{_≡_, refl, sym, ap, _∙_}
+use mathlib.Core.Path.{_≡_, refl, sym, _∙_}
 use mathlib.Core.Bool.{Bool, true, false, _&&_, _||_, and-true}
 use mathlib.Core.List.{List, [], _∷_}
-use Prim.Native.Nat.{ℕ, zero, suc, _+_, _≤_, _<_, min}
+use Prim.Native.Nat.{ℕ, suc, _+_, _≤_, min}
 use native.Mathlib.Omega.{arith}
 use lib.Dec.{eqb, leb, ltb}
 use lib.ListN.{length, take, getD, length-take}
-use borrow.Author.Tests.{ltb-true, ltb-false, lt-ltb, le-ltb, le-leb, ne-eqb}
+use borrow.Author.Tests.{ltb-true, ltb-false, le-leb, ne-eqb}
 use Rattle.field.specs.Number.{sameBytes}
 use Rattle.rules.specs.Tests.{all, walk}
 use Rattle.rules.specs.Values.{maxMalformed, max32}
 use Rattle.rules.specs.Sections.{risingOk, risen, rising, ownLsn, anyLsn}
 use Rattle.rules.specs.Record.{below}
-use Rattle.rules.proofs.Tests.{test, never}
+use Rattle.rules.proofs.Tests.{test}
 use Rattle.rules.proofs.Walk.{walk-head, walk-tail, risen→}
-use Rattle.rules.proofs.Same.{eqb-self}
 use Rattle.absorb.specs.QuestionsNeeds.{listIn}
 
 -- none of a list that rises from the bound on lies below it

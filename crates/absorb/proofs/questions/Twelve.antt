@@ -1,7 +1,7 @@
 -- Question 12 in the tables. Assumes nothing.
-use mathlib.Core.Path.{_≡_, refl, sym, ap, _∙_}
-use mathlib.Core.Bool.{Bool, true, false, _&&_, _||_, not, and-true}
-use mathlib.Core.List.{List, [], _∷_, _++_}
+use mathlib.Core.Path.{_≡_, refl, sym, _∙_}
+use mathlib.Core.Bool.{Bool, true, _&&_, _||_, not, and-true}
+use mathlib.Core.List.{List, _++_}
 use mathlib.Core.Option.{Option}
 use Prim.Native.Nat.{ℕ, _+_, _-_, _≤_, _<_}
 use native.Mathlib.Omega.{arith}
@@ -24,7 +24,7 @@ use Rattle.tables.specs.Tables.{checkpointsIn, lsnsIn}
 use Rattle.sections.specs.Numbers.{endIn}
 use Rattle.laws.specs.Twelve.{continues, listOk, joinedOk}
 use Rattle.absorb.specs.Given.{givenIn}
-use Rattle.absorb.specs.QuestionsNeeds.{scanUpTo, stretchUpTo, listIn, movedIn, twelveIn}
+use Rattle.absorb.specs.QuestionsNeeds.{listIn, movedIn, twelveIn}
 
 module _ (x : AreaIndex) (cs held : List ℕ) (r : Recorder) (ds ms : List ℕ) where
   abbrev own : List Checkpoint

@@ -1,17 +1,17 @@
 -- Lists of records compared, counted and joined. Assumes nothing.
 use mathlib.Core.Path.{_≡_, refl, sym, ap, _∙_}
-use mathlib.Core.Bool.{Bool, true, false, _&&_, _||_, cond}
+use mathlib.Core.Bool.{Bool, true, false, _&&_, cond}
 use mathlib.Core.Logic.{⊎-elim}
 use mathlib.Core.List.{List, [], _∷_, _++_, append-nil, append-assoc}
-use Prim.Native.Nat.{ℕ, zero, suc, _+_, _-_, _*_, _≤_, _<_, min}
+use Prim.Native.Nat.{ℕ, _+_, _-_, _*_, _≤_, _<_, min}
 use native.Mathlib.Nat.{add-zero}
 use native.Mathlib.Omega.{arith}
-use lib.Dec.{eqb, leb, ltb}
-use lib.ListN.{length, take, drop, getD, length-append, length-drop, length-take, take-append-drop, drop-of-length-le}
+use lib.Dec.{eqb, ltb}
+use lib.ListN.{length, take, drop, length-drop, length-take, take-append-drop, drop-of-length-le}
 use borrow.Author.Tests.{le-leb, lt-leb, eqb-true}
 use Rattle.field.specs.Number.{sameBytes}
 use Rattle.field.specs.Records.{records, recordAt, Bytes}
-use Rattle.field.proofs.Records.{records-length, records-at, take-records}
+use Rattle.field.proofs.Records.{records-length, take-records}
 use Rattle.rules.specs.declared.Checkpoint.{Checkpoint}
 use Rattle.rules.specs.Tests.{agrees, lastOr}
 use Rattle.rules.specs.Values.{noCheckpoint, lastCheckpoint, checkpointAt}

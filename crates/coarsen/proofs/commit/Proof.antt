@@ -1,5 +1,3 @@
-use mathlib.Core.Path.{_∙_}
-use native.Mathlib.Omega.{arith}
 use Rattle.coarsen.proofs.Ready.{wider, keeps, copies, holds, takes, hints-there, confirmed-there}
 use Rattle.coarsen.proofs.Done.{committed}
 use borrow.Author.Needs.{needs}

@@ -1,11 +1,10 @@
 use Prim.Native.Nat.{_-_}
 use native.Mathlib.Omega.{arith}
-use mathlib.Core.Path.{_≡_, refl, sym, ap, _∙_}
+use mathlib.Core.Path.{_≡_, refl, _∙_}
 use lib.ListN.{length}
-use Rattle.rules_coarsen.specs.Coarse.{coarseParts, unstored}
+use Rattle.rules_coarsen.specs.Coarse.{coarseParts}
 use Rattle.tables.specs.Tables.{framesIn, partsIn}
-use Rattle.parts.specs.Parts.{partTables, storedIn, heldFrom}
-use Rattle.rules.specs.PartRule.{Stored}
+use Rattle.parts.specs.Parts.{partTables, storedIn}
 use Rattle.parts.proofs.Adding.{Adding, adding-start, source-ready, one-ready, adding-on, adding-end}
 use Rattle.coarsen.proofs.Keeping.{kept-multiples, kept-from}
 use borrow.Author.Needs.{needs}

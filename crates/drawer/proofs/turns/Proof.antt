@@ -1,10 +1,8 @@
 use Prim.Native.Nat.{_-_}
-use mathlib.Core.Path.{refl}
 use native.Mathlib.Omega.{arith}
-use Rattle.index.specs.Index.{Tables, tables}
+use Rattle.index.specs.Index.{tables}
 use Rattle.drawer.specs.Turns.{Turns}
 use Rattle.drawer.proofs.Turning.{At, at-start, at-turn, at-next, at-end}
-use borrow.Author.Needs.{needs}
 use Rattle.drawer.proofs.turns.Statement.{statement}
 use Rattle.drawer.proofs.turns.Tie as tie
 

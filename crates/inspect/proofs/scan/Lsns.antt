@@ -1,6 +1,6 @@
 -- Records of a section of which not all need be there. Assumes nothing.
-use mathlib.Core.Path.{_≡_, refl, sym, ap, _∙_}
-use mathlib.Core.Bool.{Bool, true, false, not, cond}
+use mathlib.Core.Path.{_≡_, _∙_}
+use mathlib.Core.Bool.{Bool, true, false, not}
 use mathlib.Core.List.{List}
 use Prim.Native.Nat.{ℕ, _+_, _*_, _-_, _<_, _≤_}
 use native.Mathlib.Omega.{arith}
@@ -8,8 +8,8 @@ use borrow.Author.Tests.{not-true, not-false}
 use lib.Dec.{eqb}
 use lib.ListN.{length, drop, length-drop}
 use Rattle.field.specs.Records.{records}
-use Rattle.rules.specs.Tests.{walk, Answer, Refused}
-use Rattle.rules.specs.Load.{Read, read, readEach, readRecord}
+use Rattle.rules.specs.Tests.{walk, Refused}
+use Rattle.rules.specs.Load.{readEach, readRecord}
 use Rattle.tables.proofs.Reading.{read-all, read-short}
 use Rattle.inspect.specs.declared.cursor.Cursor.{Cursor}
 use Rattle.inspect.specs.declared.scan.Taken.the-variants as taken

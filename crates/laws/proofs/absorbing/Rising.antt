@@ -1,12 +1,12 @@
 -- The LSNs of a rising list that lie below a bound. Assumes nothing.
-use mathlib.Core.Path.{_≡_, refl, sym, ap, _∙_}
-use mathlib.Core.Bool.{Bool, true, false, cond}
+use mathlib.Core.Path.{_≡_, refl}
+use mathlib.Core.Bool.{true, false}
 use mathlib.Core.List.{List, [], _∷_}
-use Prim.Native.Nat.{ℕ, zero, suc, _<_, _≤_}
+use Prim.Native.Nat.{ℕ, zero, suc, _≤_}
 use native.Mathlib.Omega.{arith}
 use lib.Dec.{ltb}
-use lib.ListN.{length, take, getD}
-use borrow.Author.Tests.{ltb-true, ltb-false}
+use lib.ListN.{take, getD}
+use borrow.Author.Tests.{ltb-true}
 use Rattle.rules.specs.Tests.{walk}
 use Rattle.rules.specs.Sections.{risingOk, risen, rising, ownLsn, anyLsn}
 use Rattle.rules.specs.Record.{below}

@@ -1,28 +1,27 @@
 -- Question 12 by tests on what is not yet joined. Assumes nothing.
-use mathlib.Core.Path.{_≡_, refl, sym, ap, _∙_}
-use mathlib.Core.Bool.{Bool, true, false, _&&_, _||_, not, cond}
+use mathlib.Core.Path.{_≡_, refl, sym}
+use mathlib.Core.Bool.{Bool, true, false}
 use mathlib.Core.Logic.{⊎-elim}
 use mathlib.Core.List.{List, [], _∷_, _++_}
 use mathlib.Core.Option.{Option, none, some}
-use Prim.Native.Nat.{ℕ, zero, suc, _+_, _-_, _*_, _<_, _≤_, min}
+use Prim.Native.Nat.{ℕ, _+_, _-_, _≤_, min}
 use native.Mathlib.Nat.{add-zero}
 use native.Mathlib.Omega.{arith}
 use lib.Dec.{leb, eqb}
 use lib.ListN.{length, take, drop, getD, length-append, length-drop, take-append-drop}
 use lib.Seq.{getD-drop, length-take-le}
-use borrow.Author.Tests.{leb-true, le-leb, leb-false, eqb-true, eq-eqb}
+use borrow.Author.Tests.{leb-true, le-leb, leb-false}
 use Rattle.field.specs.Number.{sameBytes}
-use Rattle.rules.specs.declared.Area.{Area}
 use Rattle.rules.specs.declared.Checkpoint.{Checkpoint}
 use Rattle.rules.specs.declared.EndState.{EndState}
 use Rattle.rules.specs.Tests.{all, walk, isSome, orElse}
-use Rattle.rules.specs.Values.{Scan, Index, Recorder, maxMalformed, max32, noCheckpoint, checkpointAt, lastCheckpoint, boundaries, count, frontier, counted}
+use Rattle.rules.specs.Values.{Scan, Index, Recorder, maxMalformed, max32, noCheckpoint, checkpointAt, lastCheckpoint, boundaries, count, counted}
 use Rattle.rules.specs.Sections.{Passed, begun, passed, checkpointOk, checkpointsOk, endingOk, malformedOk, rising, ownLsn, anyLsn}
 use Rattle.rules.specs.Questions.{scanOk, hintingOk, question4, endOf}
-use Rattle.rules.specs.Record.{question12, below, joined, moves, absorbedIndex}
-use Rattle.rules.proofs.Tests.{test, never, or-left, or-right, or-cases, all→, →all}
+use Rattle.rules.specs.Record.{question12, joined, moves}
+use Rattle.rules.proofs.Tests.{test, or-left, or-right, or-cases, all→, →all}
 use Rattle.rules.proofs.Walk.{arrived, walk-none, walk-cons, walk-head, walk-tail, walk-right, walk-join, walk-at, arrived-none}
-use Rattle.laws.proofs.scans.Scans.{CheckpointIs, checkpoint→, →checkpoint, checkpoints-walk, passed-number, passed-last, StretchIs, RecorderIs, ScanIs, scan→, →scan}
+use Rattle.laws.proofs.scans.Scans.{checkpoint→, →checkpoint, checkpoints-walk, passed-number, passed-last, StretchIs, RecorderIs, ScanIs, scan→, →scan}
 use Rattle.laws.proofs.scans.Merge.{index-takes}
 use Rattle.laws.specs.Twelve.{common, notBelow, continues, takenBelow, listOk, joinedOk}
 use Rattle.laws.proofs.absorbing.Rising.{taken-rises, rising-first}

@@ -10,7 +10,7 @@ use borrow.Author.Tests.{eqb-true, le-leb}
 use Rattle.rules.specs.Tests.{agree, ask, firstNo, Accepted, after}
 use Rattle.rules.specs.Values.{Scan, Index, Lengths, stated, isChecked}
 use Rattle.rules.specs.Questions.{question1, question2, question3, question4, four, hintingOk}
-use Rattle.rules.specs.Hints.{keep, keepsNothing, withHinting, withConfirmed, question13, question14, question53, withMark, addHints, keepHint, keepConfirmation}
+use Rattle.rules.specs.Hints.{keep, keepsNothing, withHinting, withConfirmed, question13, question14, question53, addHints, keepHint, keepConfirmation}
 use Rattle.rules.specs.Merge.{further, mergedScan, merged, mergeNumber, merge, question41, question43}
 use Rattle.rules.specs.Load.{limited}
 use Rattle.rules.specs.Create.{emptyIndex, bindFingerprint, new}

@@ -2,9 +2,9 @@
 use mathlib.Core.Path.{_≡_, refl, sym, ap, _∙_}
 use mathlib.Core.Bool.{Bool, true, false}
 use mathlib.Core.List.{List, [], _∷_, _++_}
-use Prim.Native.Nat.{ℕ, suc, _+_, _-_, _<_, _≤_}
+use Prim.Native.Nat.{ℕ, suc, _+_, _-_, _≤_}
 use native.Mathlib.Omega.{arith}
-use lib.ListN.{length, drop, length-append}
+use lib.ListN.{length, length-append}
 use lib.Seq.{drop-at}
 use Rattle.rules.specs.declared.Area.{Area}
 use Rattle.rules.specs.declared.Confirmation.{Confirmation}
@@ -13,7 +13,7 @@ use Rattle.rules.specs.Hints.{insert, lastOnes, keepsNothing, keep, keepAll, he
 use Rattle.rules.proofs.Tests.{order}
 use Rattle.laws.specs.Merging.{mergedWith, insertedWith}
 use Rattle.laws.specs.Order.{Rises}
-use Rattle.laws.proofs.hint_lists.Lists.{All, insert-none, insert-here, insert-past, insert-met, insert-cases}
+use Rattle.laws.proofs.hint_lists.Lists.{insert-none, insert-here, insert-past, insert-met, insert-cases}
 use Rattle.laws.proofs.hint_lists.Rising.{rises-from, rises-insert, rising→}
 use Rattle.laws.proofs.hint_lists.Merging.{inserted-with}
 use Rattle.laws.proofs.hint_lists.Confirmations.{met-lsn}

@@ -1,8 +1,8 @@
 -- The last n of two rising lists merged, counted from behind. Assumes nothing.
-use mathlib.Core.Path.{_≡_, refl, sym, ap, _∙_}
-use mathlib.Core.Bool.{true, false, cond}
+use mathlib.Core.Path.{_≡_, sym, ap, _∙_}
+use mathlib.Core.Bool.{cond}
 use mathlib.Core.List.{List, [], _∷_, _++_}
-use Prim.Native.Nat.{ℕ, zero, suc, _+_, _-_, _<_, _≤_, min}
+use Prim.Native.Nat.{ℕ, zero, suc, _+_, _-_, _<_, _≤_}
 use native.Mathlib.Omega.{arith}
 use lib.Dec.{leb}
 use lib.ListN.{length, getD, take, drop, take-append-drop}
@@ -12,7 +12,7 @@ use Rattle.rules.specs.Hints.{lastOnes}
 use Rattle.rules.proofs.Tests.{order}
 use Rattle.laws.specs.Merging.{mergedWith, lastKey}
 use Rattle.laws.specs.Order.{Rises}
-use Rattle.laws.proofs.hint_lists.Lists.{All, all-map, all-append, all-split, last-length}
+use Rattle.laws.proofs.hint_lists.Lists.{all-map, all-append, all-split, last-length}
 use Rattle.laws.proofs.hint_lists.Rising.{rises-split}
 use Rattle.laws.proofs.hint_lists.Merging.{Below, From, nil-with, with-both, with-least, with-split, front-left, front-right}
 use Rattle.laws.proofs.hint_lists.Keeping.{last-few, last-of}

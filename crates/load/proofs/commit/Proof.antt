@@ -1,6 +1,5 @@
 use Rattle.index.specs.Index.{Tables, tables}
 use Rattle.load.proofs.Filling.{Fits, ready-inside, ready-fits, ready-filled}
-use borrow.Author.Needs.{needs}
 use Rattle.load.proofs.commit.Statement.{statement}
 use Rattle.load.proofs.commit.Tie as tie
 

@@ -1,12 +1,11 @@
 -- What a limit leaves of an accepted file. Assumes nothing.
-use mathlib.Core.Path.{_≡_, refl, sym, ap, subst, _∙_}
+use mathlib.Core.Path.{_≡_, refl, subst}
 use mathlib.Core.Bool.{Bool, true, false, cond}
-use mathlib.Core.List.{List, [], _∷_}
+use mathlib.Core.List.{List}
 use mathlib.Core.Option.{none}
-use Prim.Native.Nat.{ℕ, zero, suc, _+_, _-_, _*_, _/_, _≤_, _<_, min}
+use Prim.Native.Nat.{ℕ, _+_, _-_, _*_, _/_, _≤_, min}
 use native.Mathlib.Omega.{arith}
-use lib.Dec.{leb, ltb}
-use lib.ListN.{length, take, drop}
+use lib.ListN.{length, drop}
 use Rattle.field.specs.Records.{Bytes}
 use Rattle.field.proofs.Bytes.{bytes-drop, bytes-take}
 use Rattle.rules.specs.declared.Area.{Area}
@@ -20,7 +19,7 @@ use Rattle.rules.specs.declared.Fingerprint.the-variants.{Unknown}
 use Rattle.rules.specs.declared.Fingerprint.the-variants as fingerprint
 use Rattle.rules.specs.Tests.{Accepted}
 use Rattle.rules.specs.Values.{Frame, Index, used}
-use Rattle.rules.specs.Hints.{thin, lastOnes, unkept}
+use Rattle.rules.specs.Hints.{unkept}
 use Rattle.rules.specs.File.{readHeader}
 use Rattle.rules.specs.Load.{HintSection, hasFingerprint, indexFrom, bodyIn, fromBytes, fitting, within, unmarked, limited}
 use Rattle.rules.proofs.Tests.{after→}
@@ -31,9 +30,7 @@ use Rattle.laws.proofs.hint_lists.Lists.{last-length}
 use Rattle.tables.specs.Tables.{partsIn}
 use Rattle.tables.specs.Files.{placeAt, framesRead}
 use Rattle.index.specs.Index.{numbersFrom}
-use Rattle.sections.specs.Numbers.{idFrom}
 use Rattle.inspect.specs.declared.Found.{Found}
-use Rattle.inspect.specs.Inspect.{foundIn}
 use Rattle.load.specs.Limit.{listIn, limitedIn, Accepts, framesAt, partsAt}
 use Rattle.load.proofs.limit.Sections.{Laid, laid}
 

@@ -1,12 +1,12 @@
 -- 41 to 43, one after the other. Assumes nothing.
-use mathlib.Core.Path.{_≡_, refl, sym, _∙_}
+use mathlib.Core.Path.{_≡_, sym}
 use mathlib.Core.Bool.{Bool, true, false, not}
-use mathlib.Core.List.{List, []}
+use mathlib.Core.List.{List}
 use Prim.Native.Nat.{ℕ}
 use borrow.Author.Tests.{not-true, not-false}
 use Rattle.rules.specs.declared.AreaIndex.{AreaIndex}
 use Rattle.rules.specs.Tests.{firstNo}
-use Rattle.rules.specs.Merge.{question41, question42, question43}
+use Rattle.rules.specs.Merge.{question41, question42}
 use Rattle.merge.specs.QuestionsNeeds.{areaAgrees, imageAgrees, readingAgrees, joinNumber}
 
 module _ (x : AreaIndex) (cs : List ℕ) (y : AreaIndex) (ds : List ℕ) {a : Bool} (p : a ≡ areaAgrees x y) where

@@ -1,22 +1,20 @@
 -- 1 to 4 of both lists with their kind bytes, then 41 to 43. Assumes nothing.
 use mathlib.Core.Path.{_≡_, refl, sym, ap, _∙_}
-use mathlib.Core.Bool.{Bool, true, false, _&&_, cond}
+use mathlib.Core.Bool.{_&&_, cond}
 use mathlib.Core.List.{List, [], _∷_}
-use Prim.Native.Nat.{ℕ, zero, suc, _+_, _*_, _≤_, min}
+use Prim.Native.Nat.{ℕ, _*_, _≤_, min}
 use native.Mathlib.Omega.{arith}
 use lib.Dec.{eqb}
 use lib.ListN.{length}
 use borrow.Author.Tests.{eq-eqb, ne-eqb, eqb-true, eqb-false}
 use Rattle.field.proofs.Records.{records-length}
 use Rattle.rules.specs.declared.AreaIndex.{AreaIndex}
-use Rattle.rules.specs.Tests.{each, Ask, ask, firstNo, Answer, Accepted, after}
+use Rattle.rules.specs.Tests.{each, Ask, ask, firstNo, Accepted, after}
 use Rattle.rules.specs.Questions.{both, fourOf, askFour}
-use Rattle.rules.specs.Values.{Index}
 use Rattle.rules.specs.File.{decodeCheckpoint}
-use Rattle.rules.specs.Merge.{question41, question42, question43, further, mergeNumber, merged, merge}
+use Rattle.rules.specs.Merge.{question41, question42, question43, further, mergeNumber}
 use Rattle.rules.proofs.Tests.{test, asked}
 use Rattle.index.specs.Index.{Tables, roomOf, indexIn, kindsIn, kindedNumber, kinded, refusal}
-use Rattle.index.specs.Needs.{Passes}
 use Rattle.index.specs.Lowest.{lowest}
 use Rattle.index.proofs.Four.{Later, number-more, kinded-more, lowest-both}
 use Rattle.index.proofs.Questions.{passes, passes-long}

@@ -1,4 +1,3 @@
-use mathlib.Core.Path.{refl, sym, _∙_}
 use Rattle.sections.specs.Numbers.{endIn}
 use Rattle.index.proofs.Questions.{range}
 use Rattle.recorder.proofs.Calls.{passes-roomy, passes-long, finished-no, finished-5, finished-6, finished-yes}

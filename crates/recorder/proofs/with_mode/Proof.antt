@@ -1,6 +1,5 @@
 use mathlib.Core.Path.{refl}
 use Rattle.recorder.specs.Needs.{modeOf}
-use borrow.Author.Needs.{needs}
 use Rattle.recorder.proofs.with_mode.Statement.{statement}
 use Rattle.recorder.proofs.with_mode.Tie as tie
 

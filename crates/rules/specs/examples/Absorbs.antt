@@ -9,7 +9,7 @@ use Rattle.rules.specs.declared.Checkpoint.{Checkpoint}
 use Rattle.rules.specs.declared.Fingerprint.the-variants.{Unknown}
 use Rattle.rules.specs.declared.FrameKind.the-variants.{Dst}
 use Rattle.rules.specs.declared.Mode.the-variants.{Running, Finished, Stopped}
-use Rattle.rules.specs.Values.{Frame, Index, Recorder, used, complete, lastCheckpoint}
+use Rattle.rules.specs.Values.{Index, Recorder, used, complete, lastCheckpoint}
 use Rattle.rules.specs.Record.{withMode, Absorbed, absorb}
 use Rattle.rules.specs.examples.Starred.{ample, area, checkpoint, indexOf, three, first, empty, closed, knownNumbers, Example, example}
 use Rattle.rules.specs.examples.Recorders.{recorderAt, end, modeNumbers}

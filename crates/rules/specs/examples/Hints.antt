@@ -1,6 +1,5 @@
 -- Examples of the fingerprint entry, add_hints, keep_confirmation and hint.
 use Prim.Native.Nat.{ℕ}
-use mathlib.Core.Bool.{cond}
 use mathlib.Core.List.{List, [], _∷_}
 use mathlib.Core.Option.{none}
 use Rattle.rules.specs.declared.Confirmation.{Confirmation}

@@ -1,6 +1,6 @@
 -- Examples of change request 11: hints with a kept mark.
 use Prim.Native.Nat.{ℕ}
-use mathlib.Core.List.{List, [], _∷_, _++_}
+use mathlib.Core.List.{List, [], _∷_}
 use mathlib.Core.Option.{Option, none, some}
 use lib.ListN.{set}
 use Rattle.rules.specs.declared.Fingerprint.the-variants.{Unknown, Checked}

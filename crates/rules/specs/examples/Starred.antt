@@ -16,14 +16,13 @@ use Rattle.rules.specs.declared.Absence.the-variants.{NoFrame, Missing}
 use Rattle.rules.specs.declared.First.{First}
 use Rattle.rules.specs.declared.First.the-variants.{Number, Nothing}
 use Rattle.rules.specs.declared.FrameKind.the-variants.{Dst, Dsd}
-use Rattle.rules.specs.declared.Held.{Held}
 use Rattle.rules.specs.declared.Hint.{Hint}
 use Rattle.rules.specs.declared.Mode.the-variants.{Running}
 use Rattle.rules.specs.declared.Plan.{Plan}
 use Rattle.rules.specs.declared.Plan.the-variants.{Start, At, End}
 use Rattle.rules.specs.FirstRecord.{firstRecord}
 use Rattle.rules.specs.Tests.{Answer, Refused, Accepted, numberOf}
-use Rattle.rules.specs.Values.{Frame, Scan, Hinting, Index, Recorder, Lengths, boundaries, lsnOf, used, complete, lastCheckpoint}
+use Rattle.rules.specs.Values.{Index, Recorder, Lengths, boundaries, lsnOf, used, complete, lastCheckpoint}
 use Rattle.rules.specs.Create.{new, emptyIndex}
 use Rattle.rules.specs.Plan.{plan}
 use Rattle.rules.specs.PartRule.{Stored, Piece, addPart}

@@ -3,7 +3,7 @@ use mathlib.Core.Path.{_≡_, refl, sym, ap, _∙_}
 use mathlib.Core.List.{List, [], _∷_, _++_, append-nil}
 use Prim.Native.Nat.{ℕ, _+_, _-_, _*_, _≤_, _<_}
 use native.Mathlib.Omega.{arith}
-use lib.ListN.{length, take, drop, getD, length-append, length-drop, drop-of-length-le}
+use lib.ListN.{length, take, drop, getD, length-drop, drop-of-length-le}
 use lib.Seq.{sets, length-sets, length-take-le, drop-drop}
 use Rattle.field.specs.Number.{encode}
 use Rattle.field.specs.Records.{bytesOf, Bytes, recordAt}
@@ -12,7 +12,7 @@ use Rattle.field.proofs.Fields.{of-fields}
 use Rattle.field.proofs.Format.{Layout}
 use Rattle.field.proofs.Records.{records-length}
 use Rattle.field.specs.Fields.{FieldsFit}
-use Rattle.rules.specs.Values.{Frame, used}
+use Rattle.rules.specs.Values.{used}
 use Rattle.rules.specs.File.{encodeFrame, encodeFrameHeader}
 use Rattle.tables.specs.declared.FrameHeader.{FrameHeader}
 use Rattle.tables.specs.Tables.{decodeHeader, headersIn, frameOf, framesOf, framesIn}

@@ -1,6 +1,6 @@
 -- The hints of a table with their kept marks, asked one after another. Assumes nothing.
-use mathlib.Core.Path.{_≡_, refl, sym, ap, _∙_}
-use mathlib.Core.Bool.{Bool, true, false, _&&_, cond, and-true}
+use mathlib.Core.Path.{_≡_, refl, sym, _∙_}
+use mathlib.Core.Bool.{Bool, true, false, _&&_, and-true}
 use mathlib.Core.List.{List, [], _∷_}
 use Prim.Native.Nat.{ℕ, zero, suc, _+_, _*_, _/_, _<_, _≤_}
 use native.Mathlib.Nat.{add-zero, zero-add, add-assoc}
@@ -8,7 +8,6 @@ use native.Mathlib.Numerals.{add-one}
 use native.Mathlib.Omega.{arith}
 use borrow.Author.Tests.{lt-ltb, le-ltb, eqb-true, lt-leb}
 use lib.Dec.{eqb, leb, ltb}
-use Rattle.field.specs.Number.{numberAt}
 use Rattle.field.specs.Records.{recordAt}
 use Rattle.field.proofs.Number.{number-join}
 use Rattle.rules.specs.declared.Area.{Area}

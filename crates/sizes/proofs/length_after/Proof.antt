@@ -2,7 +2,6 @@ use mathlib.Core.Path.{refl}
 use Rattle.index.specs.Index.{Tables, tables}
 use Rattle.save.proofs.Saving.{framed}
 use Rattle.sizes.proofs.Files.{length-refused, length-told}
-use borrow.Author.Needs.{needs}
 use Rattle.sizes.proofs.length_after.Statement.{statement}
 use Rattle.sizes.proofs.length_after.Tie as tie
 

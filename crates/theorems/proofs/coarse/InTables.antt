@@ -1,25 +1,19 @@
 -- What an accepted call leaves in its tables, and that it is accepted. Assumes nothing.
 use mathlib.Core.Path.{_≡_, refl, sym, ap, subst, _∙_}
-use mathlib.Core.Bool.{true}
-use mathlib.Core.List.{_∷_, []}
 use Prim.Native.Nat.{ℕ}
 use Rattle.rules.specs.declared.AreaIndex.{AreaIndex}
-use Rattle.rules.specs.Tests.{Accepted, after, ask, firstNo}
+use Rattle.rules.specs.Tests.{Accepted, after}
 use Rattle.rules.specs.Values.{Index}
-use Rattle.rules.specs.Questions.{question3}
-use Rattle.rules.specs.Sections.{rising, ownLsn, anyLsn}
-use Rattle.rules.specs.Run.{Reading, Cut}
 use Rattle.rules.proofs.Tests.{asked→, asks, after→, →after, accepted-eq}
 use Rattle.laws.specs.Statements.{Savable}
 use Rattle.laws.proofs.Facts.{facts}
-use Rattle.rules_coarsen.specs.Coarse.{coarser, question47, coarseNumber, coarse}
+use Rattle.rules_coarsen.specs.Coarse.{coarser, coarseNumber, coarse}
 use Rattle.index.specs.declared.Made.the-variants as made
-use Rattle.index.specs.Index.{Tables, roomOf, indexIn, kindsIn, kindedNumber, refusal, numbersFrom, tablesFrom, out, outOf}
+use Rattle.index.specs.Index.{Tables, roomOf, indexIn, kindedNumber, refusal, numbersFrom, tablesFrom, out, outOf}
 use Rattle.index.proofs.Lent.{sized-in}
 use Rattle.index.proofs.Questions.{passes, passes-kinds}
 use Rattle.index.proofs.Standing.{stands, kinds-from, within, room-from}
 use Rattle.coarsen.specs.Coarsen.{coarseIn}
-use Rattle.theorems.specs.Terms.{Valid, ValidIn}
 use Rattle.theorems.specs.TableRun.{LentIn}
 use Rattle.theorems.specs.CoarseInTables.{CoarseLeft, CoarseLeaves, CoarseAccepts}
 use Rattle.theorems.proofs.MergeInTables.{out→}

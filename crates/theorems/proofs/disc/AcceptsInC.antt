@@ -1,10 +1,9 @@
 -- Disc files by the calls in C: what is right is accepted. Assumes nothing.
 use mathlib.Core.Path.{_≡_, refl, sym, ap, _∙_}
-use mathlib.Core.Bool.{true, _&&_}
+use mathlib.Core.Bool.{true}
 use mathlib.Core.List.{List, [], _∷_}
-use mathlib.Core.Option.{none, some}
+use mathlib.Core.Option.{none}
 use Prim.Native.Nat.{ℕ}
-use lib.ListN.{length}
 use Rattle.field.specs.Records.{Bytes}
 use Rattle.rules.specs.declared.Area.{Area}
 use Rattle.rules.specs.declared.AreaIndex.{AreaIndex}
@@ -21,7 +20,7 @@ use Rattle.blocks.specs.RoundTrip.{IndexFits}
 use Rattle.blocks.proofs.RoundTrip.{index-back}
 use Rattle.index.specs.Index.{Tables, roomOf, indexIn, numbersFrom, tablesFrom}
 use Rattle.index.proofs.Standing.{stands}
-use Rattle.player.specs.Block.{called, headIndex, inBlock, inHead, savedNumber}
+use Rattle.player.specs.Block.{headIndex, inBlock, inHead, savedNumber}
 use Rattle.disc_load.specs.Calls.{listedFrom, tablesWith, discOutOf, loadDiscIn}
 use Rattle.player_disc.specs.Block.{listedInto, loadedInto}
 use Rattle.player_disc.specs.Calls.{discSaveCall, discSaveBothCall, discLoadCall}

@@ -1,7 +1,7 @@
 -- Disc files in tables: one file for equal content, and what is right is accepted. Assumes nothing.
-use mathlib.Core.Path.{_≡_, refl, sym, ap, subst, _∙_}
+use mathlib.Core.Path.{_≡_, refl, subst}
 use mathlib.Core.Bool.{Bool, true, _&&_}
-use mathlib.Core.List.{List, [], _∷_}
+use mathlib.Core.List.{List}
 use mathlib.Core.Option.{Option, none, some}
 use Prim.Native.Nat.{ℕ}
 use native.Mathlib.Omega.{arith}
@@ -9,7 +9,7 @@ use lib.ListN.{length, take, drop}
 use Rattle.field.specs.Records.{Bytes}
 use Rattle.field.proofs.Bytes.{bytes-part}
 use Rattle.rules.specs.declared.Area.{Area}
-use Rattle.rules.specs.Tests.{Answer, Accepted}
+use Rattle.rules.specs.Tests.{Accepted}
 use Rattle.rules.specs.Values.{Index, Lengths}
 use Rattle.rules.specs.Load.{limited, load}
 use Rattle.rules_disc.specs.declared.Entry.{Entry}
@@ -21,7 +21,6 @@ use Rattle.index.specs.Index.{roomOf, indexIn, kindsIn, kinded}
 use Rattle.index.proofs.Lent.{sized-in}
 use Rattle.save.specs.Save.{saveOut}
 use Rattle.disc_save.specs.Calls.{saveOneIn, saveBothIn}
-use Rattle.theorems.specs.DiscFile.{bodyIn}
 use Rattle.theorems.specs.DiscInTables.{OneDiscFileIn, DiscSaveAcceptsIn, DiscLoadAcceptsIn}
 use Rattle.theorems.proofs.Closure.{load→}
 use Rattle.theorems.proofs.CutLaws.{limited-two, limited-four, limited-fits}

@@ -1,26 +1,26 @@
 -- What holds of disc files. Assumes nothing.
 use mathlib.Core.Path.{_≡_, refl, sym, ap, _∙_}
 use mathlib.Core.Logic.{_≢_}
-use mathlib.Core.Bool.{Bool, true, false, _&&_, cond}
+use mathlib.Core.Bool.{Bool, true, false, _&&_}
 use mathlib.Core.List.{List, [], _∷_, _++_, append-assoc}
 use mathlib.Core.Option.{Option, none, some}
 use Prim.Native.Nat.{ℕ, _+_, _≤_, _<_}
 use native.Mathlib.Omega.{arith}
-use borrow.Author.Tests.{eq-eqb, ne-eqb, eqb-true, leb-true, ltb-true, ltb-false, lt-ltb, le-ltb, lt-leb}
-use lib.Dec.{eqb, leb, ltb}
+use borrow.Author.Tests.{eq-eqb, ne-eqb, leb-true, lt-ltb, le-ltb}
+use lib.Dec.{leb, ltb}
 use lib.ListN.{length}
 use Rattle.field.specs.Number.{encode}
 use Rattle.field.specs.Records.{bytesOf}
-use Rattle.field.proofs.Format.{Each, none as nothing, one}
+use Rattle.field.proofs.Format.{none as nothing, one}
 use Rattle.rules.specs.declared.Area.{Area}
 use Rattle.rules.specs.declared.Header.{Header}
-use Rattle.rules.specs.Tests.{all, Ask, ask, firstNo, Answer, Refused, Accepted, after, bind}
+use Rattle.rules.specs.Tests.{all, ask, firstNo, Answer, Accepted, after, bind}
 use Rattle.rules.specs.Values.{Index, Lengths}
 use Rattle.rules.specs.Questions.{areaOk, question1, question2, question3, question4, Four, both, askFour, fourOf}
 use Rattle.rules.specs.Sizes.{sized}
 use Rattle.rules.specs.File.{readHeader, headerBytes, headerOf, bodyOf, saved, savedLength}
 use Rattle.rules.specs.Load.{limited, load}
-use Rattle.rules.proofs.Tests.{test, order, never, all→, and-left, and-right, both as each-of, asked→, →asked, accepted-eq, bind→, →bind}
+use Rattle.rules.proofs.Tests.{test, order, all→, and-left, and-right, both as each-of, asked→, →asked, accepted-eq, bind→, →bind}
 use Rattle.laws.specs.Statements.{Savable, stripped}
 use Rattle.laws.proofs.Facts.{facts}
 use Rattle.laws.proofs.Header.{header-fits}
@@ -29,11 +29,10 @@ use Rattle.laws.proofs.Length.{savedLength-is}
 use Rattle.laws.proofs.Limit.{limited-load, large-limit}
 use Rattle.theorems.specs.Terms.{Valid, Ample}
 use Rattle.theorems.proofs.Accepts.{refuses-nothing}
-use Rattle.rules_disc.specs.declared.Entry.{Entry}
 use Rattle.rules_disc.specs.Disc.{Disc, entry, encodeEntry, slotOf, slotArea, entriesIn, entryOf, entriesFrom, contentsOf, contentsOk, listed, bodiesLength, discLength, discBytes, loadBody, loadBodies, loadDisc, saveLists, saveOne, bySlot, saveBoth}
 use Rattle.rules_disc.specs.Disc as rules
 use Rattle.theorems.specs.DiscFile.{OneDiscFile, disc, BothLoad, OneLoads, DiscLoads, bodyIn, ListFile, SavedBodies, Loads, BodiesLoad}
-use Rattle.theorems.proofs.disc.Tables.{Fit, First, first→, savedOf, table-ok, body-is}
+use Rattle.theorems.proofs.disc.Tables.{Fit, first→, savedOf, table-ok, body-is}
 
 -- ---- an accepted save
 -- 1 to 4 of what p asks, 54, 40, and the file

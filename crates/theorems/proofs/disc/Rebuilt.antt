@@ -1,27 +1,26 @@
 -- An accepted disc file by its bodies. Assumes nothing.
 use mathlib.Core.Path.{_≡_, refl, sym, ap, _∙_}
-use mathlib.Core.Bool.{Bool, true, false, _&&_, cond}
-use mathlib.Core.List.{List, [], _∷_, _++_, append-assoc}
+use mathlib.Core.Bool.{true, false}
+use mathlib.Core.List.{List, [], _∷_, _++_}
 use mathlib.Core.Option.{Option, none, some}
-use Prim.Native.Nat.{ℕ, zero, suc, _+_, _-_, _*_, _≤_, _<_, min}
+use Prim.Native.Nat.{ℕ, _+_, _-_, _*_, _≤_}
 use native.Mathlib.Omega.{arith}
 use borrow.Author.Tests.{eqb-true, eqb-false, eq-eqb, ne-eqb, leb-true, le-leb}
 use lib.Dec.{eqb, leb}
 use lib.ListN.{length, take, drop, length-take, length-drop, take-append-drop, drop-of-length-le}
 use lib.Seq.{drop-drop}
-use Rattle.field.specs.Number.{encode, numberAt}
-use Rattle.field.specs.Records.{records, bytesOf, Bytes}
-use Rattle.field.proofs.Bytes.{bytes-drop, bytes-part}
+use Rattle.field.specs.Number.{encode}
+use Rattle.field.specs.Records.{bytesOf, Bytes}
+use Rattle.field.proofs.Bytes.{bytes-drop}
 use Rattle.field.proofs.Number.{encode-number}
 use Rattle.field.proofs.Format.{Each, none as nothing, one, bytes-records}
-use Rattle.field.proofs.Records.{records-length}
 use Rattle.rules.specs.declared.Area.{Area}
-use Rattle.rules.specs.Tests.{Answer, Refused, Accepted, ask, firstNo, bind}
+use Rattle.rules.specs.Tests.{Accepted, ask, bind}
 use Rattle.rules.specs.Values.{Index, Lengths, max32}
-use Rattle.rules.specs.Questions.{areaOk, question1, question2, question3, question4, four, fourOf, askFour}
+use Rattle.rules.specs.Questions.{areaOk, question1, question3, four}
 use Rattle.rules.specs.File.{saved, savedLength, save}
 use Rattle.rules.specs.Load.{fromBytes, limited, load}
-use Rattle.rules.proofs.Tests.{test, all→, →all, asked→, →asked, accepted-eq, bind→}
+use Rattle.rules.proofs.Tests.{test, all→, →all, asked→, accepted-eq, bind→}
 use Rattle.laws.specs.Statements.{Savable, stripped}
 use Rattle.laws.proofs.Facts.{sized→}
 use Rattle.laws.proofs.Length.{savedLength-is}
@@ -33,8 +32,7 @@ use Rattle.theorems.specs.Terms.{Ample}
 use Rattle.theorems.proofs.Closure.{load→}
 use Rattle.theorems.proofs.RoundTrip.{loaded-saves, loaded-area}
 use Rattle.rules_disc.specs.declared.Entry.{Entry}
-use Rattle.rules_disc.specs.Disc.{Disc, entry, encodeEntry, decodeEntry, tableSize, countIn, entriesIn, laid, contentsOk, entryOf, bodyOf, slotArea, slotOf, entriesFrom, contentsOf, discBytes, bodiesLength, discLength, listed, loadBody}
-use Rattle.theorems.specs.DiscFile.{Whole, Loads}
+use Rattle.rules_disc.specs.Disc.{entry, encodeEntry, tableSize, countIn, entriesIn, laid, contentsOk, entryOf, bodyOf, slotOf, entriesFrom, contentsOf, discBytes, listed, loadBody}
 use Rattle.theorems.proofs.disc.Tables.{EntryFits, entry-layout}
 
 -- ---- the rule of a table, by its first entry

@@ -1,9 +1,9 @@
 -- An accepted disc file is saved as its own bytes. Assumes nothing.
-use mathlib.Core.Path.{_≡_, refl, sym, ap, _∙_}
-use mathlib.Core.Bool.{Bool, true, false, _&&_, cond}
+use mathlib.Core.Path.{_≡_, sym, ap, _∙_}
+use mathlib.Core.Bool.{true}
 use mathlib.Core.List.{List, [], _∷_}
 use mathlib.Core.Option.{Option, none, some}
-use Prim.Native.Nat.{ℕ, _+_, _*_, _≤_, _<_}
+use Prim.Native.Nat.{ℕ, _≤_, _<_}
 use native.Mathlib.Omega.{arith}
 use borrow.Author.Tests.{eqb-true, leb-true, le-leb, lt-ltb}
 use lib.Dec.{eqb, leb}
@@ -13,17 +13,16 @@ use Rattle.field.proofs.Bytes.{bytes-drop, bytes-part}
 use Rattle.field.proofs.Format.{Each, none as nothing, one, records-fit}
 use Rattle.field.proofs.Records.{records-length}
 use Rattle.rules.specs.declared.Area.{Area}
-use Rattle.rules.specs.Tests.{Accepted, ask, after, firstNo}
+use Rattle.rules.specs.Tests.{Accepted, ask}
 use Rattle.rules.specs.Values.{Index, Lengths}
 use Rattle.rules.specs.Questions.{areaOk, Four, both, askFour, fourOf}
-use Rattle.rules.specs.File.{saved}
 use Rattle.rules.proofs.Tests.{all→, →asked, and-right, both as each-of}
 use Rattle.rules_disc.specs.declared.Entry.{Entry}
-use Rattle.rules_disc.specs.Disc.{Disc, decodeEntry, tableSize, countIn, entriesIn, laid, contentsOk, entryOf, bodyOf, slotArea, slotOf, contentsOf, discBytes, discLength, listed, saveLists, saveOne, bySlot, saveBoth, loadDisc}
-use Rattle.theorems.specs.DiscFile.{disc, Whole, WholeDisc, DiscSaves}
-use Rattle.theorems.proofs.disc.Tables.{Fit, EntryFits, entry-layout, disc-length}
-use Rattle.theorems.proofs.disc.Rebuilt.{Bodies, no-more, body, rebuilt, own-file, Pair, pair, Single, single0, single1, no-slot, listed-of, Kept, kept, Named, named, unnamed}
-use Rattle.theorems.proofs.disc.DiscFile.{Opened, opened}
+use Rattle.rules_disc.specs.Disc.{decodeEntry, tableSize, countIn, entriesIn, laid, contentsOk, entryOf, bodyOf, slotArea, slotOf, contentsOf, discBytes, discLength, listed, saveLists, saveOne, bySlot, saveBoth}
+use Rattle.theorems.specs.DiscFile.{disc, Whole, DiscSaves}
+use Rattle.theorems.proofs.disc.Tables.{Fit, entry-layout, disc-length}
+use Rattle.theorems.proofs.disc.Rebuilt.{Bodies, no-more, body, rebuilt, own-file, pair, single0, single1, no-slot, listed-of, Kept, kept, Named, named, unnamed}
+use Rattle.theorems.proofs.disc.DiscFile.{opened}
 
 -- the slot that an area has
 area-slot : (k : ℕ) (a : Area) → slotArea k a ≡ true → a .key .slot ≡ k

@@ -1,19 +1,19 @@
 -- The contents table and the bodies of a saved disc file. Assumes nothing.
 use mathlib.Core.Path.{_≡_, refl, sym, ap, _∙_}
-use mathlib.Core.Bool.{Bool, true, false, _&&_, cond}
+use mathlib.Core.Bool.{true, cond}
 use mathlib.Core.List.{List, [], _∷_, _++_, append-nil, append-assoc}
 use mathlib.Core.Option.{Option, none, some}
-use Prim.Native.Nat.{ℕ, zero, suc, _+_, _*_, _≤_, _<_, _^_}
+use Prim.Native.Nat.{ℕ, suc, _+_, _≤_}
 use native.Mathlib.Nat.{add-zero}
 use native.Mathlib.Omega.{arith}
-use borrow.Author.Tests.{leb-true, le-leb, eq-eqb, eqb-true}
-use lib.Dec.{eqb, leb}
+use borrow.Author.Tests.{leb-true, le-leb, eq-eqb}
+use lib.Dec.{eqb}
 use lib.ListN.{length, take, drop, getD, length-append}
 use lib.Seq.{take-at, drop-at}
 use Rattle.field.specs.Number.{encode, decode, numberAt}
 use Rattle.field.specs.Records.{records, bytesOf}
 use Rattle.field.specs.Fields.{FieldsFit}
-use Rattle.field.proofs.Number.{encode-length, decode-encode, number-append}
+use Rattle.field.proofs.Number.{encode-length, decode-encode}
 use Rattle.field.proofs.Format.{Layout, Each, none as nothing, one, records-bytes, bytesOf-length}
 use Rattle.field.proofs.Fields.{of-fields}
 use Rattle.rules.specs.Tests.{all}

@@ -2,7 +2,6 @@
 use mathlib.Core.Path.{_≡_, refl, sym, ap, _∙_}
 use mathlib.Core.Bool.{Bool, true, false, cond}
 use mathlib.Core.List.{List, [], _∷_}
-use mathlib.Core.Option.{Option}
 use Prim.Native.Nat.{ℕ, zero, suc, _<_, _≤_, min}
 use native.Mathlib.Omega.{arith}
 use lib.Dec.{eqb}
@@ -15,7 +14,7 @@ use Rattle.rules.specs.declared.Fingerprint.the-variants.{Unknown, Checked}
 use Rattle.rules.specs.declared.Fingerprint.the-variants as fingerprint
 use Rattle.rules.specs.declared.Hint.{Hint}
 use Rattle.rules.specs.Tests.{isSome, orElse, Accepted}
-use Rattle.rules.specs.Values.{Scan, Index, Lengths, noHint, noConfirmation, count, complete, stated, isChecked}
+use Rattle.rules.specs.Values.{Scan, Index, noHint, noConfirmation, count, complete, stated, isChecked}
 use Rattle.rules.specs.Sections.{hintLsn, hintOk, hintsOk, confirmedLsn, confirmationOk, confirmationsOk}
 use Rattle.rules.specs.Questions.{question4}
 use Rattle.rules.specs.Hints.{insert, arrivedHint, unkeptHint, unkept, inArea, insertAll, limitedTo, joinedHints, heldConfirmation, lastOnes, keepsNothing, keep, keepAll}
@@ -25,13 +24,12 @@ use Rattle.laws.specs.Order.{Rises}
 use Rattle.laws.proofs.hint_lists.Lists.{all-at, insert-past, insert-met}
 use Rattle.laws.proofs.hint_lists.Rising.{rises-all, rising→}
 use Rattle.laws.proofs.hint_lists.Keeping.{last-few}
-use Rattle.laws.proofs.hint_lists.Closure.{HintingIs, hinting→}
+use Rattle.laws.proofs.hint_lists.Closure.{hinting→}
 use Rattle.laws.proofs.hint_lists.Calls.{holds-of}
-use Rattle.rules_lacks.specs.declared.Lacks.{Lacks}
-use Rattle.rules_lacks.specs.Lacks.{covers, sameHint, confirmsAlso, lacking}
+use Rattle.rules_lacks.specs.Lacks.{covers, sameHint, confirmsAlso}
 use Rattle.rules_lacks.proofs.Laws.{Found, covers→, sameHint-eq, ConfirmsAlso, confirms→}
 use Rattle.theorems.specs.Lacks.{LacksAdds}
-use Rattle.theorems.proofs.lacking.Trans.{Nothing, Asked, →asked, lacks→}
+use Rattle.theorems.proofs.lacking.Trans.{Nothing, →asked, lacks→}
 
 -- ---- what is held already is inserted to no effect
 module _ {A : Type 0} (key : A → ℕ) (meet : A → A → A) (d x : A) where

@@ -2,8 +2,7 @@
 use mathlib.Core.Path.{_≡_, ap, subst}
 use mathlib.Core.Bool.{Bool, true, not}
 use lib.Dec.{eqb}
-use Rattle.rules.specs.Tests.{Accepted}
-use Rattle.rules.specs.Values.{Index, Lengths, sameCheckpoint, sameEnd}
+use Rattle.rules.specs.Values.{Index, sameCheckpoint, sameEnd}
 use Rattle.rules.specs.Questions.{question4}
 use Rattle.rules.specs.Merge.{merged, mergeNumber}
 use Rattle.rules.proofs.Tests.{both, and-left, →all, accepted→}
@@ -16,7 +15,6 @@ use Rattle.adds.specs.Brings.{sameFrame, sameHeld, bringsOf, brings}
 use Rattle.adds.proofs.Same.{sameKnown-self, sameFrame-self, sameHeld-self, sameFingerprint-self}
 use Rattle.adds.proofs.compare.Same.{sameList-self, sameConfirmation-self}
 use Rattle.theorems.specs.Adds.{noneButImage}
-use Rattle.rules_lacks.specs.declared.Lacks.{Lacks}
 use Rattle.theorems.specs.Lacks.{LacksBrings}
 use Rattle.theorems.proofs.lacking.Trans.{lacks→}
 use Rattle.theorems.proofs.lacking.Adds.{merged-same}

@@ -14,14 +14,14 @@ use Rattle.rules.specs.declared.Area.{Area}
 use Rattle.rules.specs.declared.Confirmation.{Confirmation}
 use Rattle.rules.specs.declared.Hint.{Hint}
 use Rattle.rules.specs.Tests.{isSome, orElse, Accepted, ask, firstNo}
-use Rattle.rules.specs.Values.{Index, Lengths, hintReach, noHint, noConfirmation, isChecked}
+use Rattle.rules.specs.Values.{Index, hintReach, noHint, noConfirmation, isChecked}
 use Rattle.rules.specs.Questions.{four, question1, question2, question3, question4}
 use Rattle.rules.specs.Hints.{unkeptHint, larger, largerOf, largestOf, near, confirmedAt, hintPlace, Hinted, hintedLocally, hintedLater, hintedAt, hint}
 use Rattle.rules.proofs.Tests.{test, never, choose, both, and-left, and-right, or-cases, or-left, or-right, asked, asks, accepted→, →after}
 use Rattle.theorems.specs.Hints.{Stands}
-use Rattle.theorems.specs.Lacks.{Confirms, Serves, NotLower, ConfirmedFor, HintServes, LacksHint}
+use Rattle.theorems.specs.Lacks.{Serves, HintServes, LacksHint}
 use Rattle.theorems.proofs.Useful.{largest-found}
-use Rattle.theorems.proofs.lacking.Trans.{Asked, lacks→}
+use Rattle.theorems.proofs.lacking.Trans.{lacks→}
 use Rattle.theorems.proofs.lacking.Serves.{nothing-lacking}
 
 some-is : {A : Type 0} {a b : A} → _≡_ {A = Option A} (some a) (some b) → a ≡ b

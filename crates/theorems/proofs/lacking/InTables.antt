@@ -7,14 +7,11 @@ use Prim.Native.Nat.{ℕ, _≤_}
 use lib.ListN.{drop}
 use Rattle.rules.specs.declared.AreaIndex.{AreaIndex}
 use Rattle.rules.specs.declared.Area.{Area}
-use Rattle.rules.specs.declared.Assembly.the-variants.{Stored}
-use Rattle.rules.specs.declared.HeldPart.{HeldPart}
 use Rattle.rules.specs.declared.Plan.{Plan}
 use Rattle.rules.specs.declared.Plan.the-variants.{At}
-use Rattle.rules.specs.declared.Resume.{Resume}
 use Rattle.rules.specs.Tests.{Answer, Accepted}
 use Rattle.rules.specs.Values.{used}
-use Rattle.rules.specs.Plan.{planned, startOf, bytesAt, plan}
+use Rattle.rules.specs.Plan.{planned, startOf, bytesAt}
 use Rattle.rules.specs.Merge.{question41, merged}
 use Rattle.rules_jump.specs.Names.{namedHint}
 use Rattle.rules_jump.proofs.Values.{named-some, some-named}
@@ -28,13 +25,11 @@ use Rattle.index.proofs.Lent.{store-is}
 use Rattle.plan.specs.Calls.{planIn}
 use Rattle.plan.proofs.Steps.{answer-is}
 use Rattle.hint.specs.Calls.{hintIn}
-use Rattle.rules_lacks.specs.declared.Lacks.{Lacks}
 use Rattle.rules_lacks.specs.Lacks.{lacks}
 use Rattle.theorems.proofs.MergeInTables.{kinded→, merge-left}
-use Rattle.theorems.specs.Lacks.{Serves, SamePart}
-use Rattle.theorems.specs.LacksInTables.{SamePartIn, ServesIn, NothingLackingInTables, LacksHintInTables, LacksTransInTables, LacksAddsInTables, MergedIn, MergeLacksInTables, MergeMalformedInTables}
+use Rattle.theorems.specs.LacksInTables.{NothingLackingInTables, LacksHintInTables, LacksTransInTables, LacksAddsInTables, MergeLacksInTables, MergeMalformedInTables}
 use Rattle.theorems.proofs.Adds.{only-image-named-in-tables}
-use Rattle.theorems.proofs.lacking.Trans.{Asked, →asked, lacks→, lacks-trans}
+use Rattle.theorems.proofs.lacking.Trans.{→asked, lacks→, lacks-trans}
 use Rattle.theorems.proofs.lacking.Brought.{lacks-brings}
 use Rattle.theorems.proofs.lacking.Serves.{nothing-lacking}
 use Rattle.theorems.proofs.lacking.HintPlace.{lacks-hint}

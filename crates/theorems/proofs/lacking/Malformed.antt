@@ -12,8 +12,8 @@ use lib.ListN.{length, getD, take}
 use borrow.Author.Tests.{leb-true, ltb-true, ltb-false, lt-ltb, le-ltb}
 use Rattle.rules.specs.declared.Area.{Area}
 use Rattle.rules.specs.declared.EndState.{EndState}
-use Rattle.rules.specs.Tests.{isSome, Accepted}
-use Rattle.rules.specs.Values.{Scan, Index, Lengths, maxMalformed, boundaries, frontierOf, frontier, count, complete}
+use Rattle.rules.specs.Tests.{isSome}
+use Rattle.rules.specs.Values.{Index, maxMalformed, boundaries, frontierOf, frontier, count, complete}
 use Rattle.rules.specs.Sections.{ownLsn}
 use Rattle.rules.specs.Questions.{areaOk, question1, question2}
 use Rattle.rules.specs.Record.{below}
@@ -26,12 +26,11 @@ use Rattle.laws.proofs.hint_lists.Lists.{All, all-map}
 use Rattle.laws.proofs.hint_lists.Rising.{rises-all}
 use Rattle.laws.proofs.scans.Record.{interval-pos}
 use Rattle.laws.proofs.scans.Scans.{in-boundary}
-use Rattle.theorems.proofs.ScanLaws.{Counts}
 use Rattle.rules.proofs.Frontier.{frontier-open}
 use Rattle.theorems.proofs.CutLaws.{cut-counts, cut-merged}
 use Rattle.rules_lacks.specs.Lacks.{covers, lacking}
-use Rattle.rules_lacks.proofs.Laws.{Found, →covers, none-missing}
-use Rattle.theorems.specs.Lacks.{MergedHolds, MergeMalformed}
+use Rattle.rules_lacks.proofs.Laws.{→covers, none-missing}
+use Rattle.theorems.specs.Lacks.{MergeMalformed}
 use Rattle.theorems.proofs.lacking.MergeLacks.{merge-lacks}
 
 -- ---- a further frontier

@@ -13,19 +13,17 @@ use Rattle.rules.specs.declared.Fingerprint.the-variants.{Unknown, Checked}
 use Rattle.rules.specs.declared.Fingerprint.the-variants as fingerprint
 use Rattle.rules.specs.declared.Held.{Held}
 use Rattle.rules.specs.PartRule.{Stored, Piece, opens, stores, partOf, opened, grown, addPart, piece, addParts}
-use Rattle.rules.specs.Tests.{isSome, orElse, Accepted}
-use Rattle.rules.specs.Values.{Frame, Scan, Index, Lengths, noHeld, count, complete, stated}
+use Rattle.rules.specs.Tests.{isSome, orElse}
+use Rattle.rules.specs.Values.{Frame, Scan, Index, noHeld, count, complete, stated}
 use Rattle.rules.specs.Merge.{further, mergedScan, heldFrom, mergedFingerprint, merged, mergeNumber, merge}
-use Rattle.rules.specs.Run.{Reading, Cut}
 use Rattle.rules.proofs.Tests.{test, never, choose, accepted→}
-use Rattle.laws.specs.Order.{Rises}
 use Rattle.laws.proofs.hint_lists.Calls.{taken, merged-numbers}
 use Rattle.theorems.specs.Useful.{MergeOf}
 use Rattle.theorems.proofs.Jump.{Joinable, joinable}
 use Rattle.theorems.proofs.Useful.{merge-takes}
 use Rattle.rules_lacks.specs.Lacks.{covers, samePart, lacking}
 use Rattle.rules_lacks.proofs.Laws.{Found, →covers, →samePart, none-missing}
-use Rattle.theorems.specs.Lacks.{MergedHolds, MergeLacks}
+use Rattle.theorems.specs.Lacks.{MergeLacks}
 
 -- ---- nothing of a kind
 none-more : (n m : ℕ) → m ≤ n → m - n ≡ 0

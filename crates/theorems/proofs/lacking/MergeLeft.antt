@@ -12,8 +12,7 @@ use Rattle.rules.specs.declared.Area.{Area}
 use Rattle.rules.specs.declared.Confirmation.{Confirmation}
 use Rattle.rules.specs.declared.Held.{Held}
 use Rattle.rules.specs.declared.Hint.{Hint}
-use Rattle.rules.specs.Tests.{Accepted}
-use Rattle.rules.specs.Values.{Scan, Index, Lengths, noHeld, noHint, noConfirmation, boundaries, count, complete, isChecked}
+use Rattle.rules.specs.Values.{Scan, Index, noHeld, noHint, noConfirmation, boundaries, count, complete, isChecked}
 use Rattle.rules.specs.Sections.{hintLsn, hintsOk, confirmedLsn}
 use Rattle.rules.specs.Hints.{insert, arrivedHint, unkeptHint, unkept, insertAll, limitedTo, joinedHints, heldConfirmation, lastOnes, keepsNothing, keep, keepAll}
 use Rattle.rules.specs.PartRule.{stores, addParts, piece}
@@ -30,12 +29,12 @@ use Rattle.laws.proofs.hint_lists.Merging.{inserted-with}
 use Rattle.laws.proofs.hint_lists.Confirmations.{met-lsn}
 use Rattle.laws.proofs.hint_lists.Keeping.{last-few, last-past, keepAll-merged, confirmed-rises}
 use Rattle.laws.proofs.hint_lists.Closure.{HintingIs, hinting→}
-use Rattle.laws.proofs.hint_lists.Calls.{Taken, taken, holds-of}
+use Rattle.laws.proofs.hint_lists.Calls.{taken, holds-of}
 use Rattle.rules_lacks.proofs.Laws.{ConfirmsAlso}
 use Rattle.theorems.specs.Terms.{Holds, storedIn}
 use Rattle.theorems.specs.Hints.{One, Among, Stands}
 use Rattle.theorems.specs.Useful.{MergeOf}
-use Rattle.theorems.specs.Lacks.{Confirms, together, Thinned, PushedOut, OtherDigest, MergeLeaves, MergeLeft}
+use Rattle.theorems.specs.Lacks.{Confirms, together, Thinned, PushedOut, OtherDigest, MergeLeft}
 use Rattle.theorems.proofs.Jump.{Joinable, joinable}
 use Rattle.theorems.proofs.ScanLaws.{counts}
 use Rattle.theorems.proofs.Hints.{Any, any-all, all-places, unique, unkept-at, one→, →one, lsn-inside, last-of, met-or-not, unmet-stays, given-all}

@@ -15,7 +15,7 @@ use Rattle.rules.specs.declared.EndState.{EndState}
 use Rattle.rules.specs.declared.Held.{Held}
 use Rattle.rules.specs.declared.HeldPart.{HeldPart}
 use Rattle.rules.specs.declared.Plan.{Plan}
-use Rattle.rules.specs.declared.Plan.the-variants.{Start, At, End}
+use Rattle.rules.specs.declared.Plan.the-variants.{At, End}
 use Rattle.rules.specs.declared.Resume.{Resume}
 use Rattle.rules.specs.Values.{Frame, Scan, noHeld}
 use Rattle.rules.specs.Sections.{partOk}

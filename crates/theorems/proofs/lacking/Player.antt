@@ -1,12 +1,12 @@
 -- What the block of the call for C tells. Assumes nothing.
 use mathlib.Core.Path.{_≡_, refl, sym, ap, subst, _∙_}
-use mathlib.Core.Bool.{Bool, true, false, not, _&&_, cond}
+use mathlib.Core.Bool.{Bool, true, false, not, _&&_}
 use mathlib.Core.List.{List, [], _∷_}
-use Prim.Native.Nat.{ℕ, _+_, _-_, _<_, _≤_}
+use Prim.Native.Nat.{ℕ, _-_, _≤_}
 use native.Mathlib.Omega.{arith}
 use lib.Dec.{eqb, leb, ltb}
 use lib.ListN.{length}
-use borrow.Author.Tests.{eqb-true, eqb-false, ltb-true}
+use borrow.Author.Tests.{eqb-false, ltb-true}
 use Rattle.field.proofs.Format.{Each, none, one, numbers, records-bytes}
 use Rattle.field.proofs.Records.{records-length}
 use Rattle.rules.specs.declared.AreaIndex.{AreaIndex}
@@ -25,7 +25,7 @@ use Rattle.blocks.specs.IsHead.{isBlock, isIndex}
 use Rattle.blocks.specs.RoundTrip.{Fits32, Fits64}
 use Rattle.player.specs.Block.{Called, called, into, inBlock, inHead, headIndex}
 use Rattle.player.specs.LacksCalls.{lacksWords, lacksCall}
-use Rattle.theorems.specs.LacksPlayer.{Told, LacksTold, lacksNothing, NothingLackingInC}
+use Rattle.theorems.specs.LacksPlayer.{LacksTold, lacksNothing, NothingLackingInC}
 use Rattle.theorems.proofs.MergeInTables.{kinded→}
 use Rattle.theorems.proofs.lacking.InTables.{nothing-lacking-in-tables}
 

@@ -8,8 +8,6 @@ use native.Mathlib.Omega.{arith}
 use lib.Dec.{eqb}
 use lib.ListN.{length}
 use borrow.Author.Tests.{eqb-true, eq-eqb}
-use Rattle.rules.specs.declared.Checkpoint.{Checkpoint}
-use Rattle.rules.specs.declared.EndState.{EndState}
 use Rattle.rules.specs.Tests.{isSome, agree, agrees, Accepted}
 use Rattle.rules.specs.Values.{Index, Lengths, noHeld, noHint, noConfirmation, count, complete, stated, sameCheckpoint, sameEnd}
 use Rattle.rules.specs.Questions.{question1, question2, question3, question4}
@@ -18,7 +16,7 @@ use Rattle.rules.proofs.Tests.{never, both, and-left, and-right, all→, →all
 use Rattle.rules.proofs.Same.{eqb-self, sameArea-eq, sameCheckpoint-eq, sameEnd-eq}
 use Rattle.rules_lacks.specs.declared.Lacks.{Lacks}
 use Rattle.rules_lacks.specs.Lacks.{covers, samePart, sameHint, confirmsAlso, lacking, holdsAll, lacks}
-use Rattle.rules_lacks.proofs.Laws.{covers-count, covers-self, covers-on, →samePart, samePart-on, sameHint-self, sameHint-on, eqb-on, ConfirmsAlso, →confirms, confirms-on}
+use Rattle.rules_lacks.proofs.Laws.{covers-count, covers-self, covers-on, →samePart, samePart-on, sameHint-self, sameHint-on, eqb-on, →confirms, confirms-on}
 use Rattle.theorems.specs.Lacks.{LacksSelf, LacksTrans, CountsTell}
 
 -- ---- counts

@@ -9,7 +9,6 @@ use borrow.Author.Tests.{ltb-true, ltb-false}
 use lib.Dec.{ltb}
 use lib.ListN.{length, getD, take, drop, length-take, length-drop}
 use lib.Seq.{split-at, getD-take, getD-drop}
-use Rattle.rules.specs.Tests.{all}
 use Rattle.rules.proofs.Tests.{test, order, choose, nil-of}
 use Rattle.rules_shelf.specs.declared.ShelfRecord.{ShelfRecord}
 use Rattle.rules_shelf.specs.Shelf.{noRecord, dropAt, stampAt, older, oldestOf, oldest, roomy, makeRoom}

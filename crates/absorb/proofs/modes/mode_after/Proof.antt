@@ -1,6 +1,5 @@
 use borrow.Author.Tests.{eq-eqb, ne-eqb}
 use mathlib.Core.Path.{sym}
-use borrow.Author.Needs.{needs}
 use Rattle.absorb.proofs.modes.mode_after.Statement.{statement}
 use Rattle.absorb.proofs.modes.mode_after.Tie as tie
 

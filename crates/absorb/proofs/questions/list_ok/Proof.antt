@@ -2,7 +2,6 @@ use Rattle.absorb.proofs.questions.Lists.{list-is, below-few}
 use Rattle.field.proofs.Records.{records-length}
 use Rattle.rules.specs.File.{decodeLsn}
 use Rattle.tables.specs.Tables.{lsnsIn}
-use mathlib.Core.Path.{refl}
 use native.Mathlib.Omega.{arith}
 use borrow.Author.Needs.{needs}
 use Rattle.absorb.proofs.questions.list_ok.Statement.{statement}

@@ -1,4 +1,3 @@
-use native.Mathlib.Omega.{arith}
 use Prim.Native.Nat.{_-_}
 use Rattle.absorb.proofs.tests.Common.{Counted, count-start, count-on, count-end}
 use borrow.Author.Needs.{needs}

@@ -1,4 +1,3 @@
-use mathlib.Core.Bool.{cond}
 use borrow.Author.Needs.{needs}
 use Rattle.absorb.proofs.tests.one_more.Statement.{statement}
 use Rattle.absorb.proofs.tests.one_more.Tie as tie

@@ -1,5 +1,3 @@
-use mathlib.Core.Bool.{_||_}
-use native.Mathlib.Omega.{arith}
 use borrow.Author.Tests.{eq-eqb, ne-eqb}
 use Rattle.coarsen.specs.Steps.{lastBelow}
 use borrow.Author.Needs.{needs}

@@ -1,4 +1,4 @@
-use Rattle.coarsen.specs.Steps.{fitsIn, Widens}
+use Rattle.coarsen.specs.Steps.{fitsIn}
 use borrow.Author.Needs.{needs}
 use Rattle.coarsen.proofs.questions.question48.Statement.{statement}
 use Rattle.coarsen.proofs.questions.question48.Tie as tie

@@ -1,6 +1,5 @@
 use native.Mathlib.Omega.{arith}
 use Rattle.index.proofs.room.Lower.{lowest-right, lowest-left, lowest-of}
-use borrow.Author.Needs.{needs}
 use Rattle.index.proofs.room.lowest.Statement.{statement}
 use Rattle.index.proofs.room.lowest.Tie as tie
 

@@ -1,4 +1,3 @@
-use native.Mathlib.Omega.{arith}
 use Rattle.inspect.proofs.hint_sections.Sections.{hints-asked, hints-fit, hints-no, hints-yes}
 use borrow.Author.Needs.{needs}
 use Rattle.inspect.proofs.hint_sections.hint_list.Statement.{statement}

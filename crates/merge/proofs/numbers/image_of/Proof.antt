@@ -1,6 +1,4 @@
 use Rattle.merge.proofs.numbers.Images.{image-other, image-own}
-use Rattle.sections.specs.Numbers.{idIn, idFrom}
-use Rattle.rules.specs.Tests.{orElse}
 use borrow.Author.Needs.{needs}
 use Rattle.merge.proofs.numbers.image_of.Statement.{statement}
 use Rattle.merge.proofs.numbers.image_of.Tie as tie

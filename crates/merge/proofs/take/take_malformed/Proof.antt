@@ -1,5 +1,4 @@
 use Rattle.merge.proofs.take.Copies.{malformed-taken, malformed-room}
-use native.Mathlib.Omega.{arith}
 use borrow.Author.Needs.{needs}
 use Rattle.merge.proofs.take.take_malformed.Statement.{statement}
 use Rattle.merge.proofs.take.take_malformed.Tie as tie

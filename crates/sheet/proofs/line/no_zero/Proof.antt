@@ -3,7 +3,7 @@ use Rattle.rules_coverage.specs.Lines.{notZero}
 use Rattle.sheet.proofs.Lines.{each-more, each-done}
 use borrow.Author.Tests.{ne-eqb}
 use native.Mathlib.Omega.{arith}
-use Prim.Native.Nat.{_+_, _-_, _≤_}
+use Prim.Native.Nat.{_-_, _≤_}
 use mathlib.Core.Path.{_≡_, sym, _∙_}
 use lib.ListN.{length, drop, getD}
 use borrow.Author.Needs.{needs}

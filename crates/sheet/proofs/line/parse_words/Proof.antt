@@ -2,8 +2,6 @@ use Rattle.sheet.specs.Lines.{parsedFrom}
 use Rattle.sheet.proofs.Lines.{no-number, a-number}
 use borrow.Author.Tests.{not-true, not-false}
 use mathlib.Core.Path.{sym, _∙_}
-use mathlib.Core.Bool.{true}
-use mathlib.Core.Path.{_≡_}
 use borrow.Author.Needs.{needs}
 use Rattle.sheet.proofs.line.parse_words.Statement.{statement}
 use Rattle.sheet.proofs.line.parse_words.Tie as tie

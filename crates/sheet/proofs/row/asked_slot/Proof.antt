@@ -1,6 +1,5 @@
 use Rattle.sheet.specs.Rows.{askedSlot}
 use borrow.Author.Tests.{le-leb, lt-leb}
-use borrow.Author.Needs.{needs}
 use Rattle.sheet.proofs.row.asked_slot.Statement.{statement}
 use Rattle.sheet.proofs.row.asked_slot.Tie as tie
 

@@ -1,4 +1,4 @@
-use Rattle.sheet.specs.Text.{Output, output, put, puts}
+use Rattle.sheet.specs.Text.{Output, output, puts}
 use Rattle.sheet.proofs.Written.{puts-turn, puts-done}
 use native.Mathlib.Omega.{arith}
 use Prim.Native.Nat.{_+_, _-_, _≤_}

@@ -1,6 +1,3 @@
-use Rattle.rules_coverage.specs.Coverage.{nameOf}
-use Rattle.sheet.specs.Lines.{lineIn, nameLength}
-use Rattle.sheet.specs.Text.{puts}
 use Rattle.sheet.proofs.Written.{name-told, dash-put, name-put}
 use native.Mathlib.Omega.{arith}
 use borrow.Author.Needs.{needs}

@@ -1,5 +1,4 @@
-use Rattle.rules_coverage.specs.Coverage.{numberText, coverage, answerText, newline}
-use Rattle.sheet.specs.Text.{puts}
+use Rattle.rules_coverage.specs.Coverage.{coverage}
 use Rattle.sheet.proofs.Written.{numbers-put}
 use borrow.Author.Needs.{needs}
 use Rattle.sheet.proofs.text.put_numbers.Statement.{statement}

@@ -1,10 +1,10 @@
 use Rattle.rules_coverage.specs.Coverage.{digits, decimalText}
 use Rattle.sheet.proofs.Written.{spell-more, spell-last, two-digits, one-digit-less}
 use native.Mathlib.Omega.{arith}
-use Prim.Native.Nat.{ℕ, _+_, _-_, _*_, _/_, _%_, _^_, _≤_, _<_}
-use mathlib.Core.Path.{_≡_, refl, sym, ap, _∙_}
-use mathlib.Core.List.{List, [], _∷_, _++_, append-nil}
-use lib.ListN.{length, drop, set, length-set, drop-of-length-le}
+use Prim.Native.Nat.{ℕ, _+_, _-_, _%_, _^_, _≤_, _<_}
+use mathlib.Core.Path.{_≡_, _∙_}
+use mathlib.Core.List.{List, _++_, append-nil}
+use lib.ListN.{length, drop, length-set, drop-of-length-le}
 use borrow.Author.Needs.{needs}
 use Rattle.sheet.proofs.text.spell.Statement.{statement}
 use Rattle.sheet.proofs.text.spell.Tie as tie

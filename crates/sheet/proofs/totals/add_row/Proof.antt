@@ -1,7 +1,6 @@
 use Rattle.sheet.proofs.Sums.{not-added, row-added, small-by}
 use native.Mathlib.Omega.{arith}
 use Prim.Native.Nat.{_+_}
-use mathlib.Core.Path.{_∙_}
 use borrow.Author.Needs.{needs}
 use Rattle.sheet.proofs.totals.add_row.Statement.{statement}
 use Rattle.sheet.proofs.totals.add_row.Tie as tie

@@ -1,5 +1,4 @@
 use Rattle.sheet.proofs.Sums.{row-put, row-full}
-use native.Mathlib.Omega.{arith}
 use borrow.Author.Needs.{needs}
 use Rattle.sheet.proofs.totals.put_row.Statement.{statement}
 use Rattle.sheet.proofs.totals.put_row.Tie as tie

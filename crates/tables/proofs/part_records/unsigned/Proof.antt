@@ -8,7 +8,6 @@ use lib.Signed.{nonNeg, natAbs-le, yes-nonNeg, leZ-yes}
 use mir.Syntax.{w32}
 use mir.Val.{Fits, toZ, ofZ}
 use Rattle.tables.proofs.part_records.Records.{natural, plain, flip, fits, back}
-use borrow.Author.Needs.{needs}
 use Rattle.tables.proofs.part_records.unsigned.Statement.{statement}
 use Rattle.tables.proofs.part_records.unsigned.Tie as tie
 

@@ -1,4 +1,3 @@
-use Prim.Native.Nat.{_*_}
 use Rattle.tables.proofs.part_records.Records.{header-put}
 use borrow.Author.Needs.{needs}
 use Rattle.tables.proofs.part_records.write_header.Statement.{statement}
