@@ -14,7 +14,7 @@ use Rattle.sections.specs.Numbers.{idIn, numbersFrom}
 use Rattle.index.specs.Index.{Tables, roomOf, indexIn, kindsIn, orFour, tablesFrom}
 use Rattle.recorder.specs.Recorder.{RecorderTables, recorderRoom, recorderIn, recorderKinds, recorderFrom}
 use Rattle.absorb.specs.Given.{givenIn}
-use Rattle.absorb.specs.declared.Absorbed.{Absorbed}
+use Rattle.rules.specs.declared.Absorbed.{Absorbed}
 
 -- the answer, and the index's tables; the recorder's are only read
 pub record Out : Type 0 where

@@ -12,6 +12,7 @@ use crate::refusal::absorb_refuses;
 use crate::refusal::is_stopped;
 use field::and;
 use recorder::with_mode;
+use rules::Absorbed;
 use rules::AreaIndex;
 use rules::ImageId;
 use rules::Mode;
@@ -27,13 +28,6 @@ ghost use Rattle.recorder.specs.Recorder.{recorderTables};
 ghost use Rattle.recorder.specs.Needs.{modeOf};
 ghost use Rattle.absorb.specs.Absorb.{out, absorbed, absorbIn};
 ghost use Rattle.absorb.specs.Needs.{drainedOf};
-
-// The refusal number, 0 where it is accepted, and the numbers of both afterwards.
-pub struct Absorbed {
-    pub number: u32,
-    pub index: AreaIndex,
-    pub recorder: Recorder,
-}
 
 // ---- the recorder afterwards
 // 8 stops the recorder; another refusal leaves it.

@@ -21,7 +21,7 @@ use Rattle.rules.proofs.Tests.{all→, and-left}
 use Rattle.laws.proofs.hint_lists.Passes.{between-none, between-next}
 use Rattle.laws.specs.Passes.{between}
 use Rattle.tables.specs.Tables.{decodeKept, keptIn}
-use Rattle.index.specs.declared.Made.the-variants as made
+use Rattle.rules.specs.declared.Made.the-variants as made
 use Rattle.index.specs.Index.{Tables, indexIn, roomOf, roomIn, kindsIn, kinded, refusal, outOf, out}
 use Rattle.index.specs.Needs.{Passes, heldQuestion4}
 use Rattle.index.specs.Lent.{TableBytes}

@@ -6,12 +6,12 @@ pub mod sort;
 mod spread;
 
 use crate::sort::merge_hints;
-use index::Made;
 use index::refuses;
 use rules::AreaIndex;
 use rules::HINT;
 use rules::MAX_LIST;
 use rules::MAX_NEXT_ACCEPTABLE;
+use rules::Made;
 use tables::read_given;
 ghost use mathlib.Core.Path.{_≡_};
 ghost use Prim.Native.Nat.{_*_, _≤_};

@@ -28,8 +28,8 @@ use Rattle.merge.proofs.questions.Held.{lent, room}
 use Rattle.parts.specs.Parts.{partTables}
 use Rattle.adds.specs.Same.{sameList}
 use Rattle.adds.specs.Answers.{HintsAnswered, ConfirmedAnswered}
-use Rattle.adds.specs.declared.Brings.{Brings}
-use Rattle.adds.specs.declared.Added.the-variants as added
+use Rattle.rules.specs.declared.Brings.{Brings}
+use Rattle.rules.specs.declared.Added.the-variants as added
 use Rattle.adds.specs.Brings.{sameKnown, sameFingerprint, bringsOf, brings, addsOf, addsIn}
 use Rattle.adds.specs.Needs.{PartsRead, partsChange, someStored, bringsIn}
 use Rattle.adds.proofs.Fields.{checkpoints-change, ending-change, malformed-change}

@@ -15,9 +15,9 @@ use Rattle.rules.specs.Merge.{merged, mergeNumber}
 use Rattle.rules_lacks.specs.Lacks.{sameSigned, equalHint}
 use Rattle.index.specs.Index.{Tables, roomOf, indexIn, kindsIn, kinded}
 use Rattle.adds.specs.Same.{sameList, sameConfirmation}
-use Rattle.adds.specs.declared.Brings.{Brings}
-use Rattle.adds.specs.declared.Added.{Added}
-use Rattle.adds.specs.declared.Added.the-variants as added
+use Rattle.rules.specs.declared.Brings.{Brings}
+use Rattle.rules.specs.declared.Added.{Added}
+use Rattle.rules.specs.declared.Added.the-variants as added
 
 -- ---- sameness
 -- of things that may be unknown

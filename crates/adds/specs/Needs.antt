@@ -15,7 +15,7 @@ use Rattle.index.specs.Index.{Tables, indexIn}
 use Rattle.parts.specs.declared.Counts.{Counts}
 use Rattle.parts.specs.Parts.{PartTables, storedIn}
 use Rattle.parts.specs.Needs.{Lent, Ready}
-use Rattle.adds.specs.declared.Brings.{Brings}
+use Rattle.rules.specs.declared.Brings.{Brings}
 use Rattle.adds.specs.Brings.{bringsOf}
 
 -- would one of the parts ps, of frames fs, for checkpoint number n or later be stored beside those of h?

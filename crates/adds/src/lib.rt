@@ -18,7 +18,9 @@ use parts::Source;
 use parts::source_at;
 use parts::stores;
 use parts::used_bytes;
+use rules::Added;
 use rules::AreaIndex;
+use rules::Brings;
 use rules::Fingerprint;
 use rules::Held;
 use rules::ImageId;
@@ -41,24 +43,6 @@ ghost use Rattle.parts.specs.Needs.{Ready, Lent, heldPiece};
 ghost use Rattle.adds.specs.Same.{sameList};
 ghost use Rattle.adds.specs.Brings.{sameKnown, sameFingerprint, addsOf, addsIn};
 ghost use Rattle.adds.specs.Needs.{someStored, PartsRead, partsChange, bringsIn};
-
-// In what the own list would change.
-pub struct Brings {
-    pub checkpoints: bool,
-    pub ending: bool,
-    pub parts: bool,
-    pub malformed: bool,
-    pub hints: bool,
-    pub confirmed: bool,
-    pub fingerprint: bool,
-    pub image: bool,
-}
-
-// The number that refuses the merge, or what it would bring.
-pub enum Added {
-    Refused(u32),
-    Brings(Brings),
-}
 
 // ---- fingerprint and image id
 // Would b fill in a fingerprint?

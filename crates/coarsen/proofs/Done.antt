@@ -24,7 +24,7 @@ use Rattle.laws.proofs.Layouts.{lsn-layout, confirmation-layout}
 use Rattle.tables.proofs.Kept.{kept-layout}
 use Rattle.tables.specs.Tables.{checkpointsIn, framesIn, partsIn, lsnsIn, decodeKept}
 use Rattle.sections.specs.Numbers.{endIn, endFrom, idIn, idFrom}
-use Rattle.index.specs.declared.Made.the-variants as made
+use Rattle.rules.specs.declared.Made.the-variants as made
 use Rattle.index.specs.Index.{Tables, tables, roomOf, indexIn, numbersFrom, tablesFrom, refusal, Out, out, outOf}
 use Rattle.parts.specs.declared.Counts.{Counts}
 use Rattle.parts.specs.Parts.{partTables, Held, held, heldFrom}

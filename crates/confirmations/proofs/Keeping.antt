@@ -31,7 +31,7 @@ use Rattle.index.proofs.Questions.{passes}
 use Rattle.index.proofs.Left.{withConfirmedTable, confirmed-left}
 use Rattle.index.proofs.Back.{numbers-back}
 use Rattle.confirmations.specs.Kept.{Rising}
-use Rattle.confirmations.specs.declared.Kept.the-variants as kept
+use Rattle.rules.specs.declared.Kept.the-variants as kept
 use Rattle.confirmations.specs.Keeping.{given, out, outOf, keepIn}
 use Rattle.confirmations.specs.Steps.{Room, withCount}
 

@@ -7,8 +7,8 @@ use Rattle.rules.specs.Tests.{Answer, Refused, Accepted}
 use Rattle.rules.specs.Values.{Index}
 use Rattle.rules.specs.Hints.{keepConfirmation}
 use Rattle.index.specs.Index.{Tables, roomOf, indexIn, kindsIn, kinded, numbersFrom, tablesFrom}
-use Rattle.confirmations.specs.declared.Kept.{Kept}
-use Rattle.confirmations.specs.declared.Kept.the-variants as kept
+use Rattle.rules.specs.declared.Kept.{Kept}
+use Rattle.rules.specs.declared.Kept.the-variants as kept
 
 abbrev pub given : ℕ → ℕ → ℕ → Confirmation
 given lsn threshold digest = record { lsn = lsn; threshold = threshold; digest = digest }

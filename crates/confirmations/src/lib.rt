@@ -10,6 +10,7 @@ use rules::Area;
 use rules::AreaIndex;
 use rules::CONFIRMED;
 use rules::Confirmation;
+use rules::Kept;
 use rules::MAX_NEXT_ACCEPTABLE;
 ghost use mathlib.Core.Path.{_≡_};
 ghost use mathlib.Core.Bool.{true, _&&_};
@@ -22,13 +23,6 @@ ghost use Rattle.tables.specs.Tables.{confirmationsIn};
 ghost use Rattle.index.specs.Index.{tables};
 ghost use Rattle.confirmations.specs.Keeping.{given, out, keepIn};
 ghost use Rattle.confirmations.specs.Steps.{Room, withCount};
-
-// The index afterwards, that nothing is kept, or the number that refuses.
-pub enum Kept {
-    Refused(u32),
-    Nothing,
-    Index(AreaIndex),
-}
 
 // 14: LSN in the area, threshold < LIM?
 fn question14(area: Area, lsn: u64, threshold: u32) -> bool

@@ -13,8 +13,8 @@ use Rattle.disc_load.specs.declared.ask.Decided.the-variants as decided
 use Rattle.disc_load.specs.Ask.{heldIn, Ready, Decision}
 use Rattle.disc_load.proofs.ask.Asking.{held-loads}
 use Rattle.disc_load.proofs.ask.Deciding.{by-places}
-use Rattle.disc_load.specs.declared.Listed.{Listed}
-use Rattle.disc_load.specs.declared.Loaded.the-variants as loaded
+use Rattle.rules_disc.specs.declared.Listed.{Listed}
+use Rattle.rules_disc.specs.declared.Loaded.the-variants as loaded
 use Rattle.disc_load.specs.Calls.{discOut, listedFrom, tablesWith, discOutOf, loadDiscIn}
 
 module _ {a0 a1 : Area} {b : List ℕ} (limit : ℕ) (t u : Tables) where

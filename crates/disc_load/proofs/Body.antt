@@ -14,7 +14,7 @@ use Rattle.load.specs.Steps.{Ready}
 use Rattle.disc_load.specs.declared.ask.Body.{Body}
 use Rattle.disc_load.specs.declared.ask.Body.the-variants as body
 use Rattle.disc_load.specs.Ask.{Holds, heldIn}
-use Rattle.disc_load.specs.declared.Listed.the-variants as listed
+use Rattle.rules_disc.specs.declared.Listed.the-variants as listed
 use Rattle.disc_load.specs.Calls.{listedFrom, tablesWith}
 
 module _ (a : Area) (b : List ℕ) (limit : ℕ) (t : Tables) {x : Body} where

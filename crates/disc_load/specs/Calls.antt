@@ -7,10 +7,10 @@ use Rattle.rules.specs.Tests.{Answer, Refused, Accepted}
 use Rattle.rules.specs.Values.{Index}
 use Rattle.rules_disc.specs.Disc.{Disc, loadDisc}
 use Rattle.index.specs.Index.{Tables, roomOf, numbersFrom, tablesFrom}
-use Rattle.disc_load.specs.declared.Listed.{Listed}
-use Rattle.disc_load.specs.declared.Listed.the-variants as listed
-use Rattle.disc_load.specs.declared.Loaded.{Loaded}
-use Rattle.disc_load.specs.declared.Loaded.the-variants as loaded
+use Rattle.rules_disc.specs.declared.Listed.{Listed}
+use Rattle.rules_disc.specs.declared.Listed.the-variants as listed
+use Rattle.rules_disc.specs.declared.Loaded.{Loaded}
+use Rattle.rules_disc.specs.declared.Loaded.the-variants as loaded
 
 pub record DiscOut : Type 0 where
   pub answer : Loaded

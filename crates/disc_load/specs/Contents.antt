@@ -5,10 +5,10 @@ use mathlib.Core.List.{List}
 use mathlib.Core.Option.{Option, none, some}
 use Rattle.rules_disc.specs.declared.Entry.{Entry}
 use Rattle.rules_disc.specs.Disc.{entryOf, entriesIn, contentsOk}
-use Rattle.disc_load.specs.declared.contents.Contents.{Contents}
-use Rattle.disc_load.specs.declared.contents.Contents.the-variants.{Broken, Lists}
-use Rattle.disc_load.specs.declared.contents.Place.{Place}
-use Rattle.disc_load.specs.declared.contents.Place.the-variants.{Absent, At}
+use Rattle.rules_disc.specs.declared.Contents.{Contents}
+use Rattle.rules_disc.specs.declared.Contents.the-variants.{Broken, Lists}
+use Rattle.rules_disc.specs.declared.Place.{Place}
+use Rattle.rules_disc.specs.declared.Place.the-variants.{Absent, At}
 
 unfoldable pub placeFrom : Option Entry → Place
 placeFrom none = Absent

@@ -5,8 +5,8 @@ use mathlib.Core.List.{List}
 use Prim.Native.Nat.{ℕ, _+_, _≤_}
 use lib.ListN.{length}
 use Rattle.rules_disc.specs.Disc.{entriesIn, entryOf, contentsOk}
-use Rattle.disc_load.specs.declared.contents.Place.{Place}
-use Rattle.disc_load.specs.declared.contents.Place.the-variants.{Absent, At}
+use Rattle.rules_disc.specs.declared.Place.{Place}
+use Rattle.rules_disc.specs.declared.Place.the-variants.{Absent, At}
 use Rattle.disc_load.specs.Contents.{entryIn}
 
 -- inside the file b

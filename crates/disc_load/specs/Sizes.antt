@@ -6,14 +6,14 @@ use mathlib.Core.Option.{Option, none, some}
 use Rattle.rules.specs.declared.Area.{Area}
 use Rattle.rules.specs.Tests.{ask, firstNo, Answer, Refused, Accepted, after, bind}
 use Rattle.rules_disc.specs.Disc.{entriesIn, entryOf, contentsOk, bodyOf, slotArea}
-use Rattle.sizes.specs.declared.lengths.TableSizes.{TableSizes}
+use Rattle.rules.specs.declared.TableSizes.{TableSizes}
 use Rattle.sizes.specs.Sizes.{fileSizes}
-use Rattle.disc_load.specs.declared.table_sizes.SlotSizes.{SlotSizes}
-use Rattle.disc_load.specs.declared.table_sizes.SlotSizes.the-variants as slot
-use Rattle.disc_load.specs.declared.table_sizes.BodySized.{BodySized}
-use Rattle.disc_load.specs.declared.table_sizes.BodySized.the-variants as body
-use Rattle.disc_load.specs.declared.table_sizes.DiscSized.{DiscSized}
-use Rattle.disc_load.specs.declared.table_sizes.DiscSized.the-variants as disc
+use Rattle.rules_disc.specs.declared.SlotSizes.{SlotSizes}
+use Rattle.rules_disc.specs.declared.SlotSizes.the-variants as slot
+use Rattle.rules_disc.specs.declared.BodySized.{BodySized}
+use Rattle.rules_disc.specs.declared.BodySized.the-variants as body
+use Rattle.rules_disc.specs.declared.DiscSized.{DiscSized}
+use Rattle.rules_disc.specs.declared.DiscSized.the-variants as disc
 
 -- the sizes of both slots; none for a list that the file has not
 pub record DiscSizes : Type 0 where

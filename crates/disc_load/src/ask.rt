@@ -1,13 +1,13 @@
 // The questions of a disc file and of the list files in it, asked before anything is written.
-use crate::contents::Contents;
-use crate::contents::Place;
 use crate::contents::read_contents;
 use crate::questions::areas_ok;
 use inspect::Found;
 use load::Decided as Said;
 use rules::Area;
 use rules::AreaIndex;
+use rules_disc::Contents;
 use rules_disc::Entry;
+use rules_disc::Place;
 ghost use mathlib.Core.Path.{_≡_};
 ghost use Rattle.disc_load.specs.Inside.{Inside};
 ghost use Rattle.index.specs.Index.{tables};

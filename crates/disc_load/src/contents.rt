@@ -3,7 +3,9 @@ use crate::questions::one_ok;
 use crate::questions::two_ok;
 use field::read_u32;
 use field::write_u32;
+use rules_disc::Contents;
 use rules_disc::Entry;
+use rules_disc::Place;
 ghost use mathlib.Core.Path.{_≡_};
 ghost use mathlib.Core.List.{[], _∷_, _++_};
 ghost use Prim.Native.Nat.{_+_, _≤_};
@@ -12,18 +14,6 @@ ghost use Rattle.field.specs.Number.{encode};
 ghost use Rattle.rules_disc.specs.Disc.{encodeEntry, decodeEntry, laid, entryOf};
 ghost use Rattle.save.specs.Output.{Put};
 ghost use Rattle.disc_load.specs.Contents.{placeFrom, contentsFrom, contentsIn};
-
-// The entry of a slot, where the contents table lists it.
-pub enum Place {
-    Absent,
-    At(Entry),
-}
-
-// What the contents table of a file says: it breaks its rules, or the entries of slots 0 and 1.
-pub enum Contents {
-    Broken,
-    Lists(Place, Place),
-}
 
 // ---- reading
 // The entry that begins at a byte.

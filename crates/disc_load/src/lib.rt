@@ -9,23 +9,12 @@ use crate::ask::Decided;
 use crate::ask::decide;
 use load::commit;
 use rules::Area;
-use rules::AreaIndex;
+use rules_disc::Listed;
+use rules_disc::Loaded;
 ghost use mathlib.Core.Path.{_≡_};
 ghost use Rattle.index.specs.Index.{tables};
 ghost use Rattle.disc_load.specs.Ask.{Holds, heldIn};
 ghost use Rattle.disc_load.specs.Calls.{listedFrom, tablesWith, discOut, loadDiscIn};
-
-// The list of a slot: none in the file, or the numbers of the list that the slot's tables then hold.
-pub enum Listed {
-    Absent,
-    Index(AreaIndex),
-}
-
-// What loading answers: a refusal number, or the lists of slots 0 and 1.
-pub enum Loaded {
-    Refused(u32),
-    Lists(Listed, Listed),
-}
 
 // The limited list of a body into the slot's tables, by what its questions found; an absent one leaves them.
 fn commit_body(

@@ -1,12 +1,14 @@
 // How long the tables of both lists of a disc file have to be.
-use crate::contents::Contents;
-use crate::contents::Place;
 use crate::contents::read_contents;
 use crate::questions::areas_ok;
 use rules::Area;
-use sizes::Sized;
+use rules::Sized;
+use rules_disc::BodySized;
+use rules_disc::Contents;
+use rules_disc::DiscSized;
+use rules_disc::Place;
+use rules_disc::SlotSizes;
 use sizes::file_sizes;
-use sizes::lengths::TableSizes;
 ghost use mathlib.Core.Path.{_≡_};
 ghost use mathlib.Core.Option.{some};
 ghost use Rattle.rules.specs.Tests.{Accepted, bind};
@@ -15,24 +17,6 @@ ghost use Rattle.disc_load.specs.Contents.{entryIn};
 ghost use Rattle.disc_load.specs.Inside.{Inside};
 ghost use Rattle.sizes.specs.Sizes.{sizedOf};
 ghost use Rattle.disc_load.specs.Sizes.{bodySizes, bothSizes, discSizes, bodySizedOf, discSizedOf};
-
-// The sizes of a slot's tables; none where the file has no list of it.
-pub enum SlotSizes {
-    Absent,
-    Sizes(TableSizes),
-}
-
-// What is told of one slot: a refusal number, or its sizes.
-pub enum BodySized {
-    Refused(u32),
-    Passed(SlotSizes),
-}
-
-// What is told of the file: a refusal number, or the sizes of slots 0 and 1.
-pub enum DiscSized {
-    Refused(u32),
-    Sizes(SlotSizes, SlotSizes),
-}
 
 fn body_sized(sized: Sized) -> BodySized
     ensures { λ r. ⌜ bodySizedOf r ≡ bind (sizedOf sized) (λ s. Accepted (some s)) ⌝ }

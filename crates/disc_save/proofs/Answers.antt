@@ -18,7 +18,7 @@ use Rattle.index.specs.Index.{Tables, roomOf, indexIn, kindsIn, kindedNumber, r
 use Rattle.index.specs.Lowest.{lowest}
 use Rattle.index.proofs.Four.{Later, kinded-more, kinded-index, lowest-both}
 use Rattle.merge.proofs.questions.Refusal.{lowest-zero}
-use Rattle.save.specs.declared.Saved.the-variants as answer
+use Rattle.rules.specs.declared.Saved.the-variants as answer
 use Rattle.save.specs.Save.{SaveOut, made, saveOut}
 use Rattle.disc_save.specs.Calls.{saveOneIn, saveBothIn}
 use Rattle.disc_save.specs.Needs.{savedAs}

@@ -14,8 +14,8 @@ use Rattle.rules_disc.specs.Disc.{entry, encodeEntry, slotOf, entriesFrom, disc
 use Rattle.index.specs.Index.{Tables, indexIn, refusal}
 use Rattle.save.specs.Output.{Put}
 use Rattle.save.proofs.output.Stretches.{lent, put-both, put-over}
-use Rattle.save.specs.declared.Saved.{Saved}
-use Rattle.save.specs.declared.Saved.the-variants as answer
+use Rattle.rules.specs.declared.Saved.{Saved}
+use Rattle.rules.specs.declared.Saved.the-variants as answer
 use Rattle.save.specs.Save.{SaveOut, made, saveIn}
 use Rattle.save.proofs.Saving.{save-done}
 use Rattle.disc_save.specs.Needs.{tableOfTwo}

@@ -23,7 +23,7 @@ use Rattle.rules.proofs.Tests.{and-left, and-right, asks, →after, →bind}
 use Rattle.rules.proofs.AreaIndex.{the-row}
 use Rattle.rules.proofs.Fingerprint as print
 use Rattle.index.specs.Index.{Tables, roomOf, roomIn, indexIn, kindsIn, refusal, out, outOf}
-use Rattle.index.specs.declared.Made.the-variants as made
+use Rattle.rules.specs.declared.Made.the-variants as made
 use Rattle.index.specs.Needs.{Passes, heldQuestion4}
 use Rattle.index.specs.Lent.{Typed, TableBytes}
 use Rattle.index.proofs.Questions.{passes, passes-long}

@@ -19,7 +19,7 @@ use Rattle.laws.specs.Statements.{Savable}
 use Rattle.laws.proofs.Facts.{facts}
 use Rattle.laws.proofs.Loaded.{loaded-valid}
 use Rattle.laws.proofs.scans.Scans.{ScanIs, scan-of, scan→}
-use Rattle.index.specs.declared.Made.{Made}
+use Rattle.rules.specs.declared.Made.{Made}
 use Rattle.index.specs.Index.{Tables, roomOf, roomIn, indexIn, kindsIn, kinded, numbersFrom, tablesFrom, tablesCleared, Out, out, outOf}
 use Rattle.index.proofs.Back.{numbers-back}
 use Rattle.index.proofs.Questions.{passes-kinds}

@@ -8,8 +8,8 @@ use Rattle.rules.specs.declared.AreaIndex.{AreaIndex}
 use Rattle.rules.specs.Values.{Index}
 use Rattle.rules.specs.Merge.{merged, mergeNumber}
 use Rattle.rules_drawer.specs.Drawer.{pairsNumber, mergeEach}
-use Rattle.index.specs.declared.Made.{Made}
-use Rattle.index.specs.declared.Made.the-variants as made
+use Rattle.rules.specs.declared.Made.{Made}
+use Rattle.rules.specs.declared.Made.the-variants as made
 use Rattle.index.specs.Index.{Tables, roomOf, indexIn, kindsIn, numbersFrom, tablesCleared, Out}
 use Rattle.index.specs.Needs.{Passes}
 use Rattle.laws.specs.Statements.{Savable}

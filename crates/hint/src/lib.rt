@@ -10,8 +10,10 @@ use rules::Area;
 use rules::AreaIndex;
 use rules::HINT_REACH;
 use rules::Hinted;
+use rules_jump::HintAnswer;
 use rules_jump::HintEnd;
 use rules_jump::HintStart;
+use rules_jump::NamedHint;
 use tables::read_hint;
 ghost use mathlib.Core.Path.{_≡_};
 ghost use Prim.Native.Nat.{_*_, _≤_, _<_};
@@ -22,20 +24,6 @@ ghost use Rattle.index.specs.Index.{tables};
 ghost use Rattle.hint.specs.Calls.{namedOf, answerOf, hintIn};
 ghost use Rattle.rules_jump.specs.Names.{named, namedEnd};
 ghost use Rattle.hint.specs.Needs.{Ready, laterEnd, hintedFrom, answerIn};
-
-// A refusal number, that no hint is near, or the read.
-pub enum HintAnswer {
-    Refused(u32),
-    Nothing,
-    Hinted(NamedHint),
-}
-
-// The read, how its hint was chosen, and where its upper end came from.
-pub struct NamedHint {
-    pub hint: Hinted,
-    pub start: HintStart,
-    pub end: HintEnd,
-}
 
 // The upper end through the first of the hints from place i on that is numbered end or more, if at most 64 frames
 // past it; 0 where there is none.

@@ -33,10 +33,10 @@ use Rattle.tables.specs.Tables.{hintsIn}
 use Rattle.index.specs.Index.{Tables, refusal}
 use Rattle.index.proofs.Four.{Later, kinded-index}
 use Rattle.hint_recorder.specs.Numbers.{lastIn, tailless, emptied}
-use Rattle.hint_recorder.specs.declared.Saw.the-variants as saw
-use Rattle.hint_recorder.specs.declared.Seen.the-variants as seen
-use Rattle.hint_recorder.specs.declared.Taken.the-variants as taken
-use Rattle.hint_recorder.specs.declared.Created.the-variants as created
+use Rattle.rules.specs.declared.Saw.the-variants as saw
+use Rattle.rules.specs.declared.Seen.the-variants as seen
+use Rattle.rules.specs.declared.Taken.the-variants as taken
+use Rattle.rules.specs.declared.Created.the-variants as created
 use Rattle.hint_recorder.specs.Recorder.{tailIn, lastFrom, tailFrom, recorderIn, out, outOf, sawOut, sawOf, seeIn}
 use Rattle.hint_recorder.specs.Recorder.{flushIn, takenOf, takeIn, createdOf, hintRecorderIn}
 use Rattle.hint_recorder.specs.Needs.{Roomy, Steps, refusalOf, flushedRecord, hintSeen}

@@ -20,14 +20,14 @@ use Rattle.rules.specs.Hints as rules
 use Rattle.tables.specs.Tables.{hintsIn}
 use Rattle.index.specs.Index.{Tables, roomOf, indexIn, kindsIn, kinded}
 use Rattle.hint_recorder.specs.Numbers.{lastIn}
-use Rattle.hint_recorder.specs.declared.Saw.{Saw}
-use Rattle.hint_recorder.specs.declared.Saw.the-variants as saw
-use Rattle.hint_recorder.specs.declared.Seen.{Seen}
-use Rattle.hint_recorder.specs.declared.Seen.the-variants as seen
-use Rattle.hint_recorder.specs.declared.Taken.{Taken}
-use Rattle.hint_recorder.specs.declared.Taken.the-variants as taken
-use Rattle.hint_recorder.specs.declared.Created.{Created}
-use Rattle.hint_recorder.specs.declared.Created.the-variants as created
+use Rattle.rules.specs.declared.Saw.{Saw}
+use Rattle.rules.specs.declared.Saw.the-variants as saw
+use Rattle.rules.specs.declared.Seen.{Seen}
+use Rattle.rules.specs.declared.Seen.the-variants as seen
+use Rattle.rules.specs.declared.Taken.{Taken}
+use Rattle.rules.specs.declared.Taken.the-variants as taken
+use Rattle.rules.specs.declared.Created.{Created}
+use Rattle.rules.specs.declared.Created.the-variants as created
 
 -- ---- the value that numbers and the table stand for
 unfoldable pub tailIn : Tail → Option Hint

@@ -8,6 +8,7 @@ use crate::spacing::is_spaced;
 use field::and;
 use first_record::first_record;
 use rules::AreaIndex;
+use rules::Created;
 use rules::First;
 use rules::HINT;
 use rules::Hint;
@@ -15,49 +16,18 @@ use rules::HintRecorder;
 use rules::LastListed;
 use rules::MAX_LIST;
 use rules::MAX_U32;
+use rules::Saw;
+use rules::Seen;
+use rules::SeenSector;
 use rules::Tail;
+use rules::Taken;
+use rules::TakenList;
 use tables::write_given;
 ghost use mathlib.Core.Path.{_≡_};
 ghost use Rattle.rules.specs.Hints.{seenRecord};
 ghost use Rattle.index.specs.Index.{tables};
 ghost use Rattle.hint_recorder.specs.Recorder.{recorderIn, out, sawOut, seeIn, flushIn, takeIn, hintRecorderIn};
 ghost use Rattle.hint_recorder.specs.Needs.{refusalOf, Roomy, Steps, flushedRecord, hintSeen};
-
-// What a sector says, and the recorder afterwards.
-pub struct SeenSector {
-    pub first: First,
-    pub recorder: HintRecorder,
-}
-
-// The answer of see.
-pub enum Saw {
-    Refused(u32),
-    Sector(SeenSector),
-}
-
-// A hint recorder after a call, or the number that refuses.
-pub enum Seen {
-    Refused(u32),
-    Recorder(HintRecorder),
-}
-
-// How many hints are taken, and the recorder afterwards.
-pub struct TakenList {
-    pub count: u32,
-    pub recorder: HintRecorder,
-}
-
-pub enum Taken {
-    Refused(u32),
-    List(TakenList),
-}
-
-// The hint recorder of an index; none where spacing or M is 0.
-pub enum Created {
-    Refused(u32),
-    Nothing,
-    Recorder(HintRecorder),
-}
 
 // Questions 3 and 4 of a hint recorder: the number of the first answered no, 0 for none.
 fn refuses(r: HintRecorder, list: &[u8]) -> u32

@@ -6,8 +6,8 @@ use Rattle.rules.specs.Tests.{Answer, Refused, Accepted}
 use Rattle.rules.specs.Values.{Index}
 use Rattle.rules.specs.Create.{new, bindFingerprint}
 use Rattle.index.specs.Index.{Tables, roomOf, indexIn, kindsIn, kinded, numbersFrom}
-use Rattle.index.specs.declared.Made.{Made}
-use Rattle.index.specs.declared.Made.the-variants as made
+use Rattle.rules.specs.declared.Made.{Made}
+use Rattle.rules.specs.declared.Made.the-variants as made
 
 -- ---- answers that hold numbers
 unfoldable pub numbersOf : Answer Index → Answer AreaIndex

@@ -10,10 +10,10 @@ use Rattle.rules.specs.Tests.{Answer, Refused, Accepted, after, numberOf, ask, 
 use Rattle.rules.specs.Values.{Frame, Index, frontierOf}
 use Rattle.rules.specs.Questions.{areaOk, question1, question2, question3, four}
 use Rattle.rules.specs.File.{encodeCheckpoint, encodeFrameHeader, encodeHeld, encodeLsn, encodeConfirmation, over}
-use Rattle.index.specs.declared.FrontierLsn.{FrontierLsn}
-use Rattle.index.specs.declared.FrontierLsn.the-variants as front
-use Rattle.index.specs.declared.Made.{Made}
-use Rattle.index.specs.declared.Made.the-variants as made
+use Rattle.rules.specs.declared.FrontierLsn.{FrontierLsn}
+use Rattle.rules.specs.declared.FrontierLsn.the-variants as front
+use Rattle.rules.specs.declared.Made.{Made}
+use Rattle.rules.specs.declared.Made.the-variants as made
 unfoldable pub use Rattle.sections.specs.Numbers.{endIn, idIn, endFrom, idFrom}
 pub use Rattle.sections.specs.Numbers.{numbersFrom}
 pub use Rattle.index.specs.Room.{Tables, tables, roomOf}

@@ -10,6 +10,7 @@ use field::and;
 use field::or;
 use rules::AreaIndex;
 use rules::Fingerprint;
+use rules::FrontierLsn;
 use rules::MAX_HINTS;
 use rules::MAX_MALFORMED_WARNINGS;
 use sections::area_boundaries;
@@ -33,12 +34,6 @@ ghost use Rattle.index.specs.Index.{tables, roomIn, three, refusal, fron
 ghost use Rattle.sections.specs.Numbers.{endIn};
 ghost use Rattle.index.specs.Room.{hintRoom};
 ghost use Rattle.index.specs.Needs.{Long, Roomy, heldQuestion4, scanSpace, sectionsIn, scanIn, hintingIn, hintCounts};
-
-// What a call answers that gives an index: a refusal number, or the numbers of the list that the tables then hold.
-pub enum Made {
-    Refused(u32),
-    Index(AreaIndex),
-}
 
 // ---- 3
 // The tables that a recorder has too; count is the number of boundaries.
@@ -306,12 +301,6 @@ pub fn refuses(
 }
 
 // ---- readers
-// A list's frontier, or the number 1.
-pub enum FrontierLsn {
-    Refused(u32),
-    Lsn(u64),
-}
-
 pub fn frontier(x: AreaIndex) -> FrontierLsn
     ensures { λ r. ⌜ frontierAnswer r ≡ frontierIn x ⌝ }
 {

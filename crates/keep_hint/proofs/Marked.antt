@@ -21,7 +21,7 @@ use Rattle.rules.specs.Hints.{placeOf, question53, keptHint, withHinting, withM
 use Rattle.rules.proofs.Tests.{and-left}
 use Rattle.tables.specs.Tables.{encodeKept, decodeKept, keptIn}
 use Rattle.tables.proofs.Kept.{KeptFits, kept-layout}
-use Rattle.index.specs.declared.Made.the-variants as made
+use Rattle.rules.specs.declared.Made.the-variants as made
 use Rattle.index.specs.Index.{Tables, indexIn, roomOf, kindsIn, kinded, refusal, numbersFrom, outOf, out}
 use Rattle.index.specs.Needs.{Passes}
 use Rattle.index.specs.Lent.{TableBytes}

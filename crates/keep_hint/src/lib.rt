@@ -1,9 +1,9 @@
 // keep_hint: the kept mark of a hint of an index.
 use field::or;
-use index::Made;
 use index::refuses;
 use rules::AreaIndex;
 use rules::Hint;
+use rules::Made;
 use tables::read_hint;
 use tables::write_hint;
 ghost use mathlib.Core.Path.{_≡_};

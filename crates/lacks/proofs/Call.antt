@@ -33,7 +33,7 @@ use Rattle.merge.proofs.questions.Ready.{scan-is, hinting-is}
 use Rattle.rules_lacks.specs.declared.Lacks.{Lacks}
 use Rattle.lacks.specs.declared.Missing.{Missing}
 use Rattle.rules_lacks.specs.Lacks.{sameHint, confirmsAlso, lacking, lacks}
-use Rattle.lacks.specs.declared.Lacked.the-variants as lacked
+use Rattle.rules_lacks.specs.declared.Lacked.the-variants as lacked
 use Rattle.lacks.specs.Pass.{missed}
 use Rattle.lacks.specs.Parts.{partKey, PartsWithin, standsIn, PartsLent}
 use Rattle.lacks.specs.Lacks.{lacksBy, countsIn, lackedOf, lacksIn}

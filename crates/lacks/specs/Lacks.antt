@@ -8,8 +8,8 @@ use Rattle.index.specs.Index.{Tables, roomOf, indexIn, kindsIn, kinded}
 use Rattle.sections.specs.Numbers.{endIn, idIn}
 use Rattle.rules_lacks.specs.declared.Lacks.{Lacks}
 use Rattle.rules_lacks.specs.Lacks.{lacking, lacks}
-use Rattle.lacks.specs.declared.Lacked.{Lacked}
-use Rattle.lacks.specs.declared.Lacked.the-variants as lacked
+use Rattle.rules_lacks.specs.declared.Lacked.{Lacked}
+use Rattle.rules_lacks.specs.declared.Lacked.the-variants as lacked
 use Rattle.lacks.specs.declared.Missing.{Missing}
 
 -- what is lacking, by the counts and the numbers

@@ -12,6 +12,7 @@ use rules::AreaIndex;
 use rules::Confirmation;
 use rules::Held;
 use rules::Hint;
+use rules_lacks::Lacked;
 use rules_lacks::Lacks;
 use tables::get_header;
 use tables::read_confirmation;
@@ -32,12 +33,6 @@ ghost use Rattle.lacks.specs.Pass.{firstStands, missed, common};
 ghost use Rattle.lacks.specs.Sections.{widthOf, itemKey, standsFor, itemsIn, itemAt};
 ghost use Rattle.lacks.specs.Parts.{nearestTo, FramesLent, PairIs, PairAt, samePartBy, partKey};
 ghost use Rattle.lacks.specs.Parts.{PartWithin, PartsWithin, standsIn, StepIs, unpairedYet, PartsLent};
-
-// The number that refuses, or what is lacking.
-pub enum Lacked {
-    Refused(u32),
-    Lacks(Lacks),
-}
 
 // How many of what lies in tables.
 pub struct Missing {

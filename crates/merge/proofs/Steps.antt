@@ -24,7 +24,7 @@ use Rattle.laws.proofs.Layouts.{confirmation-layout}
 use Rattle.tables.specs.Tables.{checkpointsIn, partsIn, encodeKept, confirmationsIn}
 use Rattle.index.specs.Index.{Tables, tables, indexIn, storeOf, numbersFrom, tablesCleared, Out, out, outOf}
 use Rattle.sections.specs.Numbers.{endIn, endFrom, idFrom}
-use Rattle.index.specs.declared.Made.the-variants as made
+use Rattle.rules.specs.declared.Made.the-variants as made
 use Rattle.merge.specs.Join.{mergeRefusal}
 use Rattle.merge.specs.Further.{furtherIn}
 use Rattle.merge.proofs.questions.Refusal.{further-is, asked-after}

@@ -1,7 +1,7 @@
 -- The merged list in the own tables.
 use Rattle.rules.specs.declared.AreaIndex.{AreaIndex}
 use Rattle.rules.specs.Merge.{merged}
-use Rattle.index.specs.declared.Made.the-variants as made
+use Rattle.rules.specs.declared.Made.the-variants as made
 use Rattle.index.specs.Index.{Tables, indexIn, numbersFrom, tablesCleared, Out, out}
 use Rattle.merge.specs.Merge.{hintsWritten}
 

@@ -5,8 +5,8 @@ use Rattle.rules.specs.declared.Plan.{Plan}
 use Rattle.rules.specs.Tests.{Answer, Refused, Accepted}
 use Rattle.rules.specs.Plan.{plan}
 use Rattle.index.specs.Index.{Tables, roomOf, indexIn, kindsIn, kinded}
-use Rattle.plan.specs.declared.Planned.{Planned}
-use Rattle.plan.specs.declared.Planned.the-variants as variants
+use Rattle.rules.specs.declared.Planned.{Planned}
+use Rattle.rules.specs.declared.Planned.the-variants as variants
 
 unfoldable pub plannedOf : Planned → Answer Plan
 plannedOf (variants.Refused n) = Refused n

@@ -11,6 +11,7 @@ use rules::End;
 use rules::Held;
 use rules::HeldPart;
 use rules::Plan;
+use rules::Planned;
 use rules::Resume;
 use sections::lsn_at;
 use tables::get_checkpoint;
@@ -126,11 +127,6 @@ fn plan_in(x: AreaIndex, first: u32, checkpoints: &[u8], frames: &[u8], parts: &
             plan_within(x, first, checkpoints, frames, parts)
         }
     }
-}
-
-pub enum Planned {
-    Refused(u32),
-    Plan(Plan),
 }
 
 // Where to start for frame first.

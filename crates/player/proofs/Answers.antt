@@ -12,19 +12,19 @@ use Rattle.rules.specs.Tests.{Accepted}
 use Rattle.blocks.specs.Head.{indexWords}
 use Rattle.blocks.specs.IsHead.{isIndex}
 use Rattle.index.specs.Index.{Tables, out}
-use Rattle.index.specs.declared.Made.{Made}
+use Rattle.rules.specs.declared.Made.{Made}
 use Rattle.index.specs.Calls.{madeOf, newIn, boundIn}
 use Rattle.plan.specs.Calls.{plannedOf, planIn}
-use Rattle.plan.specs.declared.Planned.{Planned}
+use Rattle.rules.specs.declared.Planned.{Planned}
 use Rattle.load.specs.Load.{loadIn}
 use Rattle.merge.specs.Merge.{mergeIn}
 use Rattle.adds.specs.Brings.{addsOf, addsIn}
-use Rattle.adds.specs.declared.Added.{Added}
+use Rattle.rules.specs.declared.Added.{Added}
 use Rattle.add_hints.specs.Added.{addHintsIn}
 use Rattle.save.specs.Save.{made, saveIn}
-use Rattle.save.specs.declared.Saved.{Saved}
-use Rattle.sizes.specs.declared.FileArea.{FileArea}
-use Rattle.sizes.specs.declared.Sized.{Sized}
+use Rattle.rules.specs.declared.Saved.{Saved}
+use Rattle.rules.specs.declared.FileArea.{FileArea}
+use Rattle.rules.specs.declared.Sized.{Sized}
 use Rattle.sizes.specs.Sizes.{sizedOf, newSizes, fileSizes, fileAreaOf, fileArea, fileLength}
 use Rattle.player.specs.Block.{called, into, headIndex, planWords, firstWords, sizeWords, areaWords, bringsWords, savedNumber}
 use Rattle.player.specs.Calls.{calledOver, firstCall, sizesCall, fileAreaCall, fileSizesCall, newCall, loadCall, fingerprintCall, planCall, lengthCall, saveCall, mergeCall, addsCall, addHintsCall}

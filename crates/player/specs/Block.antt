@@ -16,15 +16,15 @@ use Rattle.rules.specs.File.{unsigned32, kindNumber, bit, over}
 use Rattle.rules.specs.Tests.{Answer, Refused, Accepted}
 use Rattle.rules_jump.specs.Names.{planRule, planRuleNumber}
 use Rattle.rules_view.specs.View.{workshop}
-use Rattle.adds.specs.declared.Brings.{Brings}
+use Rattle.rules.specs.declared.Brings.{Brings}
 use Rattle.blocks.specs.From.{indexFrom, recorderFrom, hintRecorderFrom}
 use Rattle.blocks.specs.declared.Told.{Told}
 use Rattle.blocks.specs.Head.{wordsIn, blockOf, firstTold}
 use Rattle.blocks.specs.IsHead.{isBlock}
-use Rattle.save.specs.declared.Saved.{Saved}
-use Rattle.save.specs.declared.Saved.the-variants as saved
+use Rattle.rules.specs.declared.Saved.{Saved}
+use Rattle.rules.specs.declared.Saved.the-variants as saved
 use Rattle.save.specs.Save.{SaveOut}
-use Rattle.sizes.specs.declared.lengths.TableSizes.{TableSizes}
+use Rattle.rules.specs.declared.TableSizes.{TableSizes}
 use Rattle.player.specs.declared.block.HeldWords.{HeldWords}
 
 -- ---- what a call answers in C: a number, and the block afterwards

@@ -5,8 +5,8 @@ use Rattle.blocks.specs.IsHead.{isIndex}
 use Rattle.index.specs.Index.{Tables}
 use Rattle.rules.specs.Tests.{Answer, Refused, Accepted}
 use Rattle.rules_view.specs.View.{isRole}
-use Rattle.view.specs.declared.Viewed.{Viewed}
-use Rattle.view.specs.declared.Viewed.the-variants as viewed
+use Rattle.rules.specs.declared.Viewed.{Viewed}
+use Rattle.rules.specs.declared.Viewed.the-variants as viewed
 use Rattle.view.specs.View.{ViewOut, viewIn, viewSizeIn}
 use Rattle.player.specs.Block.{Called, called, inHead, headIndex}
 

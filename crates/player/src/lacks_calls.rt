@@ -4,7 +4,7 @@ use crate::block::index_in;
 use blocks::HEAD_BYTES;
 use blocks::read::is_index;
 use blocks::write_words;
-use lacks::Lacked;
+use rules_lacks::Lacked;
 use rules_lacks::Lacks;
 ghost use mathlib.Core.Path.{_≡_};
 ghost use Prim.Native.Nat.{_≤_};

@@ -1,6 +1,6 @@
 // What the player's C program calls for the views of a list.
 use crate::block::index_in;
-use view::Viewed;
+use rules::Viewed;
 use view::block_refuses;
 ghost use mathlib.Core.Path.{_≡_};
 ghost use Rattle.index.specs.Index.{tables};

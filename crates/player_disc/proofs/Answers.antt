@@ -9,15 +9,15 @@ use Rattle.rules.specs.declared.AreaIndex.{AreaIndex}
 use Rattle.blocks.specs.IsHead.{isIndex}
 use Rattle.index.specs.Index.{Tables}
 use Rattle.save.specs.Save.{made}
-use Rattle.save.specs.declared.Saved.{Saved}
+use Rattle.rules.specs.declared.Saved.{Saved}
 use Rattle.player.specs.Block.{called, into, headIndex, savedNumber}
 use Rattle.player.proofs.block.Blocks.{long-enough, is-head}
-use Rattle.disc_load.specs.declared.contents.Contents.{Contents}
+use Rattle.rules_disc.specs.declared.Contents.{Contents}
 use Rattle.disc_load.specs.Contents.{contentsIn}
-use Rattle.disc_load.specs.declared.Loaded.{Loaded}
+use Rattle.rules_disc.specs.declared.Loaded.{Loaded}
 use Rattle.disc_load.specs.Calls.{discOut, loadDiscIn}
 use Rattle.disc_save.specs.Calls.{saveOneIn, saveBothIn}
-use Rattle.disc_load.specs.declared.table_sizes.DiscSized.{DiscSized}
+use Rattle.rules_disc.specs.declared.DiscSized.{DiscSized}
 use Rattle.disc_load.specs.Sizes.{discSizes, discSizedOf}
 use Rattle.disc_save.specs.Length.{oneLength, bothLength}
 use Rattle.player_disc.specs.Block.{calledLists, contentsInto, discSizeWords, loadedInto}

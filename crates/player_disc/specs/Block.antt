@@ -5,15 +5,15 @@ use mathlib.Core.Option.{Option, none, some}
 use Rattle.rules.specs.File.{over}
 use Rattle.blocks.specs.Head.{blockOf, indexWords}
 use Rattle.player.specs.Block.{Called, called, two}
-use Rattle.sizes.specs.declared.lengths.TableSizes.{TableSizes}
-use Rattle.disc_load.specs.declared.contents.Contents.{Contents}
-use Rattle.disc_load.specs.declared.contents.Contents.the-variants.{Broken, Lists}
-use Rattle.disc_load.specs.declared.contents.Place.{Place}
-use Rattle.disc_load.specs.declared.contents.Place.the-variants.{Absent, At}
-use Rattle.disc_load.specs.declared.Listed.{Listed}
-use Rattle.disc_load.specs.declared.Listed.the-variants as listed
-use Rattle.disc_load.specs.declared.Loaded.{Loaded}
-use Rattle.disc_load.specs.declared.Loaded.the-variants as loaded
+use Rattle.rules.specs.declared.TableSizes.{TableSizes}
+use Rattle.rules_disc.specs.declared.Contents.{Contents}
+use Rattle.rules_disc.specs.declared.Contents.the-variants.{Broken, Lists}
+use Rattle.rules_disc.specs.declared.Place.{Place}
+use Rattle.rules_disc.specs.declared.Place.the-variants.{Absent, At}
+use Rattle.rules_disc.specs.declared.Listed.{Listed}
+use Rattle.rules_disc.specs.declared.Listed.the-variants as listed
+use Rattle.rules_disc.specs.declared.Loaded.{Loaded}
+use Rattle.rules_disc.specs.declared.Loaded.the-variants as loaded
 use Rattle.disc_load.specs.Sizes.{DiscSizes}
 use Rattle.player_disc.specs.declared.block.PlaceWords.{PlaceWords}
 

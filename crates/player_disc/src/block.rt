@@ -1,13 +1,13 @@
 // Answers of the calls for disc files as a number and blocks of 24 words.
 use blocks::index_words;
 use blocks::write_words;
-use disc_load::Listed;
-use disc_load::Loaded;
-use disc_load::contents::Contents;
-use disc_load::contents::Place;
-use disc_load::table_sizes::DiscSized;
-use disc_load::table_sizes::SlotSizes;
-use sizes::lengths::TableSizes;
+use rules::TableSizes;
+use rules_disc::Contents;
+use rules_disc::DiscSized;
+use rules_disc::Listed;
+use rules_disc::Loaded;
+use rules_disc::Place;
+use rules_disc::SlotSizes;
 ghost use mathlib.Core.Path.{_≡_};
 ghost use Prim.Native.Nat.{_≤_};
 ghost use lib.ListN.{length};

@@ -11,12 +11,12 @@ use Rattle.rules.specs.declared.Recorder.{Recorder}
 use Rattle.rules.specs.declared.UnderAssembly.{UnderAssembly}
 use Rattle.blocks.specs.IsHead.{isIndex, isRecorder}
 use Rattle.index.specs.Index.{Tables}
-use Rattle.recorder.specs.declared.Recorded.{Recorded}
+use Rattle.rules.specs.declared.Recorded.{Recorded}
 use Rattle.recorder.specs.Recorder.{RecorderTables, startedIn, finishedIn}
 use Rattle.recorder.specs.Record.{recorderOut, recordIn}
-use Rattle.recorder.specs.declared.boundary.Boundary.{Boundary}
+use Rattle.rules.specs.declared.Boundary.{Boundary}
 use Rattle.recorder.specs.Boundary.{dueAt, checkpointAt}
-use Rattle.absorb.specs.declared.Absorbed.{Absorbed}
+use Rattle.rules.specs.declared.Absorbed.{Absorbed}
 use Rattle.absorb.specs.Absorb.{out, absorbIn}
 use Rattle.player_record.specs.Block.{calledBoth, absorbedInto, boundaryOf, boundaryWords}
 use Rattle.player.specs.Block.{called, into, headIndex, headRecorder}

@@ -15,23 +15,23 @@ use Rattle.rules.specs.File.{bit, over}
 use Rattle.rules.specs.Tests.{Answer, Refused, Accepted}
 use Rattle.rules.specs.Values.{lim}
 use Rattle.rules_jump.specs.Names.{NamedHint, startRuleNumber, endRuleNumber}
-use Rattle.absorb.specs.declared.Absorbed.{Absorbed}
+use Rattle.rules.specs.declared.Absorbed.{Absorbed}
 use Rattle.blocks.specs.Head.{blockOf, indexWords, recorderWords, hintRecorderWords, seenWords}
-use Rattle.hint_recorder.specs.declared.Created.{Created}
-use Rattle.hint_recorder.specs.declared.Created.the-variants as created
-use Rattle.hint_recorder.specs.declared.Saw.{Saw}
-use Rattle.hint_recorder.specs.declared.Saw.the-variants as saw
-use Rattle.hint_recorder.specs.declared.Seen.{Seen}
-use Rattle.hint_recorder.specs.declared.Seen.the-variants as seen
-use Rattle.hint_recorder.specs.declared.SeenSector.{SeenSector}
-use Rattle.hint_recorder.specs.declared.Taken.{Taken}
-use Rattle.hint_recorder.specs.declared.Taken.the-variants as taken
-use Rattle.confirmations.specs.declared.Kept.{Kept}
-use Rattle.confirmations.specs.declared.Kept.the-variants as kept
-use Rattle.recorder.specs.declared.Recorded.{Recorded}
-use Rattle.recorder.specs.declared.Recorded.the-variants as recorded
-use Rattle.recorder.specs.declared.boundary.Boundary.{Boundary}
-use Rattle.recorder.specs.declared.boundary.Boundary.the-variants as boundary
+use Rattle.rules.specs.declared.Created.{Created}
+use Rattle.rules.specs.declared.Created.the-variants as created
+use Rattle.rules.specs.declared.Saw.{Saw}
+use Rattle.rules.specs.declared.Saw.the-variants as saw
+use Rattle.rules.specs.declared.Seen.{Seen}
+use Rattle.rules.specs.declared.Seen.the-variants as seen
+use Rattle.rules.specs.declared.SeenSector.{SeenSector}
+use Rattle.rules.specs.declared.Taken.{Taken}
+use Rattle.rules.specs.declared.Taken.the-variants as taken
+use Rattle.rules.specs.declared.Kept.{Kept}
+use Rattle.rules.specs.declared.Kept.the-variants as kept
+use Rattle.rules.specs.declared.Recorded.{Recorded}
+use Rattle.rules.specs.declared.Recorded.the-variants as recorded
+use Rattle.rules.specs.declared.Boundary.{Boundary}
+use Rattle.rules.specs.declared.Boundary.the-variants as boundary
 use Rattle.player.specs.Block.{oneWord, two}
 
 -- ---- a frame under assembly

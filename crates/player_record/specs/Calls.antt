@@ -7,7 +7,7 @@ use Rattle.rules.specs.declared.UnderAssembly.{UnderAssembly}
 use Rattle.blocks.specs.Head.{recorderWords}
 use Rattle.blocks.specs.IsHead.{isIndex, isRecorder}
 use Rattle.index.specs.Index.{Tables}
-use Rattle.recorder.specs.declared.Recorded.{Recorded}
+use Rattle.rules.specs.declared.Recorded.{Recorded}
 use Rattle.recorder.specs.Recorder.{RecorderTables, startedIn, finishedIn}
 use Rattle.recorder.specs.Record.{recordIn}
 use Rattle.recorder.specs.Boundary.{dueAt, checkpointAt}

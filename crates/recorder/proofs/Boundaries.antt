@@ -12,7 +12,7 @@ use Rattle.rules.proofs.Tests.{and-right}
 use Rattle.laws.proofs.Ranges.{boundaries-small}
 use Rattle.laws.proofs.scans.Record.{interval-pos}
 use Rattle.index.proofs.Questions.{range}
-use Rattle.recorder.specs.declared.boundary.Boundary.the-variants.{Refused, Nothing, Lsn}
+use Rattle.rules.specs.declared.Boundary.the-variants.{Refused, Nothing, Lsn}
 use Rattle.recorder.specs.Boundary.{boundaryAt}
 
 module _ (a : Area) (k budget j : ℕ) (w : Bool) {p : Bool} (e : p ≡ areaOk a) where

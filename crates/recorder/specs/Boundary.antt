@@ -8,8 +8,8 @@ use Rattle.rules.specs.declared.Recorder.{Recorder}
 use Rattle.rules.specs.Questions.{areaOk, numbersOk}
 use Rattle.rules.specs.Record.{isRunning}
 use Rattle.rules.specs.Values.{boundaries, lsnOf}
-use Rattle.recorder.specs.declared.boundary.Boundary.{Boundary}
-use Rattle.recorder.specs.declared.boundary.Boundary.the-variants.{Refused, Nothing, Lsn}
+use Rattle.rules.specs.declared.Boundary.{Boundary}
+use Rattle.rules.specs.declared.Boundary.the-variants.{Refused, Nothing, Lsn}
 
 -- 1 and 2, then boundary number j, where it is wanted and the area has so many
 unfoldable pub boundaryAt : Area → ℕ → ℕ → ℕ → Bool → Boundary

@@ -16,8 +16,8 @@ use Rattle.rules.specs.Record.{finish}
 use Rattle.rules.specs.File.{encodeCheckpoint, encodeFrameHeader, encodeHeld, over}
 use Rattle.tables.specs.Tables.{checkpointsIn, framesIn, partsIn}
 use Rattle.index.specs.Index.{Tables, roomOf, indexIn, kindsOk, kindsIn, kindedNumber, kinded, storeOf}
-use Rattle.recorder.specs.declared.Recorded.{Recorded}
-use Rattle.recorder.specs.declared.Recorded.the-variants as recorded
+use Rattle.rules.specs.declared.Recorded.{Recorded}
+use Rattle.rules.specs.declared.Recorded.the-variants as recorded
 
 -- the bytes of the four tables
 pub record RecorderTables : Type 0 where

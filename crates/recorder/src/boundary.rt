@@ -5,18 +5,12 @@ use index::room::question1;
 use index::room::question2;
 use rules::Area;
 use rules::AreaIndex;
+use rules::Boundary;
 use rules::Recorder;
 use sections::area_boundaries;
 use sections::lsn_at;
 ghost use mathlib.Core.Path.{_≡_};
 ghost use Rattle.recorder.specs.Boundary.{boundaryAt, checkpointAt, dueAt};
-
-// The number of question 1 or 2, nothing where there is no such boundary, or its LSN.
-pub enum Boundary {
-    Refused(u32),
-    Nothing,
-    Lsn(u64),
-}
 
 // Boundary number j, where it is wanted.
 fn boundary_at(area: Area, interval: u32, budget: u64, j: u64, wanted: bool) -> Boundary

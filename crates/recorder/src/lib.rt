@@ -16,6 +16,7 @@ use rules::AreaIndex;
 use rules::End;
 use rules::EndState;
 use rules::Mode;
+use rules::Recorded;
 use rules::Recorder;
 use sections::area_boundaries;
 use sections::ending_ok;
@@ -33,12 +34,6 @@ ghost use Rattle.index.specs.Index.{tables};
 ghost use Rattle.sections.specs.Numbers.{endIn};
 ghost use Rattle.recorder.specs.Recorder.{recorderTables, recorderRefusal, startedIn, finishedIn};
 ghost use Rattle.recorder.specs.Needs.{recorderHeld, stretchCounts, stretchIn, Roomy, Long, emptyOf, modeOf};
-
-// The refusal number, or the numbers of the recorder that the tables then hold.
-pub enum Recorded {
-    Refused(u32),
-    Recorder(Recorder),
-}
 
 // ---- the end state
 // The end state that a recorder has.

@@ -1,5 +1,4 @@
 // Recording a checkpoint: record.
-use crate::Recorded;
 use crate::asked::in_order;
 use crate::asked::near;
 use crate::modes::is_running;
@@ -15,6 +14,7 @@ use parts::used_bytes;
 use rules::Area;
 use rules::Checkpoint;
 use rules::MAX_NEXT_ACCEPTABLE;
+use rules::Recorded;
 use rules::Recorder;
 use rules::SECTOR_BYTES;
 use rules::UnderAssembly;

@@ -291,3 +291,138 @@ pub struct Hinted {
     pub upper: u64,
     pub later: bool,
 }
+
+// What a call answers that gives an index: a refusal number, or the numbers of the list that the tables then hold.
+pub enum Made {
+    Refused(u32),
+    Index(AreaIndex),
+}
+
+// A list's frontier, or the number 1.
+pub enum FrontierLsn {
+    Refused(u32),
+    Lsn(u64),
+}
+
+// What plan answers: a refusal number, or where the jump starts.
+pub enum Planned {
+    Refused(u32),
+    Plan(Plan),
+}
+
+// What saving answers: a refusal number, or the length of the file.
+pub enum Saved {
+    Refused(u32),
+    Length(u64),
+}
+
+// The bytes of each table.
+pub struct TableSizes {
+    pub checkpoints: u64,
+    pub frames: u64,
+    pub store: u64,
+    pub parts: u64,
+    pub malformed: u64,
+    pub hints: u64,
+    pub confirmed: u64,
+}
+
+// What the sizes of tables are told by: a refusal number, or the sizes.
+pub enum Sized {
+    Refused(u32),
+    Sizes(TableSizes),
+}
+
+// What a file is asked for its area: a refusal number, or the area.
+pub enum FileArea {
+    Refused(u32),
+    Area(Area),
+}
+
+// The refusal number, or the numbers of the recorder that the tables then hold.
+pub enum Recorded {
+    Refused(u32),
+    Recorder(Recorder),
+}
+
+// The number of question 1 or 2, nothing where there is no such boundary, or its LSN.
+pub enum Boundary {
+    Refused(u32),
+    Nothing,
+    Lsn(u64),
+}
+
+// The refusal number, 0 where it is accepted, and the numbers of both afterwards.
+pub struct Absorbed {
+    pub number: u32,
+    pub index: AreaIndex,
+    pub recorder: Recorder,
+}
+
+// The hint recorder of an index; none where spacing or M is 0.
+pub enum Created {
+    Refused(u32),
+    Nothing,
+    Recorder(HintRecorder),
+}
+
+// What a sector says, and the recorder afterwards.
+pub struct SeenSector {
+    pub first: First,
+    pub recorder: HintRecorder,
+}
+
+// The answer of see.
+pub enum Saw {
+    Refused(u32),
+    Sector(SeenSector),
+}
+
+// A hint recorder after a call, or the number that refuses.
+pub enum Seen {
+    Refused(u32),
+    Recorder(HintRecorder),
+}
+
+// How many hints are taken, and the recorder afterwards.
+pub struct TakenList {
+    pub count: u32,
+    pub recorder: HintRecorder,
+}
+
+// What take answers: a refusal number, or how many hints are taken.
+pub enum Taken {
+    Refused(u32),
+    List(TakenList),
+}
+
+// The index afterwards, that nothing is kept, or the number that refuses.
+pub enum Kept {
+    Refused(u32),
+    Nothing,
+    Index(AreaIndex),
+}
+
+// In what the own list would change.
+pub struct Brings {
+    pub checkpoints: bool,
+    pub ending: bool,
+    pub parts: bool,
+    pub malformed: bool,
+    pub hints: bool,
+    pub confirmed: bool,
+    pub fingerprint: bool,
+    pub image: bool,
+}
+
+// The number that refuses the merge, or what it would bring.
+pub enum Added {
+    Refused(u32),
+    Brings(Brings),
+}
+
+// What a view answers: a refusal number, or its length.
+pub enum Viewed {
+    Refused(u32),
+    Length(u64),
+}

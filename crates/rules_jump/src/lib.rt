@@ -1,5 +1,6 @@
 // Change request 7: the rule by which a plan or a hint gets its answer.
 use rules::Assembly;
+use rules::Hinted;
 use rules::Plan;
 ghost use mathlib.Core.Path.{_≡_};
 ghost use Rattle.rules_jump.specs.Names.{heldRule, planRule, planRuleNumber, startRuleNumber, endRuleNumber};
@@ -80,4 +81,18 @@ pub fn end_rule_number(rule: HintEnd) -> u64
         HintEnd::Average => 3,
         HintEnd::AreaEnd => 4,
     }
+}
+
+// The read, how its hint was chosen, and where its upper end came from.
+pub struct NamedHint {
+    pub hint: Hinted,
+    pub start: HintStart,
+    pub end: HintEnd,
+}
+
+// A refusal number, that no hint is near, or the read.
+pub enum HintAnswer {
+    Refused(u32),
+    Nothing,
+    Hinted(NamedHint),
 }

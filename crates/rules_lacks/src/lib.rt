@@ -13,3 +13,9 @@ pub struct Lacks {
     pub budget: bool,
     pub most: bool,
 }
+
+// The number that refuses, or what is lacking.
+pub enum Lacked {
+    Refused(u32),
+    Lacks(Lacks),
+}

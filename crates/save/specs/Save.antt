@@ -6,8 +6,8 @@ use Rattle.rules.specs.declared.AreaIndex.{AreaIndex}
 use Rattle.rules.specs.Tests.{Answer, Refused, Accepted}
 use Rattle.rules.specs.File.{save, over}
 use Rattle.index.specs.Index.{Tables, roomOf, indexIn, kindsIn, kinded}
-use Rattle.save.specs.declared.Saved.{Saved}
-use Rattle.save.specs.declared.Saved.the-variants as answer
+use Rattle.rules.specs.declared.Saved.{Saved}
+use Rattle.rules.specs.declared.Saved.the-variants as answer
 
 -- what it answers, and the output afterwards
 pub record SaveOut : Type 0 where

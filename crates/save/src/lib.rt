@@ -28,6 +28,7 @@ use rules::HEADER;
 use rules::HINT;
 use rules::HINTS_HEADER;
 use rules::HintHeader;
+use rules::Saved;
 use rules::VERSION_CONFIRMED;
 use rules::VERSION_HINTS;
 use summing::sum_u32;
@@ -42,11 +43,6 @@ ghost use Rattle.index.specs.Index.{indexIn, tables, refusal};
 ghost use Rattle.save.specs.Output.{Filled, Summed, nothingWritten};
 ghost use Rattle.save.specs.Save.{made, saveIn};
 ghost use Rattle.save.specs.Steps.{hintBytes, confirmedBytes, Scanned, Hinted, scanSize, scanBytes, hintIndex, hintingSize};
-
-pub enum Saved {
-    Refused(u32),
-    Length(u64),
-}
 
 // ---- hints and confirmations, each with its header
 fn write_hint_section(out: &mut [u8], h: HintHeader, table: &[u8], sum: u64) -> u64

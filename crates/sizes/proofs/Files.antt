@@ -23,10 +23,10 @@ use Rattle.index.specs.Index.{Tables, indexIn, refusal, numbersFrom}
 use Rattle.inspect.specs.declared.Found.{Found}
 use Rattle.inspect.specs.declared.Inspected.the-variants as inspected
 use Rattle.inspect.specs.Inspect.{foundIn, inspectionOf, inspection}
-use Rattle.sizes.specs.declared.lengths.TableSizes.{TableSizes}
+use Rattle.rules.specs.declared.TableSizes.{TableSizes}
 use Rattle.sizes.specs.LengthsSizes.{limitedSizes, rangeOf}
-use Rattle.sizes.specs.declared.FileArea.the-variants as found
-use Rattle.sizes.specs.declared.Sized.the-variants as sized
+use Rattle.rules.specs.declared.FileArea.the-variants as found
+use Rattle.rules.specs.declared.Sized.the-variants as sized
 use Rattle.sizes.specs.Sizes.{sizedOf, fileSizes, fileLength, beforeSum, fileArea, fileAreaOf}
 
 -- ---- what inspecting says of the file

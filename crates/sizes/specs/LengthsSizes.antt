@@ -4,7 +4,7 @@ use Rattle.rules.specs.declared.Area.{Area}
 use Rattle.rules.specs.declared.AreaIndex.{AreaIndex}
 use Rattle.rules.specs.declared.AreaKey.{AreaKey}
 use Rattle.rules.specs.Values.{boundaries, maxMalformed, mergeRoom}
-use Rattle.sizes.specs.declared.lengths.TableSizes.{TableSizes}
+use Rattle.rules.specs.declared.TableSizes.{TableSizes}
 
 -- for area, interval, budget and M
 unfoldable pub sizesOf : Area → ℕ → ℕ → ℕ → TableSizes

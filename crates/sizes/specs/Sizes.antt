@@ -12,12 +12,12 @@ use Rattle.rules.specs.Questions.{areaOk, numbersOk}
 use Rattle.rules.specs.File.{readHeader, savedLength}
 use Rattle.rules.specs.Load.{keyOf, bodyIn, fileNumber, fromBytes, limited}
 use Rattle.index.specs.Index.{Tables, indexIn, refusal}
-use Rattle.sizes.specs.declared.lengths.TableSizes.{TableSizes}
+use Rattle.rules.specs.declared.TableSizes.{TableSizes}
 use Rattle.sizes.specs.LengthsSizes.{sizesOf, rangeOf}
-use Rattle.sizes.specs.declared.Sized.{Sized}
-use Rattle.sizes.specs.declared.Sized.the-variants as sized
-use Rattle.sizes.specs.declared.FileArea.{FileArea}
-use Rattle.sizes.specs.declared.FileArea.the-variants as found
+use Rattle.rules.specs.declared.Sized.{Sized}
+use Rattle.rules.specs.declared.Sized.the-variants as sized
+use Rattle.rules.specs.declared.FileArea.{FileArea}
+use Rattle.rules.specs.declared.FileArea.the-variants as found
 
 -- ---- sizes
 abbrev pub sizesFor : Index → TableSizes

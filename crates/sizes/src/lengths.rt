@@ -6,6 +6,7 @@ use rules::AreaKey;
 use rules::Header;
 use rules::MAX_MALFORMED_WARNINGS;
 use rules::MERGE_ROOM;
+use rules::TableSizes;
 use sections::area_boundaries;
 ghost use mathlib.Core.Path.{_≡_};
 ghost use mathlib.Core.Bool.{true};
@@ -13,17 +14,6 @@ ghost use Prim.Native.Nat.{max, _/_};
 ghost use Rattle.rules.specs.Questions.{areaOk};
 ghost use Rattle.rules.specs.Load.{keyOf};
 ghost use Rattle.sizes.specs.LengthsSizes.{sizesOf, limitedSizes, rangeOf};
-
-// The bytes of each table.
-pub struct TableSizes {
-    pub checkpoints: u64,
-    pub frames: u64,
-    pub store: u64,
-    pub parts: u64,
-    pub malformed: u64,
-    pub hints: u64,
-    pub confirmed: u64,
-}
 
 // ---- sizes
 pub fn table_sizes(area: Area, interval: u32, budget: u64, most: u32) -> TableSizes

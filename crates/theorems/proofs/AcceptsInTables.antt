@@ -44,13 +44,13 @@ use Rattle.index.proofs.Back.{numbers-back}
 use Rattle.index.proofs.Lent.{put-back}
 use Rattle.index.proofs.Questions.{passes}
 use Rattle.plan.specs.Calls.{planIn}
-use Rattle.recorder.specs.declared.Recorded.the-variants as recordedAs
+use Rattle.rules.specs.declared.Recorded.the-variants as recordedAs
 use Rattle.recorder.specs.Recorder.{RecorderTables, recorderRoom, recorderIn, recorderKinds, recorderFrom, recorderOver, recorderOf, startedIn, finishedIn}
 use Rattle.recorder.specs.Record.{assemblingIn, recorderOut, recordOut, recordIn}
 use Rattle.absorb.specs.Absorb.{absorbed, kindedBoth, absorbIn}
 use Rattle.absorb.specs.Absorb as absorbing
 use Rattle.absorb.specs.Given.{givenIn}
-use Rattle.hint_recorder.specs.declared.Saw.the-variants as sawAs
+use Rattle.rules.specs.declared.Saw.the-variants as sawAs
 use Rattle.hint_recorder.specs.Recorder.{hintRecorderIn, seeIn, flushIn, takeIn}
 use Rattle.hint_recorder.specs.Recorder as hinting
 use Rattle.add_hints.specs.JoinedMerged.{hintsOf}

@@ -23,7 +23,7 @@ use Rattle.index.specs.Needs.{Passes, heldQuestion4}
 use Rattle.index.proofs.Lent.{put-back}
 use Rattle.plan.specs.Calls.{planIn}
 use Rattle.hint.specs.Calls.{hintIn}
-use Rattle.adds.specs.declared.Brings.{Brings}
+use Rattle.rules.specs.declared.Brings.{Brings}
 use Rattle.adds.specs.Brings.{sameFrame, sameHeld, bringsOf, brings}
 use Rattle.theorems.specs.Adds.{noneButImage, noneNamed, NothingNamed, OnlyImageNamed, NothingNamedInTables, OnlyImageNamedInTables}
 use Rattle.theorems.proofs.MergeInTables.{kinded→, Left, merge-left}

@@ -26,7 +26,7 @@ use Rattle.laws.proofs.Limit.{limited-load}
 use Rattle.rules_drawer.specs.Drawer.{lengthsIn, loadFiles, pairNumber, pairsWith, pairsNumber, mergeEach, mergeAll}
 use Rattle.rules_drawer.proofs.Pairs.{first-of→, →first-of, mergeable→}
 use Rattle.rules_drawer.proofs.Files.{behind→, →behind, refused-after}
-use Rattle.index.specs.declared.Made.the-variants as made
+use Rattle.rules.specs.declared.Made.the-variants as made
 use Rattle.index.specs.Index.{Tables, roomOf, indexIn, kindsIn, kindedNumber, refusal, numbersFrom, tablesFrom, tablesCleared, out, outOf}
 use Rattle.index.proofs.Back.{numbers-back}
 use Rattle.index.proofs.Lent.{sized-in}

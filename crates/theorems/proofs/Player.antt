@@ -17,9 +17,9 @@ use Rattle.rules.specs.File.{saved, savedLength, save}
 use Rattle.rules.proofs.Tests.{test, never}
 use Rattle.laws.proofs.Length.{savedLength-is}
 use Rattle.index.specs.Index.{indexIn, orFour, kindedNumber, kinded, refusal}
-use Rattle.hint_recorder.specs.declared.Created.the-variants as created
+use Rattle.rules.specs.declared.Created.the-variants as created
 use Rattle.hint_recorder.specs.Recorder.{createdOf, hintRecorderIn}
-use Rattle.save.specs.declared.Saved.the-variants as told
+use Rattle.rules.specs.declared.Saved.the-variants as told
 use Rattle.save.specs.Save.{saveOut, saveIn}
 use Rattle.sizes.specs.LengthsSizes.{sizesOf}
 use Rattle.sizes.specs.Sizes.{fileLength}

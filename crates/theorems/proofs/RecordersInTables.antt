@@ -52,15 +52,15 @@ use Rattle.index.specs.Index.{Tables, roomOf, indexIn, kindsOk, kindsIn, kinded
 use Rattle.index.proofs.Back.{FrameFits, frames-back}
 use Rattle.index.proofs.Lent.{sized-in}
 use Rattle.index.proofs.Standing.{held-records, kinds-held}
-use Rattle.recorder.specs.declared.Recorded.the-variants as recordedAs
+use Rattle.rules.specs.declared.Recorded.the-variants as recordedAs
 use Rattle.recorder.specs.Recorder.{RecorderTables, recorderRoom, recorderIn, recorderKinds, recorderFrom, recorderOver, recorderOf, startedIn, finishedIn}
 use Rattle.recorder.specs.Record.{assemblingIn, RecorderOut, recorderOut, recordOut, recordIn}
-use Rattle.hint_recorder.specs.declared.Created.the-variants as createdAs
-use Rattle.hint_recorder.specs.declared.Saw.the-variants as sawAs
-use Rattle.hint_recorder.specs.declared.Seen.the-variants as seenAs
-use Rattle.hint_recorder.specs.declared.SeenSector.{SeenSector}
-use Rattle.hint_recorder.specs.declared.Taken.the-variants as takenAs
-use Rattle.hint_recorder.specs.declared.TakenList.{TakenList}
+use Rattle.rules.specs.declared.Created.the-variants as createdAs
+use Rattle.rules.specs.declared.Saw.the-variants as sawAs
+use Rattle.rules.specs.declared.Seen.the-variants as seenAs
+use Rattle.rules.specs.declared.SeenSector.{SeenSector}
+use Rattle.rules.specs.declared.Taken.the-variants as takenAs
+use Rattle.rules.specs.declared.TakenList.{TakenList}
 use Rattle.hint_recorder.specs.Recorder.{hintRecorderIn, seeIn, flushIn, takeIn}
 use Rattle.hint_recorder.specs.Recorder as hinting
 use Rattle.theorems.specs.Recorders.{StandsRecorder, RecorderBytes, SignedIn, StandsHintRecorder}

@@ -24,7 +24,7 @@ use Rattle.plan.specs.Calls.{planIn}
 use Rattle.recorder.specs.Recorder.{recorderRoom, recorderIn}
 use Rattle.absorb.specs.Given.{givenIn}
 use Rattle.hint.specs.Calls.{hintIn}
-use Rattle.save.specs.declared.Saved.the-variants as told
+use Rattle.rules.specs.declared.Saved.the-variants as told
 use Rattle.save.specs.Save.{SaveOut, saveOut, saveIn, made}
 use Rattle.theorems.specs.Useful.{LoadOf, MergedOf, AbsorbedOf}
 use Rattle.theorems.specs.UsefulInTables.{LoadKeepsIn, MergeTakesIn, AbsorbTakesIn, SaveOf, SaveTellsIn, PlanLooksIn, HintLooksIn}

@@ -11,7 +11,7 @@ use Rattle.rules.specs.Tests.{Answer, Accepted, after, firstNo}
 use Rattle.rules.specs.File.{over}
 use Rattle.rules_view.specs.View.{listener, workshop, isRole, viewBytes, viewLength, view, viewSize}
 use Rattle.index.specs.Index.{Tables, roomOf, indexIn, kindsIn, kinded}
-use Rattle.view.specs.declared.Viewed.the-variants as viewed
+use Rattle.rules.specs.declared.Viewed.the-variants as viewed
 use Rattle.view.specs.View.{ViewOut, viewOut, inRole, viewIn, viewSizeIn}
 use Rattle.view.proofs.Layouts.{view-length}
 use Rattle.player.specs.Block.{headIndex, inHead, asWorkshop}

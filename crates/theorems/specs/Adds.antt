@@ -12,11 +12,11 @@ use Rattle.rules.specs.Plan.{jump, plan, bytesAt}
 use Rattle.rules.specs.Merge.{merge}
 use Rattle.rules.specs.File.{saved}
 use Rattle.rules_jump.specs.Names.{namedHint}
-use Rattle.index.specs.declared.Made.the-variants as made
+use Rattle.rules.specs.declared.Made.the-variants as made
 use Rattle.index.specs.Index.{Tables, indexIn, out}
 use Rattle.plan.specs.Calls.{planIn}
 use Rattle.hint.specs.Calls.{hintIn}
-use Rattle.adds.specs.declared.Brings.{Brings}
+use Rattle.rules.specs.declared.Brings.{Brings}
 use Rattle.adds.specs.Brings.{brings, addsIn}
 use Rattle.merge.specs.Merge.{mergeIn}
 use Rattle.theorems.specs.TableRun.{LentIn}

@@ -15,26 +15,26 @@ use Rattle.rules.specs.declared.UnderAssembly.{UnderAssembly}
 use Rattle.rules.specs.Tests.{Accepted}
 use Rattle.rules.specs.Values.{max64}
 use Rattle.rules.specs.Questions.{question1, question2, question4}
-use Rattle.index.specs.declared.Made.the-variants as made
+use Rattle.rules.specs.declared.Made.the-variants as made
 use Rattle.index.specs.Index.{Tables, indexIn, kindsIn, out}
 use Rattle.index.specs.Calls.{newIn, boundIn}
 use Rattle.add_hints.specs.Added.{addHintsIn}
 use Rattle.keep_hint.specs.Keep.{keepHintIn}
-use Rattle.confirmations.specs.declared.Kept.the-variants as kept
+use Rattle.rules.specs.declared.Kept.the-variants as kept
 use Rattle.confirmations.specs.Keeping.{keepIn}
 use Rattle.confirmations.specs.Keeping as keeping
 use Rattle.load.specs.Load.{loadIn}
 use Rattle.merge.specs.Merge.{mergeIn}
-use Rattle.recorder.specs.declared.Recorded.the-variants as recordedAs
+use Rattle.rules.specs.declared.Recorded.the-variants as recordedAs
 use Rattle.recorder.specs.Recorder.{RecorderTables, startedIn, finishedIn}
 use Rattle.recorder.specs.Record.{recorderOut, recordIn}
 use Rattle.absorb.specs.Absorb.{absorbIn}
-use Rattle.hint_recorder.specs.declared.Created.the-variants as createdAs
-use Rattle.hint_recorder.specs.declared.Saw.the-variants as sawAs
-use Rattle.hint_recorder.specs.declared.Seen.the-variants as seenAs
-use Rattle.hint_recorder.specs.declared.SeenSector.{SeenSector}
-use Rattle.hint_recorder.specs.declared.Taken.the-variants as takenAs
-use Rattle.hint_recorder.specs.declared.TakenList.{TakenList}
+use Rattle.rules.specs.declared.Created.the-variants as createdAs
+use Rattle.rules.specs.declared.Saw.the-variants as sawAs
+use Rattle.rules.specs.declared.Seen.the-variants as seenAs
+use Rattle.rules.specs.declared.SeenSector.{SeenSector}
+use Rattle.rules.specs.declared.Taken.the-variants as takenAs
+use Rattle.rules.specs.declared.TakenList.{TakenList}
 use Rattle.hint_recorder.specs.Recorder.{hintRecorderIn, seeIn, flushIn, takeIn}
 use Rattle.hint_recorder.specs.Recorder as hinting
 use Rattle.theorems.specs.TableRun.{LentIn}

@@ -8,14 +8,14 @@ use lib.ListN.{length, take}
 use Rattle.rules.specs.declared.Area.{Area}
 use Rattle.rules.specs.declared.AreaIndex.{AreaIndex}
 use Rattle.rules.specs.File.{over, saved}
-use Rattle.index.specs.declared.Made.the-variants as made
+use Rattle.rules.specs.declared.Made.the-variants as made
 use Rattle.index.specs.Index.{Tables, indexIn, out}
-use Rattle.save.specs.declared.Saved.the-variants.{Length}
+use Rattle.rules.specs.declared.Saved.the-variants.{Length}
 use Rattle.save.specs.Save as saving
 use Rattle.load.specs.Load.{loadIn}
-use Rattle.disc_load.specs.declared.Listed.{Listed}
-use Rattle.disc_load.specs.declared.Listed.the-variants as listed
-use Rattle.disc_load.specs.declared.Loaded.the-variants as loaded
+use Rattle.rules_disc.specs.declared.Listed.{Listed}
+use Rattle.rules_disc.specs.declared.Listed.the-variants as listed
+use Rattle.rules_disc.specs.declared.Loaded.the-variants as loaded
 use Rattle.disc_load.specs.Calls.{discOut, loadDiscIn}
 use Rattle.disc_save.specs.Calls.{saveOneIn, saveBothIn}
 use Rattle.player.specs.Block.{called, headIndex}

@@ -16,12 +16,12 @@ use Rattle.rules.specs.Load.{load}
 use Rattle.rules_disc.specs.Disc.{slotArea, contentsOk, discBytes}
 use Rattle.index.specs.Index.{Tables, roomOf, indexIn}
 use Rattle.index.specs.Lent.{Typed, TableBytes}
-use Rattle.save.specs.declared.Saved.the-variants.{Length}
+use Rattle.rules.specs.declared.Saved.the-variants.{Length}
 use Rattle.save.specs.Save.{made}
 use Rattle.laws.specs.Statements.{stripped}
 use Rattle.theorems.specs.Terms.{ValidIn, Ample}
-use Rattle.disc_load.specs.declared.Listed.the-variants as listed
-use Rattle.disc_load.specs.declared.Loaded.the-variants as loaded
+use Rattle.rules_disc.specs.declared.Listed.the-variants as listed
+use Rattle.rules_disc.specs.declared.Loaded.the-variants as loaded
 use Rattle.disc_load.specs.Calls.{DiscOut, discOut, loadDiscIn}
 use Rattle.disc_save.specs.Calls.{saveOneIn, saveBothIn}
 use Rattle.theorems.specs.TableRun.{LentIn}

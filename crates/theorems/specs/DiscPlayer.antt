@@ -10,9 +10,9 @@ use Rattle.rules.specs.declared.AreaIndex.{AreaIndex}
 use Rattle.rules.specs.Tests.{Refused, Accepted}
 use Rattle.rules_disc.specs.Disc.{Disc, entriesIn, entryOf, bodyOf, loadDisc}
 use Rattle.index.specs.Index.{Tables, roomOf}
-use Rattle.save.specs.declared.Saved.{Saved}
-use Rattle.save.specs.declared.Saved.the-variants as saved
-use Rattle.sizes.specs.declared.lengths.TableSizes.{TableSizes}
+use Rattle.rules.specs.declared.Saved.{Saved}
+use Rattle.rules.specs.declared.Saved.the-variants as saved
+use Rattle.rules.specs.declared.TableSizes.{TableSizes}
 use Rattle.sizes.specs.Sizes.{hasSizes}
 use Rattle.player.specs.Block.{savedNumber}
 use Rattle.disc_save.specs.Calls.{saveOneIn, saveBothIn}

@@ -15,9 +15,9 @@ use Rattle.rules.specs.Load.{load}
 use Rattle.blocks.specs.IsHead.{isIndex}
 use Rattle.rules_disc.specs.Disc.{slotOf, slotArea, contentsOk, loadBody, saveOne, saveBoth, loadDisc}
 use Rattle.index.specs.Index.{Tables, roomOf, indexIn}
-use Rattle.save.specs.declared.Saved.the-variants as told
+use Rattle.rules.specs.declared.Saved.the-variants as told
 use Rattle.save.specs.Save as saving
-use Rattle.disc_load.specs.declared.Loaded.the-variants as loaded
+use Rattle.rules_disc.specs.declared.Loaded.the-variants as loaded
 use Rattle.disc_load.specs.Calls.{discOut, loadDiscIn}
 use Rattle.disc_save.specs.Calls.{saveOneIn, saveBothIn}
 use Rattle.player.specs.Block.{called, headIndex}

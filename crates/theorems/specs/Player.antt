@@ -16,12 +16,12 @@ use Rattle.rules.specs.Questions.{areaOk, question3, recorderQuestion3}
 use Rattle.rules.specs.Load.{fromBytes, limited, load}
 use Rattle.index.specs.Index.{Tables, roomOf}
 use Rattle.recorder.specs.Recorder.{RecorderTables, recorderRoom}
-use Rattle.hint_recorder.specs.declared.Created.the-variants as created
+use Rattle.rules.specs.declared.Created.the-variants as created
 use Rattle.hint_recorder.specs.Recorder.{hintRecorderIn}
-use Rattle.save.specs.declared.Saved.{Saved}
-use Rattle.save.specs.declared.Saved.the-variants as saved
+use Rattle.rules.specs.declared.Saved.{Saved}
+use Rattle.rules.specs.declared.Saved.the-variants as saved
 use Rattle.save.specs.Save.{saveIn}
-use Rattle.sizes.specs.declared.lengths.TableSizes.{TableSizes}
+use Rattle.rules.specs.declared.TableSizes.{TableSizes}
 use Rattle.sizes.specs.LengthsSizes.{sizesOf}
 use Rattle.sizes.specs.Sizes.{sizesFor, hasSizes, fileSizes, fileLength, fileArea}
 use Rattle.player.specs.Block.{savedNumber}

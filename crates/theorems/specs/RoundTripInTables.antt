@@ -12,11 +12,11 @@ use Rattle.rules.specs.Values.{Index}
 use Rattle.rules.specs.Questions.{question3}
 use Rattle.rules.specs.Load.{fromBytes}
 use Rattle.laws.specs.Statements.{stripped}
-use Rattle.index.specs.declared.Made.the-variants as made
+use Rattle.rules.specs.declared.Made.the-variants as made
 use Rattle.rules.specs.File.{over}
 use Rattle.index.specs.Index.{Tables, roomOf, indexIn, Out, out}
 use Rattle.index.specs.Lent.{Typed, TableBytes}
-use Rattle.save.specs.declared.Saved.the-variants.{Length}
+use Rattle.rules.specs.declared.Saved.the-variants.{Length}
 use Rattle.save.specs.Save.{saveIn}
 use Rattle.save.specs.Save as saving
 use Rattle.load.specs.Load.{loadIn}

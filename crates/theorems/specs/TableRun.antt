@@ -9,12 +9,12 @@ use Rattle.rules.specs.declared.Area.{Area}
 use Rattle.rules.specs.declared.AreaIndex.{AreaIndex}
 use Rattle.rules.specs.Sizes.{sized}
 use Rattle.rules.specs.Run.{Reading, Cut, Place, Call, mergeCall, saveCall, loadCall, Saved, State, begin, run, replace}
-use Rattle.index.specs.declared.Made.{Made}
-use Rattle.index.specs.declared.Made.the-variants as made
+use Rattle.rules.specs.declared.Made.{Made}
+use Rattle.rules.specs.declared.Made.the-variants as made
 use Rattle.index.specs.Index.{Tables, roomOf, indexIn, kindsIn, Out}
 use Rattle.index.specs.Lent.{Typed, TableBytes}
-use Rattle.save.specs.declared.Saved as declared
-use Rattle.save.specs.declared.Saved.the-variants as answer
+use Rattle.rules.specs.declared.Saved as declared
+use Rattle.rules.specs.declared.Saved.the-variants as answer
 use Rattle.save.specs.Save.{SaveOut, saveIn}
 use Rattle.load.specs.Load.{loadIn}
 use Rattle.merge.specs.Merge.{mergeIn}

@@ -34,7 +34,7 @@ use Rattle.rules.specs.Hints.{see, flushedList, near, question13, withHints, wi
 use Rattle.rules.specs.Load.{keyOf, bodyIn, fileNumber, fromBytes, limited}
 use Rattle.rules.specs.Merge.{question41, question42, question43, merged}
 use Rattle.rules.specs.File.{readHeader, encodeHint, savedLength, saved, over}
-use Rattle.index.specs.declared.Made.the-variants as madeAs
+use Rattle.rules.specs.declared.Made.the-variants as madeAs
 use Rattle.rules_lacks.specs.Lacks.{lacking}
 use Rattle.rules_drawer.specs.Drawer.{lengthsIn, question44, loadFiles, pairsNumber, mergeEach}
 use Rattle.rules_coverage.specs.declared.Row.{Row}
@@ -44,41 +44,41 @@ use Rattle.rules_coarsen.specs.Coarse.{coarser, question47, question48}
 use Rattle.index.specs.Index.{Tables, roomOf, indexIn, endIn, idIn, numbersFrom, tablesFrom, tablesCleared, frontierIn, Out, out}
 use Rattle.index.specs.Lent.{TableBytes}
 use Rattle.index.specs.Calls.{newIn, boundIn}
-use Rattle.recorder.specs.declared.Recorded.the-variants as recordedAs
+use Rattle.rules.specs.declared.Recorded.the-variants as recordedAs
 use Rattle.recorder.specs.Recorder.{RecorderTables, recorderIn, recorderFrom, recorderOver, startedIn, finishedIn}
 use Rattle.recorder.specs.Record.{assemblingIn, recorderOut, recordIn}
-use Rattle.recorder.specs.declared.boundary.Boundary.the-variants as boundaryAs
+use Rattle.rules.specs.declared.Boundary.the-variants as boundaryAs
 use Rattle.recorder.specs.Boundary.{checkpointAt, dueAt}
 use Rattle.absorb.specs.Absorb.{absorbed, absorbIn}
 use Rattle.absorb.specs.Absorb as absorbing
 use Rattle.absorb.specs.Given.{givenIn}
-use Rattle.hint_recorder.specs.declared.Created.the-variants as createdAs
-use Rattle.hint_recorder.specs.declared.Saw.the-variants as sawAs
-use Rattle.hint_recorder.specs.declared.Seen.the-variants as seenAs
-use Rattle.hint_recorder.specs.declared.Taken.the-variants as takenAs
+use Rattle.rules.specs.declared.Created.the-variants as createdAs
+use Rattle.rules.specs.declared.Saw.the-variants as sawAs
+use Rattle.rules.specs.declared.Seen.the-variants as seenAs
+use Rattle.rules.specs.declared.Taken.the-variants as takenAs
 use Rattle.hint_recorder.specs.Recorder.{hintRecorderIn, seeIn, flushIn, takeIn}
 use Rattle.hint_recorder.specs.Recorder as hinting
 use Rattle.add_hints.specs.JoinedMerged.{hintsOf, touched}
 use Rattle.add_hints.specs.Added.{addHintsIn}
 use Rattle.keep_hint.specs.Keep.{keepHintIn}
-use Rattle.confirmations.specs.declared.Kept.the-variants as keptAs
+use Rattle.rules.specs.declared.Kept.the-variants as keptAs
 use Rattle.confirmations.specs.Keeping.{keepIn}
 use Rattle.confirmations.specs.Keeping as keeping
 use Rattle.adds.specs.Brings.{bringsOf, addsIn}
 use Rattle.lacks.specs.Lacks.{lacksIn}
 use Rattle.plan.specs.Calls.{planIn}
 use Rattle.hint.specs.Calls.{hintIn}
-use Rattle.save.specs.declared.Saved.the-variants.{Length}
+use Rattle.rules.specs.declared.Saved.the-variants.{Length}
 use Rattle.save.specs.Save as saving
 use Rattle.load.specs.Load.{loadIn}
-use Rattle.sizes.specs.declared.lengths.TableSizes.{TableSizes}
+use Rattle.rules.specs.declared.TableSizes.{TableSizes}
 use Rattle.sizes.specs.LengthsSizes.{sizesOf, rangeOf}
 use Rattle.sizes.specs.Sizes.{sizesFor, newSizes, fileSizes, fileLength, beforeSum, fileArea}
 use Rattle.short_sum.specs.declared.Folded.the-variants as foldedAs
 use Rattle.short_sum.specs.Fold.{folded, question49}
 use Rattle.short_sum.specs.Calls.{fold}
 use Rattle.rules_disc.specs.Disc.{slotArea, entriesIn, entryOf, contentsOk}
-use Rattle.disc_load.specs.declared.contents.Contents.the-variants.{Lists}
+use Rattle.rules_disc.specs.declared.Contents.the-variants.{Lists}
 use Rattle.disc_load.specs.Contents.{placeFrom, contentsIn}
 use Rattle.disc_load.specs.Sizes.{bodySizes, discSizes}
 use Rattle.disc_save.specs.Length.{oneLength, bothLength}

@@ -16,7 +16,7 @@ use Rattle.rules_view.specs.View.{listener, workshop, listenerOf, workshopOf, l
 use Rattle.rules_view.specs.Roles.{asWorkshop}
 use Rattle.blocks.specs.IsHead.{isIndex}
 use Rattle.index.specs.Index.{Tables, indexIn}
-use Rattle.view.specs.declared.Viewed.the-variants as viewed
+use Rattle.rules.specs.declared.Viewed.the-variants as viewed
 use Rattle.view.specs.View.{viewIn, viewSizeIn}
 use Rattle.player.specs.Block.{called, headIndex}
 use Rattle.player.specs.Calls.{calledOver, loadCall, saveCall, mergeCall, loadCallAs, saveCallAs, mergeCallAs}

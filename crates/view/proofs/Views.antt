@@ -23,7 +23,7 @@ use Rattle.index.proofs.Questions.{passes, passes-long, passes-hints, range}
 use Rattle.save.specs.Output.{Put}
 use Rattle.save.proofs.output.Stretches.{put-both, put-over}
 use Rattle.rules_view.specs.View.{isRole, listenerOf, workshopOf, headOf, encodeSeen, totalsOf, seenBytes, listenerBytes, workshopBytes, workshopSize, wordBytes, headWords, viewBytes, viewLength, view, viewSize}
-use Rattle.view.specs.declared.Viewed.the-variants as answer
+use Rattle.rules.specs.declared.Viewed.the-variants as answer
 use Rattle.view.specs.Sections.{headIn, seenOf, listenerIn, behindBytes, behindSize, Shown}
 use Rattle.view.specs.View.{viewed, viewOut, viewedOf, inRole, asked, viewIn, viewSizeIn}
 use Rattle.view.proofs.write.Words.{sets-over}

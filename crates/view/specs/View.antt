@@ -9,8 +9,8 @@ use Rattle.rules.specs.File.{over}
 use Rattle.rules_view.specs.View.{isRole, view, viewSize}
 use Rattle.blocks.specs.IsHead.{isIndex}
 use Rattle.index.specs.Index.{Tables, roomOf, indexIn, kindsIn, kinded, refusal}
-use Rattle.view.specs.declared.Viewed.{Viewed}
-use Rattle.view.specs.declared.Viewed.the-variants as answer
+use Rattle.rules.specs.declared.Viewed.{Viewed}
+use Rattle.rules.specs.declared.Viewed.the-variants as answer
 
 -- what it answers, and the output afterwards
 pub record ViewOut : Type 0 where

@@ -7,6 +7,7 @@ use blocks::read::is_index;
 use field::or;
 use index::refuses;
 use rules::AreaIndex;
+use rules::Viewed;
 use save::output::long_enough;
 use sections::ask;
 ghost use mathlib.Core.Path.{_≡_};
@@ -19,11 +20,6 @@ ghost use Rattle.rules_view.specs.View.{isRole, viewBytes, viewLength};
 ghost use Rattle.index.specs.Index.{Tables, indexIn, tables};
 ghost use Rattle.view.specs.Sections.{Shown};
 ghost use Rattle.view.specs.View.{viewed, viewIn, viewSizeIn, viewedOf, asked, blockRefusal};
-
-pub enum Viewed {
-    Refused(u32),
-    Length(u64),
-}
 
 // ---- questions and lengths
 // 52: is the role 1 (listener) or 2 (workshop)?

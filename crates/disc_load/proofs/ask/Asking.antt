@@ -10,8 +10,8 @@ use Rattle.rules_disc.specs.declared.Entry.{Entry}
 use Rattle.rules.specs.Tests.{Accepted, bind}
 use Rattle.rules_disc.specs.Disc.{bodyOf, loadBody}
 use Rattle.rules.proofs.Tests.{→bind}
-use Rattle.disc_load.specs.declared.contents.Place.{Place}
-use Rattle.disc_load.specs.declared.contents.Place.the-variants as place
+use Rattle.rules_disc.specs.declared.Place.{Place}
+use Rattle.rules_disc.specs.declared.Place.the-variants as place
 use Rattle.disc_load.specs.Contents.{entryIn}
 use Rattle.disc_load.specs.Inside.{Inside}
 use Rattle.index.specs.Index.{Tables, roomOf}

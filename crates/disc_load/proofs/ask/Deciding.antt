@@ -7,8 +7,8 @@ use native.Mathlib.Omega.{arith}
 use Rattle.rules.specs.declared.Area.{Area}
 use Rattle.rules.specs.Tests.{Refused, Accepted, firstNo, after, bind}
 use Rattle.rules_disc.specs.Disc.{bodyOf, slotArea, loadBody, loadBodies, loadDisc}
-use Rattle.disc_load.specs.declared.contents.Contents.the-variants.{Broken, Lists}
-use Rattle.disc_load.specs.declared.contents.Place.{Place}
+use Rattle.rules_disc.specs.declared.Contents.the-variants.{Broken, Lists}
+use Rattle.rules_disc.specs.declared.Place.{Place}
 use Rattle.disc_load.specs.Contents.{entryIn, contentsIn}
 use Rattle.disc_load.proofs.contents.Inside.{locates, breaks}
 use Rattle.index.specs.Index.{Tables, roomOf}

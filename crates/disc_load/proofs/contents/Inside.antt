@@ -11,8 +11,8 @@ use lib.ListN.{length}
 use Rattle.rules.proofs.Tests.{test, all→}
 use Rattle.rules_disc.specs.declared.Entry.{Entry}
 use Rattle.rules_disc.specs.Disc.{laid, contentsOk, entriesIn, entryOf, countIn, tableSize}
-use Rattle.disc_load.specs.declared.contents.Contents.the-variants.{Broken, Lists}
-use Rattle.disc_load.specs.declared.contents.Place.{Place}
+use Rattle.rules_disc.specs.declared.Contents.the-variants.{Broken, Lists}
+use Rattle.rules_disc.specs.declared.Place.{Place}
 use Rattle.disc_load.specs.Contents.{placeFrom, entryIn, contentsFrom, contentsIn}
 use Rattle.disc_load.specs.Inside.{Inside, Locates}
 

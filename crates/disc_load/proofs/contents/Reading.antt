@@ -18,9 +18,9 @@ use Rattle.rules_disc.specs.declared.Entry.{Entry}
 use Rattle.rules_disc.specs.Disc.{entry, encodeEntry, decodeEntry, laid, contentsOk, countIn, entryOf, tableSize}
 use Rattle.save.specs.Output.{Put}
 use Rattle.save.proofs.output.Stretches.{put-both, put-one}
-use Rattle.disc_load.specs.declared.contents.Contents.the-variants.{Broken, Lists}
-use Rattle.disc_load.specs.declared.contents.Place.{Place}
-use Rattle.disc_load.specs.declared.contents.Place.the-variants.{Absent, At}
+use Rattle.rules_disc.specs.declared.Contents.the-variants.{Broken, Lists}
+use Rattle.rules_disc.specs.declared.Place.{Place}
+use Rattle.rules_disc.specs.declared.Place.the-variants.{Absent, At}
 use Rattle.disc_load.specs.Contents.{placeFrom, contentsFrom, contentsIn}
 
 -- an entry by its three numbers

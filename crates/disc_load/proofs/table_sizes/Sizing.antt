@@ -10,18 +10,18 @@ use Rattle.rules.specs.declared.Area.{Area}
 use Rattle.rules_disc.specs.declared.Entry.{Entry}
 use Rattle.rules.specs.Tests.{Accepted, firstNo, after, bind}
 use Rattle.rules_disc.specs.Disc.{bodyOf, slotArea}
-use Rattle.disc_load.specs.declared.contents.Contents.the-variants.{Broken, Lists}
-use Rattle.disc_load.specs.declared.contents.Place.{Place}
-use Rattle.disc_load.specs.declared.contents.Place.the-variants.{Absent, At}
+use Rattle.rules_disc.specs.declared.Contents.the-variants.{Broken, Lists}
+use Rattle.rules_disc.specs.declared.Place.{Place}
+use Rattle.rules_disc.specs.declared.Place.the-variants.{Absent, At}
 use Rattle.disc_load.specs.Contents.{entryIn, contentsIn}
 use Rattle.disc_load.proofs.contents.Inside.{locates, breaks}
-use Rattle.sizes.specs.declared.Sized.{Sized}
+use Rattle.rules.specs.declared.Sized.{Sized}
 use Rattle.sizes.specs.Sizes.{sizedOf, fileSizes}
-use Rattle.disc_load.specs.declared.table_sizes.SlotSizes.the-variants as slot
-use Rattle.disc_load.specs.declared.table_sizes.BodySized.{BodySized}
-use Rattle.disc_load.specs.declared.table_sizes.BodySized.the-variants as body
-use Rattle.disc_load.specs.declared.table_sizes.DiscSized.{DiscSized}
-use Rattle.disc_load.specs.declared.table_sizes.DiscSized.the-variants as disc
+use Rattle.rules_disc.specs.declared.SlotSizes.the-variants as slot
+use Rattle.rules_disc.specs.declared.BodySized.{BodySized}
+use Rattle.rules_disc.specs.declared.BodySized.the-variants as body
+use Rattle.rules_disc.specs.declared.DiscSized.{DiscSized}
+use Rattle.rules_disc.specs.declared.DiscSized.the-variants as disc
 use Rattle.disc_load.specs.Sizes.{bodySizes, bothSizes, discSizes, slotSizesOf, bodySizedOf, discSizedOf}
 
 -- ---- one slot

@@ -8,7 +8,7 @@ use Rattle.rules.specs.declared.AreaIndex.{AreaIndex}
 use Rattle.blocks.specs.Head.{indexWords}
 use Rattle.blocks.specs.IsHead.{isIndex}
 use Rattle.index.specs.Index.{Tables, out}
-use Rattle.index.specs.declared.Made.{Made}
+use Rattle.rules.specs.declared.Made.{Made}
 use Rattle.index.specs.Calls.{madeOf}
 use Rattle.coarsen.specs.Coarsen.{coarseIn}
 use Rattle.player.specs.Block.{called, into, headIndex}

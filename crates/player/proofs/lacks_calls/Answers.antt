@@ -8,7 +8,7 @@ use Rattle.rules.specs.declared.AreaIndex.{AreaIndex}
 use Rattle.blocks.specs.IsHead.{isIndex}
 use Rattle.index.specs.Index.{Tables}
 use Rattle.lacks.specs.Lacks.{lackedOf, lacksIn}
-use Rattle.lacks.specs.declared.Lacked.{Lacked}
+use Rattle.rules_lacks.specs.declared.Lacked.{Lacked}
 use Rattle.player.specs.Block.{called, into, headIndex}
 use Rattle.player.specs.LacksCalls.{lacksWords, lacksCall}
 use Rattle.player.proofs.block.Blocks.{long-enough, is-head}

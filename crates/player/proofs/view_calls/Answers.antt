@@ -9,8 +9,8 @@ use Rattle.rules.specs.Tests.{ask, firstNo}
 use Rattle.rules_view.specs.View.{isRole}
 use Rattle.blocks.specs.IsHead.{isIndex}
 use Rattle.index.specs.Index.{Tables}
-use Rattle.view.specs.declared.Viewed.{Viewed}
-use Rattle.view.specs.declared.Viewed.the-variants as answer
+use Rattle.rules.specs.declared.Viewed.{Viewed}
+use Rattle.rules.specs.declared.Viewed.the-variants as answer
 use Rattle.view.specs.View.{viewed, viewedOf, viewIn, viewSizeIn, blockRefusal}
 use Rattle.player.specs.Block.{called, headIndex, inHead}
 use Rattle.player.specs.ViewCalls.{viewedNumber, lengthNumber, viewLengthCall, viewCall}

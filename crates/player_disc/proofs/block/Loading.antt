@@ -5,9 +5,9 @@ use Prim.Native.Nat.{ℕ}
 use Rattle.rules.specs.File.{over}
 use Rattle.blocks.specs.Head.{blockOf}
 use Rattle.player.specs.Block.{called, two}
-use Rattle.disc_load.specs.declared.Listed.{Listed}
-use Rattle.disc_load.specs.declared.Loaded.{Loaded}
-use Rattle.disc_load.specs.declared.Loaded.the-variants as loaded
+use Rattle.rules_disc.specs.declared.Listed.{Listed}
+use Rattle.rules_disc.specs.declared.Loaded.{Loaded}
+use Rattle.rules_disc.specs.declared.Loaded.the-variants as loaded
 use Rattle.player_disc.specs.Block.{calledLists, listedInto, loadedInto}
 
 pub lists-put : (h g b : List ℕ) {h' g' b' : List ℕ} {p q : ℕ} {r : Loaded} {x y : Listed} → r ≡ loaded.Lists x y → called p h' ≡ listedInto h x

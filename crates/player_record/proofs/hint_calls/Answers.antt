@@ -11,18 +11,18 @@ use Rattle.blocks.specs.Head.{hintRecorderWords}
 use Rattle.blocks.specs.IsHead.{isIndex, isHintRecorder}
 use Rattle.rules.specs.Tests.{numberOf}
 use Rattle.index.specs.Index.{Tables, out}
-use Rattle.index.specs.declared.Made.{Made}
+use Rattle.rules.specs.declared.Made.{Made}
 use Rattle.index.specs.Calls.{madeOf}
 use Rattle.keep_hint.specs.Keep.{keepHintIn}
-use Rattle.hint.specs.declared.HintAnswer.{HintAnswer}
+use Rattle.rules_jump.specs.declared.HintAnswer.{HintAnswer}
 use Rattle.hint.specs.Calls.{answerOf, hintIn}
-use Rattle.hint_recorder.specs.declared.Created.{Created}
-use Rattle.hint_recorder.specs.declared.Saw.{Saw}
-use Rattle.hint_recorder.specs.declared.Seen.{Seen}
-use Rattle.hint_recorder.specs.declared.Taken.{Taken}
+use Rattle.rules.specs.declared.Created.{Created}
+use Rattle.rules.specs.declared.Saw.{Saw}
+use Rattle.rules.specs.declared.Seen.{Seen}
+use Rattle.rules.specs.declared.Taken.{Taken}
 use Rattle.hint_recorder.specs.Recorder.{hintRecorderIn, seeIn, flushIn, takeIn}
 use Rattle.hint_recorder.specs.Recorder as hinting
-use Rattle.confirmations.specs.declared.Kept.{Kept}
+use Rattle.rules.specs.declared.Kept.{Kept}
 use Rattle.confirmations.specs.Keeping.{keepIn}
 use Rattle.confirmations.specs.Keeping as keeping
 use Rattle.player.specs.Block.{called, into, headIndex, headHintRecorder}

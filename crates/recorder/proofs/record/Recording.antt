@@ -38,7 +38,7 @@ use Rattle.parts.specs.Parts.{PartTables, partTables, storedIn, countsOf, store
 use Rattle.parts.specs.Needs.{Room}
 use Rattle.parts.proofs.Stored.{over-more}
 use Rattle.parts.proofs.Callers.{room-from}
-use Rattle.recorder.specs.declared.Recorded.the-variants as recorded
+use Rattle.rules.specs.declared.Recorded.the-variants as recorded
 use Rattle.recorder.specs.Recorder.{RecorderTables, recorderTables, recorderRoom, recorderIn, recorderKinds, recorderRefusal, recorderFrom, recorderOver}
 use Rattle.recorder.specs.Needs.{recorderHeld, Roomy, Long}
 use Rattle.recorder.proofs.Calls.{passes-roomy, passes-held, passes-long}

@@ -8,7 +8,7 @@ use Rattle.rules.proofs.Tests.{asked→, asks, after→, →after, accepted-eq}
 use Rattle.laws.specs.Statements.{Savable}
 use Rattle.laws.proofs.Facts.{facts}
 use Rattle.rules_coarsen.specs.Coarse.{coarser, coarseNumber, coarse}
-use Rattle.index.specs.declared.Made.the-variants as made
+use Rattle.rules.specs.declared.Made.the-variants as made
 use Rattle.index.specs.Index.{Tables, roomOf, indexIn, kindedNumber, refusal, numbersFrom, tablesFrom, out, outOf}
 use Rattle.index.proofs.Lent.{sized-in}
 use Rattle.index.proofs.Questions.{passes, passes-kinds}

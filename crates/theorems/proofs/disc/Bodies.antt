@@ -14,11 +14,11 @@ use Rattle.rules.proofs.Tests.{and-left, and-right}
 use Rattle.rules_disc.specs.Disc.{saveOne, saveBoth, loadDisc}
 use Rattle.blocks.specs.Head.{blockOf, indexWords}
 use Rattle.blocks.specs.IsHead.{isBlock, isIndex}
-use Rattle.index.specs.declared.Made.the-variants as made
+use Rattle.rules.specs.declared.Made.the-variants as made
 use Rattle.index.specs.Index.{Tables, roomOf, indexIn, kindsIn, numbersFrom, out, outOf}
 use Rattle.index.specs.Calls.{madeOf}
 use Rattle.save.specs.Save.{saveOut, saveIn}
-use Rattle.disc_load.specs.declared.Listed.{Listed}
+use Rattle.rules_disc.specs.declared.Listed.{Listed}
 use Rattle.disc_load.specs.Calls.{listedFrom, tablesWith, loadDiscIn}
 use Rattle.disc_save.specs.Calls.{saveOneIn, saveBothIn}
 use Rattle.player.specs.Block.{Called, called, into, headIndex, inBlock, savedNumber}

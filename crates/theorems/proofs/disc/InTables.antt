@@ -20,12 +20,12 @@ use Rattle.index.specs.Index.{Tables, roomOf, indexIn, numbersFrom, tablesFrom,
 use Rattle.index.specs.Lent.{Typed, TableBytes}
 use Rattle.index.proofs.Lent.{sized-in}
 use Rattle.index.proofs.Standing.{stands, kinds-from, within, room-from}
-use Rattle.save.specs.declared.Saved.the-variants.{Length}
+use Rattle.rules.specs.declared.Saved.the-variants.{Length}
 use Rattle.save.specs.Save.{made, saveOut}
 use Rattle.theorems.proofs.RoundTripInTables.{wrote}
-use Rattle.disc_load.specs.declared.Listed.{Listed}
-use Rattle.disc_load.specs.declared.Listed.the-variants as listed
-use Rattle.disc_load.specs.declared.Loaded.the-variants as loaded
+use Rattle.rules_disc.specs.declared.Listed.{Listed}
+use Rattle.rules_disc.specs.declared.Listed.the-variants as listed
+use Rattle.rules_disc.specs.declared.Loaded.the-variants as loaded
 use Rattle.disc_load.specs.Calls.{DiscOut, discOut, listedFrom, tablesWith, discOutOf, loadDiscIn}
 use Rattle.disc_save.specs.Calls.{saveOneIn, saveBothIn}
 use Rattle.theorems.specs.DiscFile.{disc, WholeDisc}

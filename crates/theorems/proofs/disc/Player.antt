@@ -14,8 +14,8 @@ use Rattle.rules.proofs.Tests.{test}
 use Rattle.laws.proofs.Length.{savedLength-is}
 use Rattle.index.specs.Index.{indexIn, orFour, kinded, refusal}
 use Rattle.index.specs.Lowest.{lowest}
-use Rattle.save.specs.declared.Saved.{Saved}
-use Rattle.save.specs.declared.Saved.the-variants as told
+use Rattle.rules.specs.declared.Saved.{Saved}
+use Rattle.rules.specs.declared.Saved.the-variants as told
 use Rattle.save.specs.Save.{SaveOut, made, saveOut}
 use Rattle.player.specs.Block.{savedNumber}
 use Rattle.disc_save.specs.Calls.{saveOneIn, saveBothIn}

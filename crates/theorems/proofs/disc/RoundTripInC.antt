@@ -24,15 +24,15 @@ use Rattle.blocks.specs.Head.{blockOf, indexWords}
 use Rattle.blocks.specs.IsHead.{isBlock, isIndex}
 use Rattle.blocks.proofs.RoundTrip.{index-back, index-is-head}
 use Rattle.index.specs.Index.{Tables, roomOf, indexIn, numbersFrom}
-use Rattle.save.specs.declared.Saved as declared
-use Rattle.save.specs.declared.Saved.the-variants as told
+use Rattle.rules.specs.declared.Saved as declared
+use Rattle.rules.specs.declared.Saved.the-variants as told
 use Rattle.save.specs.Save.{SaveOut}
 use Rattle.save.specs.Save as saving
 use Rattle.player.specs.Block.{Called, called, headIndex, inHead, inBlock, savedNumber, savedInto, two}
-use Rattle.disc_load.specs.declared.Listed.{Listed}
-use Rattle.disc_load.specs.declared.Listed.the-variants as listed
-use Rattle.disc_load.specs.declared.Loaded.{Loaded}
-use Rattle.disc_load.specs.declared.Loaded.the-variants as loaded
+use Rattle.rules_disc.specs.declared.Listed.{Listed}
+use Rattle.rules_disc.specs.declared.Listed.the-variants as listed
+use Rattle.rules_disc.specs.declared.Loaded.{Loaded}
+use Rattle.rules_disc.specs.declared.Loaded.the-variants as loaded
 use Rattle.disc_load.specs.Calls.{DiscOut, discOut, listedFrom, tablesWith, loadDiscIn}
 use Rattle.disc_save.specs.Calls.{saveOneIn, saveBothIn}
 use Rattle.player_disc.specs.Block.{calledLists, listedInto, loadedInto}
