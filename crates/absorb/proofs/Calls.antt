@@ -18,17 +18,16 @@ use Rattle.rules.specs.Values as values
 use Rattle.rules.specs.File.{decodeCheckpoint, decodeHeld}
 use Rattle.rules.specs.Record.{absorb, absorbNumber, absorbedBy, emptied, isStopped, withMode}
 use Rattle.rules.proofs.Tests.{test, choose, and-left, and-right}
-use Rattle.sections.specs.Numbers.{idIn}
-use Rattle.index.specs.Index.{Tables, tables, roomOf, indexIn, kindsIn, kindedNumber, orFour}
-use Rattle.index.specs.Lent.{TableBytes}
+use Rattle.tables.specs.Index.{idIn, Tables, tables, roomOf, indexIn, kindsIn, kindedNumber, orFour}
+use Rattle.tables.specs.Lent.{TableBytes}
 use Rattle.index.proofs.Back.{numbers-back}
 use Rattle.index.proofs.Lent.{put-back}
 use Rattle.index.proofs.Questions.{passes}
 use Rattle.parts.proofs.Frames.{count}
-use Rattle.recorder.specs.Recorder.{RecorderTables, recorderRoom, recorderIn, recorderKinds, recorderFrom}
+use Rattle.tables.specs.Recorder.{RecorderTables, recorderRoom, recorderIn, recorderKinds, recorderFrom}
 use Rattle.recorder.specs.Needs.{modeOf}
 use Rattle.recorder.proofs.Calls.{passes-long}
-use Rattle.absorb.specs.Given.{givenIn}
+use Rattle.tables.specs.Tables.{givenIn}
 use Rattle.absorb.specs.RefusalAbsorb.{absorbRefusal}
 use Rattle.absorb.specs.RefusalNeeds.{Absorbs}
 use Rattle.absorb.proofs.refusal.Refusal.{passed}

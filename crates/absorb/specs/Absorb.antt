@@ -10,10 +10,9 @@ use Rattle.rules.specs.Values.{Index}
 use Rattle.rules.specs.Values as values
 use Rattle.rules.specs.Record.{absorb}
 use Rattle.rules.specs.Record as rules
-use Rattle.sections.specs.Numbers.{idIn, numbersFrom}
-use Rattle.index.specs.Index.{Tables, roomOf, indexIn, kindsIn, orFour, tablesFrom}
-use Rattle.recorder.specs.Recorder.{RecorderTables, recorderRoom, recorderIn, recorderKinds, recorderFrom}
-use Rattle.absorb.specs.Given.{givenIn}
+use Rattle.tables.specs.Index.{idIn, numbersFrom, Tables, roomOf, indexIn, kindsIn, orFour, tablesFrom}
+use Rattle.tables.specs.Recorder.{RecorderTables, recorderRoom, recorderIn, recorderKinds, recorderFrom}
+use Rattle.tables.specs.Tables.{givenIn}
 use Rattle.rules.specs.declared.Absorbed.{Absorbed}
 
 -- the answer, and the index's tables; the recorder's are only read

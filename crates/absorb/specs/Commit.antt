@@ -9,11 +9,9 @@ use Rattle.rules.specs.declared.Recorder.{Recorder}
 use Rattle.rules.specs.Values.{Index}
 use Rattle.rules.specs.Record.{absorbedIndex}
 use Rattle.rules.specs.File.{encodeConfirmation, over}
-use Rattle.tables.specs.Tables.{encodeKept, keptIn, confirmationsIn}
-use Rattle.index.specs.Index.{Tables, indexIn, numbersFrom, tablesFrom}
-use Rattle.sections.specs.Numbers.{idIn}
-use Rattle.recorder.specs.Recorder.{RecorderTables, recorderIn}
-use Rattle.absorb.specs.Given.{givenIn}
+use Rattle.tables.specs.Tables.{encodeKept, keptIn, confirmationsIn, givenIn}
+use Rattle.tables.specs.Index.{Tables, indexIn, numbersFrom, tablesFrom, idIn}
+use Rattle.tables.specs.Recorder.{RecorderTables, recorderIn}
 
 -- the numbers and the tables of an index
 pub record Written : Type 0 where

@@ -17,14 +17,12 @@ use Rattle.rules.specs.Sections.{rising, ownLsn, anyLsn}
 use Rattle.rules.specs.Questions.{areaOk}
 use Rattle.rules.specs.Record.{below, moves}
 use Rattle.rules.specs.File.{encodeLsn}
-use Rattle.tables.specs.Tables.{lsnsIn}
-use Rattle.index.specs.Index.{tables, indexIn}
+use Rattle.tables.specs.Tables.{lsnsIn, givenIn}
+use Rattle.tables.specs.Index.{tables, indexIn, endIn, idIn, idFrom}
 use Rattle.index.specs.Needs.{Passes}
-use Rattle.sections.specs.Numbers.{endIn, idIn, idFrom}
 use Rattle.parts.specs.declared.Counts.{Counts}
-use Rattle.recorder.specs.Recorder.{RecorderTables, recorderIn, recorderRefusal}
+use Rattle.tables.specs.Recorder.{RecorderTables, recorderIn, recorderRefusal}
 use Rattle.merge.specs.TakeNeeds.{Put}
-use Rattle.absorb.specs.Given.{givenIn}
 use Rattle.absorb.specs.QuestionsNeeds.{nineIn}
 
 -- 1 to 4 of both, the index's with some tables of hints and confirmations, 9, and of 10 and 12 what is used

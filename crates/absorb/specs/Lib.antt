@@ -1,7 +1,6 @@
 pub mod Absorb
 pub mod Commit
 pub mod CommittedNeeds
-pub mod Given
 pub mod Needs
 pub mod QuestionsNeeds
 pub mod RefusalAbsorb

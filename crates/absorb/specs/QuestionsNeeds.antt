@@ -17,10 +17,9 @@ use Rattle.rules.specs.Sections.{endingOk, rising, ownLsn, anyLsn}
 use Rattle.rules.specs.Record.{question9, question11, below}
 use Rattle.rules.specs.Questions.{areaOk}
 use Rattle.laws.specs.Twelve.{continues, joinedOk}
-use Rattle.tables.specs.Tables.{checkpointsIn, lsnsIn}
-use Rattle.index.specs.Index.{tables, indexIn}
-use Rattle.recorder.specs.Recorder.{recorderTables, recorderIn}
-use Rattle.absorb.specs.Given.{givenIn}
+use Rattle.tables.specs.Tables.{checkpointsIn, lsnsIn, givenIn}
+use Rattle.tables.specs.Index.{tables, indexIn}
+use Rattle.tables.specs.Recorder.{recorderTables, recorderIn}
 
 -- an index as far as its checkpoints and malformed LSNs, and a recorder as far as its checkpoints
 abbrev pub scanUpTo : AreaIndex → List ℕ → List ℕ → Scan

@@ -6,10 +6,9 @@ use Rattle.rules.specs.declared.AreaIndex.{AreaIndex}
 use Rattle.rules.specs.declared.ImageId.{ImageId}
 use Rattle.rules.specs.declared.Recorder.{Recorder}
 use Rattle.rules.specs.Record.{absorbNumber}
-use Rattle.sections.specs.Numbers.{idIn}
-use Rattle.index.specs.Index.{Tables, roomOf, indexIn, kindsIn, kindedNumber}
-use Rattle.recorder.specs.Recorder.{RecorderTables, recorderRoom, recorderIn, recorderKinds}
-use Rattle.absorb.specs.Given.{givenIn}
+use Rattle.tables.specs.Index.{idIn, Tables, roomOf, indexIn, kindsIn, kindedNumber}
+use Rattle.tables.specs.Recorder.{RecorderTables, recorderRoom, recorderIn, recorderKinds}
+use Rattle.tables.specs.Tables.{givenIn}
 
 -- the number of the rules, with the kind bytes of both; 0 for none. given is the bytes of the malformed LSNs of the reading.
 unfoldable pub absorbRefusal : AreaIndex → Tables → ImageId → List ℕ → Recorder → RecorderTables → ℕ

@@ -12,9 +12,8 @@ use Rattle.rules.specs.Tests.{agree, ask, firstNo}
 use Rattle.rules.specs.Values.{frontierOf, max32}
 use Rattle.rules.specs.Record.{isStopped}
 use Rattle.rules.specs.Questions.{areaOk}
-use Rattle.sections.specs.Numbers.{endIn, idIn}
-use Rattle.index.specs.Index.{Tables}
-use Rattle.recorder.specs.Recorder.{RecorderTables}
+use Rattle.tables.specs.Index.{endIn, idIn, Tables}
+use Rattle.tables.specs.Recorder.{RecorderTables}
 use Rattle.absorb.specs.QuestionsNeeds.{nineIn, elevenIn, twelveIn}
 use Rattle.absorb.specs.RefusalAbsorb.{absorbRefusal}
 

@@ -21,10 +21,9 @@ ghost use Prim.Native.Nat.{ℕ};
 ghost use lib.ListN.{length, take};
 ghost use Rattle.rules.specs.Values.{maxMalformed};
 ghost use Rattle.rules.specs.Record.{below};
-ghost use Rattle.index.specs.Index.{tables};
-ghost use Rattle.sections.specs.Numbers.{endIn};
-ghost use Rattle.recorder.specs.Recorder.{recorderTables};
-ghost use Rattle.absorb.specs.Given.{givenIn};
+ghost use Rattle.tables.specs.Index.{tables, endIn};
+ghost use Rattle.tables.specs.Recorder.{recorderTables};
+ghost use Rattle.tables.specs.Tables.{givenIn};
 ghost use Rattle.absorb.specs.Commit.{written, Kept, absorbedIn};
 ghost use Rattle.absorb.specs.CommittedNeeds.{Ready, TakesBelow, TakenBelow, numbersBy};
 

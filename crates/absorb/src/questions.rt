@@ -26,7 +26,7 @@ ghost use mathlib.Core.Bool.{_||_};
 ghost use Prim.Native.Nat.{_+_, _-_, _*_, _≤_};
 ghost use lib.Dec.{eqb, leb};
 ghost use lib.ListN.{length, getD};
-ghost use Rattle.sections.specs.Numbers.{endIn};
+ghost use Rattle.tables.specs.Index.{endIn};
 ghost use Rattle.tables.specs.Tables.{lsnsIn};
 ghost use Rattle.absorb.specs.QuestionsNeeds.{nineIn, elevenIn, listIn, movedIn, twelveIn, Joinable};
 

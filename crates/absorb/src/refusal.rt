@@ -15,8 +15,8 @@ use sections::frontier_of;
 ghost use mathlib.Core.Path.{_≡_};
 ghost use Prim.Native.Nat.{_≤_};
 ghost use Rattle.rules.specs.Record.{isStopped};
-ghost use Rattle.index.specs.Index.{tables};
-ghost use Rattle.recorder.specs.Recorder.{recorderTables};
+ghost use Rattle.tables.specs.Index.{tables};
+ghost use Rattle.tables.specs.Recorder.{recorderTables};
 ghost use Rattle.absorb.specs.RefusalAbsorb.{absorbRefusal};
 ghost use Rattle.absorb.specs.RefusalNeeds.{tenIn, laterNumber, Readable};
 

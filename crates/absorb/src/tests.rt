@@ -19,7 +19,7 @@ ghost use Rattle.rules.specs.Values.{lastCheckpoint};
 ghost use Rattle.rules.specs.Record.{sameCounts, below};
 ghost use Rattle.laws.specs.Twelve.{notBelow, continues};
 ghost use Rattle.tables.specs.Tables.{checkpointsIn, lsnsIn};
-ghost use Rattle.sections.specs.Numbers.{endIn};
+ghost use Rattle.tables.specs.Index.{endIn};
 
 // ---- checkpoints
 // The same threshold and malformed count?

@@ -20,17 +20,17 @@ use Rattle.rules.specs.Hints.{question13, withHinting, withHints, addHints}
 use Rattle.rules.proofs.Tests.{all→, and-left}
 use Rattle.laws.proofs.hint_lists.Passes.{between-none, between-next}
 use Rattle.laws.specs.Passes.{between}
-use Rattle.tables.specs.Tables.{decodeKept, keptIn}
+use Rattle.tables.specs.Tables.{decodeKept, keptIn, hintsOf}
 use Rattle.rules.specs.declared.Made.the-variants as made
-use Rattle.index.specs.Index.{Tables, indexIn, roomOf, roomIn, kindsIn, kinded, refusal, outOf, out}
+use Rattle.tables.specs.Index.{Tables, indexIn, roomOf, roomIn, kindsIn, kinded, refusal, outOf, out}
 use Rattle.index.specs.Needs.{Passes, heldQuestion4}
-use Rattle.index.specs.Lent.{TableBytes}
+use Rattle.tables.specs.Lent.{TableBytes}
 use Rattle.index.proofs.Four.{Later, kinded-index}
 use Rattle.index.proofs.Questions.{passes}
 use Rattle.index.proofs.Left.{withHintTable, hints-left}
 use Rattle.index.proofs.Back.{numbers-back}
 use Rattle.add_hints.proofs.Arriving.{arriving-13}
-use Rattle.add_hints.specs.JoinedMerged.{hintsOf, joinedIn, touched, clearedTo}
+use Rattle.add_hints.specs.JoinedMerged.{joinedIn, touched, clearedTo}
 use Rattle.add_hints.specs.Added.{addHintsIn}
 use Rattle.add_hints.specs.Needs.{withCount}
 

@@ -15,9 +15,8 @@ use Rattle.rules.specs.File.{decodeHint}
 use Rattle.rules.specs.Hints.{insert, arrivedHint, inArea, insertAll, unkeptHint, unkept, question13}
 use Rattle.rules.proofs.Tests.{test}
 use Rattle.laws.proofs.Marks.{unkept-twice, unkept-each}
-use Rattle.tables.specs.Tables.{hintsIn, decodeKept, keptIn}
+use Rattle.tables.specs.Tables.{hintsIn, decodeKept, keptIn, decodeUnkept, unkeptIn}
 use Rattle.tables.proofs.Kept.{KeptFits, kept-layout, kept-13}
-use Rattle.add_hints.specs.Merged.{decodeUnkept, unkeptIn}
 
 pub unkept-in : (n : ℕ) (t : List ℕ) → unkeptIn n t ≡ unkept (keptIn n t)
 unfolding records unkept

@@ -19,9 +19,8 @@ ghost use lib.ListN.{length};
 ghost use Rattle.rules.specs.Tests.{each};
 ghost use Rattle.rules.specs.Sections.{hintOk};
 ghost use Rattle.rules.specs.Hints.{question13};
-ghost use Rattle.tables.specs.Tables.{hintsIn};
-ghost use Rattle.index.specs.Index.{tables, out};
-ghost use Rattle.add_hints.specs.JoinedMerged.{hintsOf};
+ghost use Rattle.tables.specs.Tables.{hintsIn, hintsOf};
+ghost use Rattle.tables.specs.Index.{tables, out};
 ghost use Rattle.add_hints.specs.Added.{addHintsIn};
 ghost use Rattle.add_hints.specs.Needs.{withCount};
 

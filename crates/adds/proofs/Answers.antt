@@ -16,8 +16,7 @@ use Rattle.rules.specs.File.{decodeCheckpoint, decodeConfirmation}
 use Rattle.rules.specs.Merge.{further, mergedScan, mergedFingerprint, merged}
 use Rattle.rules.proofs.Tests.{test}
 use Rattle.tables.specs.Tables.{lsnsIn, confirmationsIn, decodeKept, keptIn}
-use Rattle.index.specs.Index.{Tables, indexIn}
-use Rattle.sections.specs.Numbers.{endIn, idIn}
+use Rattle.tables.specs.Index.{Tables, indexIn, endIn, idIn}
 use Rattle.index.proofs.Questions.{passes-long, passes-hints}
 use Rattle.merge.specs.Join.{mergeRefusal}
 use Rattle.merge.specs.Further.{furtherIn}

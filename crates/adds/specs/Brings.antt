@@ -13,7 +13,7 @@ use Rattle.rules.specs.Tests.{all, Answer, Refused, Accepted, after}
 use Rattle.rules.specs.Values.{Frame, Index, Lengths, sameKind, sameCheckpoint, sameEnd}
 use Rattle.rules.specs.Merge.{merged, mergeNumber}
 use Rattle.rules_lacks.specs.Lacks.{sameSigned, equalHint}
-use Rattle.index.specs.Index.{Tables, roomOf, indexIn, kindsIn, kinded}
+use Rattle.tables.specs.Index.{Tables, roomOf, indexIn, kindsIn, kinded}
 use Rattle.adds.specs.Same.{sameList, sameConfirmation}
 use Rattle.rules.specs.declared.Brings.{Brings}
 use Rattle.rules.specs.declared.Added.{Added}

@@ -11,7 +11,7 @@ use Rattle.rules.specs.Values.{Frame, used}
 use Rattle.rules.specs.PartRule.{Stored, stores, piece}
 use Rattle.rules.specs.Merge.{merged}
 use Rattle.tables.specs.Tables.{framesIn, partsIn}
-use Rattle.index.specs.Index.{Tables, indexIn}
+use Rattle.tables.specs.Index.{Tables, indexIn}
 use Rattle.parts.specs.declared.Counts.{Counts}
 use Rattle.parts.specs.Parts.{PartTables, storedIn}
 use Rattle.parts.specs.Needs.{Lent, Ready}

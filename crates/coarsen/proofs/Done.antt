@@ -23,9 +23,8 @@ use Rattle.rules_coarsen.specs.Coarse.{everyNth, coarseParts, unstored, coarser
 use Rattle.laws.proofs.Layouts.{lsn-layout, confirmation-layout}
 use Rattle.tables.proofs.Kept.{kept-layout}
 use Rattle.tables.specs.Tables.{checkpointsIn, framesIn, partsIn, lsnsIn, decodeKept}
-use Rattle.sections.specs.Numbers.{endIn, endFrom, idIn, idFrom}
+use Rattle.tables.specs.Index.{endIn, endFrom, idIn, idFrom, Tables, tables, roomOf, indexIn, numbersFrom, tablesFrom, refusal, Out, out, outOf}
 use Rattle.rules.specs.declared.Made.the-variants as made
-use Rattle.index.specs.Index.{Tables, tables, roomOf, indexIn, numbersFrom, tablesFrom, refusal, Out, out, outOf}
 use Rattle.parts.specs.declared.Counts.{Counts}
 use Rattle.parts.specs.Parts.{partTables, Held, held, heldFrom}
 use Rattle.coarsen.specs.Coarsen.{coarseRefusal, coarseIn}

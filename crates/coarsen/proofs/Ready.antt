@@ -18,7 +18,7 @@ use Rattle.laws.proofs.scans.Scans.{ScanIs, scan→, scan-of}
 use Rattle.laws.proofs.hint_lists.Closure.{HintingIs, hinting→}
 use Rattle.laws.proofs.Ranges.{boundaries-small}
 use Rattle.tables.specs.Tables.{framesOf, checkpointsIn, partsIn, decodeKept}
-use Rattle.index.specs.Index.{Tables, roomIn, indexIn, kindsOk}
+use Rattle.tables.specs.Index.{Tables, roomIn, indexIn, kindsOk}
 use Rattle.index.proofs.Questions.{range, passes-long, passes-hints}
 use Rattle.parts.specs.Parts.{partTables}
 use Rattle.parts.proofs.Callers.{lent-from}

@@ -5,7 +5,7 @@ use lib.Dec.{eqb}
 use Rattle.rules.specs.declared.AreaIndex.{AreaIndex}
 use Rattle.rules.specs.Tests.{after}
 use Rattle.rules_coarsen.specs.Coarse.{coarseNumber, coarse}
-use Rattle.index.specs.Index.{Tables, roomOf, indexIn, refusal, tablesFrom, Out, outOf}
+use Rattle.tables.specs.Index.{Tables, roomOf, indexIn, refusal, tablesFrom, Out, outOf}
 
 -- the number that refuses: 1 to 4 of the finer list with its kind bytes, else that of the rules; 0 for none
 unfoldable pub coarseRefusal : AreaIndex → Tables → ℕ → Tables → ℕ

@@ -11,9 +11,8 @@ use Rattle.rules.specs.Values.{maxInterval, maxMalformed, counted, frontierOf}
 use Rattle.rules.specs.Questions.{question3}
 use Rattle.rules_coarsen.specs.Coarse.{everyNth, question47, coarser, coarseFits}
 use Rattle.tables.specs.Tables.{checkpointsIn, lsnsIn, partsIn}
-use Rattle.sections.specs.Numbers.{endIn}
+use Rattle.tables.specs.Index.{endIn, Tables, roomOf, indexIn, numbersFrom, tablesFrom, Out, out}
 use Rattle.rules.specs.declared.Made.the-variants as made
-use Rattle.index.specs.Index.{Tables, roomOf, indexIn, numbersFrom, tablesFrom, Out, out}
 use Rattle.index.specs.Needs.{Passes}
 use Rattle.parts.specs.declared.Counts.{Counts}
 use Rattle.parts.specs.Parts.{PartTables}

@@ -18,7 +18,7 @@ ghost use lib.ListN.{length, getD};
 ghost use Rattle.rules.specs.Values.{lastCheckpoint};
 ghost use Rattle.rules_coarsen.specs.Coarse.{everyNth};
 ghost use Rattle.tables.specs.Tables.{checkpointsIn, lsnsIn};
-ghost use Rattle.index.specs.Index.{tables};
+ghost use Rattle.tables.specs.Index.{tables};
 ghost use Rattle.coarsen.specs.Coarsen.{coarseRefusal};
 ghost use Rattle.coarsen.specs.Steps.{isMultiple, keptOf, Keeps, countedIn, lastBelow, Widens, fitsIn, numbersAt};
 

@@ -23,9 +23,9 @@ use Rattle.laws.proofs.Layouts.{confirmation-layout}
 use Rattle.laws.specs.Passes.{Begins}
 use Rattle.laws.proofs.hint_lists.Keeping.{confirmed-rises}
 use Rattle.tables.specs.Tables.{confirmationsIn}
-use Rattle.index.specs.Index.{Tables, roomIn, kindsIn, refusal}
+use Rattle.tables.specs.Index.{Tables, roomIn, kindsIn, refusal}
 use Rattle.index.specs.Needs.{Passes, heldQuestion4}
-use Rattle.index.specs.Lent.{TableBytes}
+use Rattle.tables.specs.Lent.{TableBytes}
 use Rattle.index.proofs.Four.{Later, kinded-index}
 use Rattle.index.proofs.Questions.{passes}
 use Rattle.index.proofs.Left.{withConfirmedTable, confirmed-left}

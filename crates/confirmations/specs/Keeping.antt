@@ -6,7 +6,7 @@ use Rattle.rules.specs.declared.Confirmation.{Confirmation}
 use Rattle.rules.specs.Tests.{Answer, Refused, Accepted}
 use Rattle.rules.specs.Values.{Index}
 use Rattle.rules.specs.Hints.{keepConfirmation}
-use Rattle.index.specs.Index.{Tables, roomOf, indexIn, kindsIn, kinded, numbersFrom, tablesFrom}
+use Rattle.tables.specs.Index.{Tables, roomOf, indexIn, kindsIn, kinded, numbersFrom, tablesFrom}
 use Rattle.rules.specs.declared.Kept.{Kept}
 use Rattle.rules.specs.declared.Kept.the-variants as kept
 

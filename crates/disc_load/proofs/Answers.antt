@@ -6,7 +6,7 @@ use Rattle.rules.specs.declared.Area.{Area}
 use Rattle.rules.specs.Tests.{Accepted}
 use Rattle.rules.proofs.Tests.{→bind}
 use Rattle.rules_disc.specs.Disc.{loadDisc}
-use Rattle.index.specs.Index.{Tables, roomOf}
+use Rattle.tables.specs.Index.{Tables, roomOf}
 use Rattle.disc_load.specs.declared.ask.Body.{Body}
 use Rattle.disc_load.specs.declared.ask.Decided.{Decided}
 use Rattle.disc_load.specs.declared.ask.Decided.the-variants as decided

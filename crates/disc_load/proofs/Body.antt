@@ -7,7 +7,7 @@ use lib.ListN.{length, take, drop}
 use Rattle.rules.specs.declared.Area.{Area}
 use Rattle.rules.specs.declared.AreaIndex.{AreaIndex}
 use Rattle.rules_disc.specs.declared.Entry.{Entry}
-use Rattle.index.specs.Index.{Tables, tablesFrom}
+use Rattle.tables.specs.Index.{Tables, tablesFrom}
 use Rattle.inspect.specs.declared.Found.{Found}
 use Rattle.load.specs.Limit.{limitedIn}
 use Rattle.load.specs.Steps.{Ready}

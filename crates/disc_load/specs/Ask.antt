@@ -14,7 +14,7 @@ use Rattle.rules_disc.specs.declared.Place.{Place}
 use Rattle.rules_disc.specs.declared.Place.the-variants as place
 use Rattle.disc_load.specs.Contents.{entryIn}
 use Rattle.disc_load.specs.Inside.{Locates}
-use Rattle.index.specs.Index.{Tables, roomOf}
+use Rattle.tables.specs.Index.{Tables, roomOf}
 use Rattle.load.specs.Limit.{limitedIn}
 use Rattle.load.specs.Steps.{Ready as Loadable}
 use Rattle.disc_load.specs.declared.ask.Body.{Body}

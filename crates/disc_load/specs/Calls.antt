@@ -6,7 +6,7 @@ use Rattle.rules.specs.declared.Area.{Area}
 use Rattle.rules.specs.Tests.{Answer, Refused, Accepted}
 use Rattle.rules.specs.Values.{Index}
 use Rattle.rules_disc.specs.Disc.{Disc, loadDisc}
-use Rattle.index.specs.Index.{Tables, roomOf, numbersFrom, tablesFrom}
+use Rattle.tables.specs.Index.{Tables, roomOf, numbersFrom, tablesFrom}
 use Rattle.rules_disc.specs.declared.Listed.{Listed}
 use Rattle.rules_disc.specs.declared.Listed.the-variants as listed
 use Rattle.rules_disc.specs.declared.Loaded.{Loaded}

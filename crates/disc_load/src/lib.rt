@@ -12,7 +12,7 @@ use rules::Area;
 use rules_disc::Listed;
 use rules_disc::Loaded;
 ghost use mathlib.Core.Path.{_≡_};
-ghost use Rattle.index.specs.Index.{tables};
+ghost use Rattle.tables.specs.Index.{tables};
 ghost use Rattle.disc_load.specs.Ask.{Holds, heldIn};
 ghost use Rattle.disc_load.specs.Calls.{listedFrom, tablesWith, discOut, loadDiscIn};
 

@@ -14,8 +14,7 @@ use Rattle.rules.specs.Values.{Index, max32}
 use Rattle.rules.specs.File.{savedLength}
 use Rattle.rules.proofs.Tests.{all→}
 use Rattle.rules_disc.specs.Disc.{entry, slotOf, contentsOf, entriesFrom, listed, bodiesLength, discLength, discBytes, saveLists, saveOne, bySlot, saveBoth}
-use Rattle.index.specs.Index.{Tables, roomOf, indexIn, kindsIn, kindedNumber, refusal}
-use Rattle.index.specs.Lowest.{lowest}
+use Rattle.tables.specs.Index.{Tables, roomOf, indexIn, kindsIn, kindedNumber, refusal, lowest}
 use Rattle.index.proofs.Four.{Later, kinded-more, kinded-index, lowest-both}
 use Rattle.merge.proofs.questions.Refusal.{lowest-zero}
 use Rattle.rules.specs.declared.Saved.the-variants as answer

@@ -11,7 +11,7 @@ use Rattle.rules.specs.Values.{Index}
 use Rattle.rules.specs.File.{saved, savedLength, over}
 use Rattle.laws.proofs.Length.{savedLength-is}
 use Rattle.rules_disc.specs.Disc.{entry, encodeEntry, slotOf, entriesFrom, discBytes}
-use Rattle.index.specs.Index.{Tables, indexIn, refusal}
+use Rattle.tables.specs.Index.{Tables, indexIn, refusal}
 use Rattle.save.specs.Output.{Put}
 use Rattle.save.proofs.output.Stretches.{lent, put-both, put-over}
 use Rattle.rules.specs.declared.Saved.{Saved}

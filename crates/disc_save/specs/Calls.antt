@@ -5,7 +5,7 @@ use mathlib.Core.List.{List}
 use lib.ListN.{length}
 use Rattle.rules.specs.declared.AreaIndex.{AreaIndex}
 use Rattle.rules_disc.specs.Disc.{saveOne, saveBoth}
-use Rattle.index.specs.Index.{Tables, roomOf, indexIn, kindsIn, kinded}
+use Rattle.tables.specs.Index.{Tables, roomOf, indexIn, kindsIn, kinded}
 use Rattle.save.specs.Save.{SaveOut, saveOut}
 
 -- 1 to 4, 54, 40: is the output long enough? What lies past the length stays.

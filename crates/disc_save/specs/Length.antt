@@ -6,8 +6,7 @@ use lib.Dec.{eqb}
 use Rattle.rules.specs.declared.AreaIndex.{AreaIndex}
 use Rattle.rules.specs.Values.{Index}
 use Rattle.rules_disc.specs.Disc.{contentsOf, listed, discLength, bySlot}
-use Rattle.index.specs.Index.{Tables, indexIn, refusal}
-use Rattle.index.specs.Lowest.{lowest}
+use Rattle.tables.specs.Index.{Tables, indexIn, refusal, lowest}
 
 -- of lists in the order of their slots that pass 1 to 4
 unfoldable pub lengthOf : List Index → ℕ

@@ -7,7 +7,7 @@ use index::refuses;
 use rules::AreaIndex;
 use save::layout::saved_length;
 ghost use mathlib.Core.Path.{_≡_};
-ghost use Rattle.index.specs.Index.{tables};
+ghost use Rattle.tables.specs.Index.{tables};
 ghost use Rattle.disc_save.specs.Length.{oneLength, bothLength};
 ghost use Rattle.disc_save.specs.LengthNeeds.{lengthOfTwo, lengthBySlot};
 

@@ -22,10 +22,10 @@ use Rattle.rules.specs.Questions.{question1, question2, question4, four}
 use Rattle.rules.proofs.Tests.{and-left, and-right, asks, →after, →bind}
 use Rattle.rules.proofs.AreaIndex.{the-row}
 use Rattle.rules.proofs.Fingerprint as print
-use Rattle.index.specs.Index.{Tables, roomOf, roomIn, indexIn, kindsIn, refusal, out, outOf}
+use Rattle.tables.specs.Index.{Tables, roomOf, roomIn, indexIn, kindsIn, refusal, out, outOf}
 use Rattle.rules.specs.declared.Made.the-variants as made
 use Rattle.index.specs.Needs.{Passes, heldQuestion4}
-use Rattle.index.specs.Lent.{Typed, TableBytes}
+use Rattle.tables.specs.Lent.{Typed, TableBytes}
 use Rattle.index.proofs.Questions.{passes, passes-long}
 use Rattle.index.proofs.Lent.{passes-savable}
 use Rattle.merge.specs.Needs.{outIndex}

@@ -16,7 +16,7 @@ use Rattle.rules.specs.Tests.{Answer, Refused, Accepted, ask, bind}
 use Rattle.rules.specs.Values.{Index, Lengths}
 use Rattle.rules.specs.Load.{load}
 use Rattle.rules.proofs.Tests.{order, →asked, →bind}
-use Rattle.index.specs.Index.{Tables, roomOf}
+use Rattle.tables.specs.Index.{Tables, roomOf}
 use Rattle.inspect.specs.declared.Found.{Found}
 use Rattle.load.specs.declared.Decided.{Decided}
 use Rattle.load.specs.declared.Decided.the-variants as decided

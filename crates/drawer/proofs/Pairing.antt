@@ -13,7 +13,7 @@ use Rattle.rules.specs.declared.Area.{Area}
 use Rattle.rules.specs.declared.AreaIndex.{AreaIndex}
 use Rattle.rules.specs.File.{decodeCheckpoint}
 use Rattle.rules.specs.Load.{limited}
-use Rattle.index.specs.Index.{Tables, indexIn}
+use Rattle.tables.specs.Index.{Tables, indexIn}
 use Rattle.load.specs.Limit.{listIn}
 use Rattle.load.proofs.Filling.{ready-inside}
 use Rattle.merge.specs.QuestionsNeeds.{joinNumber}

@@ -20,7 +20,7 @@ use Rattle.laws.proofs.Facts.{facts}
 use Rattle.laws.proofs.Loaded.{loaded-valid}
 use Rattle.laws.proofs.scans.Scans.{ScanIs, scan-of, scan→}
 use Rattle.rules.specs.declared.Made.{Made}
-use Rattle.index.specs.Index.{Tables, roomOf, roomIn, indexIn, kindsIn, kinded, numbersFrom, tablesFrom, tablesCleared, Out, out, outOf}
+use Rattle.tables.specs.Index.{Tables, roomOf, roomIn, indexIn, kindsIn, kinded, numbersFrom, tablesFrom, tablesCleared, Out, out, outOf}
 use Rattle.index.proofs.Back.{numbers-back}
 use Rattle.index.proofs.Questions.{passes-kinds}
 use Rattle.index.proofs.Standing.{stands, stands-cleared, kinds-from, within, room-from}

@@ -13,7 +13,7 @@ use Rattle.rules.specs.declared.ImageId.the-variants.{Anonymous}
 use Rattle.rules.specs.Tests.{Refused, Accepted, after}
 use Rattle.rules.specs.Values.{Index}
 use Rattle.rules_drawer.specs.Drawer.{maxFiles, lengthsIn, question44, loadFiles, firstOf, pairsNumber, mergeAll}
-use Rattle.index.specs.Index.{Tables, roomOf, indexIn, refusal}
+use Rattle.tables.specs.Index.{Tables, roomOf, indexIn, refusal}
 use Rattle.laws.specs.Statements.{Savable}
 use Rattle.load.specs.Limit.{limitedIn}
 use Rattle.load.specs.Steps.{Ready}

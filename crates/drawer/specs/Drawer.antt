@@ -6,7 +6,7 @@ use Rattle.rules.specs.Tests.{Answer, Refused, Accepted, after}
 use Rattle.rules.specs.Values.{Index}
 use Rattle.rules.specs.Merge.{merged}
 use Rattle.rules_drawer.specs.Drawer.{lengthsIn, loadFiles, mergeAll}
-use Rattle.index.specs.Index.{Tables, roomOf, indexIn, numbersFrom, refusal, tablesCleared, Out, outOf}
+use Rattle.tables.specs.Index.{Tables, roomOf, indexIn, numbersFrom, refusal, tablesCleared, Out, outOf}
 use Rattle.merge.specs.Merge.{hintsWritten}
 
 -- the own tables t of x after the lists ys are merged into it one after the other

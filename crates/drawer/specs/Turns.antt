@@ -10,7 +10,7 @@ use Rattle.rules.specs.Merge.{merged, mergeNumber}
 use Rattle.rules_drawer.specs.Drawer.{pairsNumber, mergeEach}
 use Rattle.rules.specs.declared.Made.{Made}
 use Rattle.rules.specs.declared.Made.the-variants as made
-use Rattle.index.specs.Index.{Tables, roomOf, indexIn, kindsIn, numbersFrom, tablesCleared, Out}
+use Rattle.tables.specs.Index.{Tables, roomOf, indexIn, kindsIn, numbersFrom, tablesCleared, Out}
 use Rattle.index.specs.Needs.{Passes}
 use Rattle.laws.specs.Statements.{Savable}
 use Rattle.merge.specs.Merge.{hintsWritten}

@@ -16,7 +16,7 @@ use tables::behind;
 ghost use mathlib.Core.Path.{_≡_};
 ghost use Prim.Native.Nat.{_*_, _≤_};
 ghost use lib.ListN.{length};
-ghost use Rattle.index.specs.Index.{tables};
+ghost use Rattle.tables.specs.Index.{tables};
 ghost use Rattle.rules_drawer.specs.Drawer.{lengthsIn};
 ghost use Rattle.drawer.specs.Ask.{blank, unasked, refusedBy, sizeOk, FileAsked, Few, FilesAsked, Joinable, joinEach, joinPairs, numbered, SetAsked};
 

@@ -10,7 +10,7 @@ use rules::Area;
 use rules::AreaIndex;
 use rules::Made;
 ghost use mathlib.Core.Path.{_≡_};
-ghost use Rattle.index.specs.Index.{tables, out};
+ghost use Rattle.tables.specs.Index.{tables, out};
 ghost use Rattle.merge.specs.Needs.{outIndex};
 ghost use Rattle.drawer.specs.Ask.{listAt, listsAt};
 ghost use Rattle.drawer.specs.Drawer.{mergeAllIn};

@@ -20,7 +20,7 @@ ghost use Prim.Native.Nat.{_*_, _≤_, _<_};
 ghost use lib.ListN.{length, drop};
 ghost use Rattle.rules.specs.Hints.{firstFrom};
 ghost use Rattle.tables.specs.Tables.{keptIn};
-ghost use Rattle.index.specs.Index.{tables};
+ghost use Rattle.tables.specs.Index.{tables};
 ghost use Rattle.hint.specs.Calls.{namedOf, answerOf, hintIn};
 ghost use Rattle.rules_jump.specs.Names.{named, namedEnd};
 ghost use Rattle.hint.specs.Needs.{Ready, laterEnd, hintedFrom, answerIn};

@@ -30,15 +30,15 @@ use Rattle.rules.specs.Hints.{spaced, seenRecord, see, flush, flushedList, take
 use Rattle.rules.proofs.Tests.{and-right}
 use Rattle.laws.proofs.Layouts.{hint-layout}
 use Rattle.tables.specs.Tables.{hintsIn}
-use Rattle.index.specs.Index.{Tables, refusal}
+use Rattle.tables.specs.Index.{Tables, refusal}
 use Rattle.index.proofs.Four.{Later, kinded-index}
-use Rattle.hint_recorder.specs.Numbers.{lastIn, tailless, emptied}
+use Rattle.tables.specs.HintRecorder.{lastIn, tailIn, lastFrom, tailFrom, recorderIn}
+use Rattle.hint_recorder.specs.Numbers.{tailless, emptied}
 use Rattle.rules.specs.declared.Saw.the-variants as saw
 use Rattle.rules.specs.declared.Seen.the-variants as seen
 use Rattle.rules.specs.declared.Taken.the-variants as taken
 use Rattle.rules.specs.declared.Created.the-variants as created
-use Rattle.hint_recorder.specs.Recorder.{tailIn, lastFrom, tailFrom, recorderIn, out, outOf, sawOut, sawOf, seeIn}
-use Rattle.hint_recorder.specs.Recorder.{flushIn, takenOf, takeIn, createdOf, hintRecorderIn}
+use Rattle.hint_recorder.specs.Recorder.{out, outOf, sawOut, sawOf, seeIn, flushIn, takenOf, takeIn, createdOf, hintRecorderIn}
 use Rattle.hint_recorder.specs.Needs.{Roomy, Steps, refusalOf, flushedRecord, hintSeen}
 
 last-back : (l : LastListed) → lastFrom (lastIn l) ≡ l

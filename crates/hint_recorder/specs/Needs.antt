@@ -15,7 +15,7 @@ use Rattle.rules.specs.Values.{maxList}
 use Rattle.rules.specs.Questions.{hintRecorderFour}
 use Rattle.rules.specs.File.{encodeHint, over}
 use Rattle.rules.specs.Hints.{spaced, listed, tailed, flushedList}
-use Rattle.hint_recorder.specs.Recorder.{recorderIn, numbersFrom}
+use Rattle.tables.specs.HintRecorder.{recorderIn, numbersFrom}
 
 -- 3 and 4: the number of the first answered no, 0 for none
 unfoldable pub refusalOf : HintRecorder → List ℕ → ℕ

@@ -5,21 +5,14 @@ use mathlib.Core.Option.{Option, none, some}
 use lib.ListN.{length}
 use Rattle.field.specs.Records.{bytesOf}
 use Rattle.rules.specs.declared.AreaIndex.{AreaIndex}
-use Rattle.rules.specs.declared.Hint.{Hint}
 use Rattle.rules.specs.declared.HintRecorder.{HintRecorder}
-use Rattle.rules.specs.declared.LastListed.{LastListed}
-use Rattle.rules.specs.declared.LastListed.the-variants.{Never, Number}
-use Rattle.rules.specs.declared.Tail.{Tail}
-use Rattle.rules.specs.declared.Tail.the-variants as tail
 use Rattle.rules.specs.Tests.{Answer, Refused, Accepted}
 use Rattle.rules.specs.Values as values
 use Rattle.rules.specs.Create.{hintRecorder}
 use Rattle.rules.specs.File.{encodeHint, over}
 use Rattle.rules.specs.Hints.{see, flush, takeList}
 use Rattle.rules.specs.Hints as rules
-use Rattle.tables.specs.Tables.{hintsIn}
-use Rattle.index.specs.Index.{Tables, roomOf, indexIn, kindsIn, kinded}
-use Rattle.hint_recorder.specs.Numbers.{lastIn}
+use Rattle.tables.specs.Index.{Tables, roomOf, indexIn, kindsIn, kinded}
 use Rattle.rules.specs.declared.Saw.{Saw}
 use Rattle.rules.specs.declared.Saw.the-variants as saw
 use Rattle.rules.specs.declared.Seen.{Seen}
@@ -28,28 +21,7 @@ use Rattle.rules.specs.declared.Taken.{Taken}
 use Rattle.rules.specs.declared.Taken.the-variants as taken
 use Rattle.rules.specs.declared.Created.{Created}
 use Rattle.rules.specs.declared.Created.the-variants as created
-
--- ---- the value that numbers and the table stand for
-unfoldable pub tailIn : Tail → Option Hint
-tailIn tail.Empty = none
-tailIn (tail.Hint h) = some h
-
-abbrev pub recorderIn : HintRecorder → List ℕ → values.HintRecorder
-recorderIn r t =
-    record { spacing = r .spacing; last = lastIn (r .last); tail = tailIn (r .tail); list = hintsIn (r .count) t }
-
--- ---- the numbers of a value
-unfoldable pub lastFrom : Option ℕ → LastListed
-lastFrom none = Never
-lastFrom (some n) = Number n
-
-unfoldable pub tailFrom : Option Hint → Tail
-tailFrom none = tail.Empty
-tailFrom (some h) = tail.Hint h
-
-abbrev pub numbersFrom : values.HintRecorder → HintRecorder
-numbersFrom r =
-    record { spacing = r .spacing; last = lastFrom (r .last); tail = tailFrom (r .tail); count = length (r .list) }
+use Rattle.tables.specs.HintRecorder.{numbersFrom, recorderIn}
 
 -- ---- answers, and the list's table afterwards
 pub record Out : Type 0 where

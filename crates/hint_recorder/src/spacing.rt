@@ -10,7 +10,8 @@ ghost use mathlib.Core.Path.{_≡_};
 ghost use lib.Dec.{ltb};
 ghost use Rattle.rules.specs.Values.{maxList};
 ghost use Rattle.rules.specs.Hints.{spaced};
-ghost use Rattle.hint_recorder.specs.Numbers.{lastIn, tailless, emptied};
+ghost use Rattle.tables.specs.HintRecorder.{lastIn};
+ghost use Rattle.hint_recorder.specs.Numbers.{tailless, emptied};
 
 // None was ever listed, or it is at least last + spacing, or below last.
 pub fn is_spaced(last: LastListed, spacing: u32, t: u32) -> bool

@@ -24,8 +24,7 @@ use Rattle.laws.proofs.Length.{length-each}
 use Rattle.tables.specs.declared.FrameHeader.{FrameHeader}
 use Rattle.tables.specs.Tables.{decodeKept, decodeHeader, headersIn, framesOf, stretch}
 use Rattle.tables.proofs.Frames.{stretch-within, frames-length}
-use Rattle.index.specs.Index.{Tables, indexIn, numbersFrom, storeOf}
-use Rattle.sections.specs.Numbers.{endIn, idIn, endFrom, idFrom}
+use Rattle.tables.specs.Index.{Tables, indexIn, numbersFrom, storeOf, endIn, idIn, endFrom, idFrom}
 
 -- ---- frames: start and length of one
 abbrev pub headerOf : Frame → FrameHeader

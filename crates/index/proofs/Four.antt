@@ -10,8 +10,7 @@ use Rattle.rules.specs.declared.AreaIndex.{AreaIndex}
 use Rattle.rules.specs.Tests.{each, Ask, ask, firstNo, Refused, Accepted, after, numberOf}
 use Rattle.rules.specs.Questions.{Four, both, askFour, four}
 use Rattle.rules.proofs.Tests.{test, never, choose, and-left, and-right}
-use Rattle.index.specs.Index.{Tables, roomOf, indexIn, kindsIn, orFour, kindedNumber, kinded, refusal}
-use Rattle.index.specs.Lowest.{lowest}
+use Rattle.tables.specs.Index.{Tables, roomOf, indexIn, kindsIn, orFour, kindedNumber, kinded, refusal, lowest}
 
 -- ---- what the number 4 covers
 -- the questions that follow have higher numbers than 3

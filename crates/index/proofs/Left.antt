@@ -3,9 +3,9 @@ use mathlib.Core.Path.{_≡_, ap}
 use mathlib.Core.List.{List}
 use Prim.Native.Nat.{ℕ}
 use Rattle.rules.specs.declared.AreaIndex.{AreaIndex}
-use Rattle.index.specs.Index.{Tables, tables, indexIn, tablesFrom}
+use Rattle.tables.specs.Index.{Tables, tables, indexIn, tablesFrom}
 use Rattle.index.specs.Needs.{Passes}
-use Rattle.index.specs.Lent.{TableBytes}
+use Rattle.tables.specs.Lent.{TableBytes}
 use Rattle.index.proofs.Lent.{put-back}
 
 -- the other tables beside a hint table, and beside a table of confirmations

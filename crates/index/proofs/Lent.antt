@@ -29,9 +29,9 @@ use Rattle.tables.specs.declared.FrameHeader.{FrameHeader}
 use Rattle.tables.specs.Tables.{stretch, framesOf, framesIn, headersIn, partsIn}
 use Rattle.tables.proofs.Kept.{kept-layout}
 use Rattle.tables.proofs.Frames.{stretch-length, stretch-within, frames-used, weight}
-use Rattle.index.specs.Index.{Tables, indexIn, kindsOk, storeOf, tablesFrom}
+use Rattle.tables.specs.Index.{Tables, indexIn, kindsOk, storeOf, tablesFrom}
 use Rattle.index.specs.Needs.{Passes, heldQuestion4}
-use Rattle.index.specs.Lent.{Typed, TableBytes}
+use Rattle.tables.specs.Lent.{Typed, TableBytes}
 use Rattle.index.proofs.Questions.{passes-long, passes-hints, passes-store, passes-kinds}
 use Rattle.index.proofs.Back.{encodeHeader, header-layout}
 

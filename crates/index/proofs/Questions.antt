@@ -19,11 +19,9 @@ use Rattle.laws.proofs.scans.Parts.{frames-used}
 use Rattle.laws.proofs.Facts.{scanOk→}
 use Rattle.tables.specs.Tables.{decodeHeader, headersIn, framesIn, decodeKept, keptIn, confirmationsIn}
 use Rattle.tables.proofs.Frames.{frames-length}
-use Rattle.index.specs.Index.{Tables, roomOf, indexIn, kindsOk, kindsIn, kindedNumber, refusal, three, roomIn, frontierIn, frontierAnswer}
+use Rattle.tables.specs.Index.{Tables, roomOf, indexIn, kindsOk, kindsIn, kindedNumber, refusal, three, roomIn, frontierIn, frontierAnswer, endIn, hintRoom}
 use Rattle.rules.specs.declared.FrontierLsn.the-variants as front
-use Rattle.sections.specs.Numbers.{endIn}
 use Rattle.index.specs.Needs.{Roomy, Long, Passes, heldQuestion4, scanSpace, sectionsIn, scanIn, hintingIn, sectionsOk, hintCounts}
-use Rattle.index.specs.Room.{hintRoom}
 use Rattle.index.proofs.Four.{one-bits}
 use Rattle.index.proofs.Numbers.{within24, within8, within4, within16, test, first, second}
 

@@ -31,8 +31,7 @@ use Rattle.laws.proofs.Facts.{Facts, facts}
 use Rattle.laws.proofs.Header.{scan-counts, few-boundaries}
 use Rattle.tables.specs.Tables.{partsIn, encodeKept}
 use Rattle.tables.proofs.Kept.{KeptFits, kept-layout}
-use Rattle.index.specs.Index.{Tables, roomOf, indexIn, kindsOk, kindsIn, numbersFrom, storeOf, tablesFrom, tablesCleared}
-use Rattle.sections.specs.Numbers.{endIn, idIn, endFrom, idFrom}
+use Rattle.tables.specs.Index.{Tables, roomOf, indexIn, kindsOk, kindsIn, numbersFrom, storeOf, tablesFrom, tablesCleared, endIn, idIn, endFrom, idFrom}
 use Rattle.index.proofs.Back.{FrameFits, frames-back, header-length}
 use Rattle.index.proofs.Store.{store-length}
 

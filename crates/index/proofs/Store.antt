@@ -20,7 +20,7 @@ use Rattle.rules.proofs.Tests.{test}
 use Rattle.rules.proofs.Walk.{Snoc, ends, lastOr-snoc, set-last}
 use Rattle.laws.proofs.scans.Parts.{latest, latest-last, reached-latest}
 use Rattle.laws.proofs.scans.PartRule.{longer, some-part}
-use Rattle.index.specs.Index.{storeOf}
+use Rattle.tables.specs.Index.{storeOf}
 
 pub store-length : (fs : List Frame) → length (storeOf fs) ≡ used fs
 unfolding storeOf bytesOf used

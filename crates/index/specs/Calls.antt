@@ -5,7 +5,7 @@ use Rattle.rules.specs.declared.AreaIndex.{AreaIndex}
 use Rattle.rules.specs.Tests.{Answer, Refused, Accepted}
 use Rattle.rules.specs.Values.{Index}
 use Rattle.rules.specs.Create.{new, bindFingerprint}
-use Rattle.index.specs.Index.{Tables, roomOf, indexIn, kindsIn, kinded, numbersFrom}
+use Rattle.tables.specs.Index.{Tables, roomOf, indexIn, kindsIn, kinded, numbersFrom}
 use Rattle.rules.specs.declared.Made.{Made}
 use Rattle.rules.specs.declared.Made.the-variants as made
 

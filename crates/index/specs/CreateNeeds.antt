@@ -4,7 +4,7 @@ use Rattle.rules.specs.declared.Area.{Area}
 use Rattle.rules.specs.declared.AreaIndex.{AreaIndex}
 use Rattle.rules.specs.declared.Fingerprint.the-variants.{Checked}
 use Rattle.rules.specs.Create.{emptyIndex}
-use Rattle.index.specs.Index.{numbersFrom}
+use Rattle.tables.specs.Index.{numbersFrom}
 
 -- the numbers of an empty index
 unfoldable pub freshOf : Area → ℕ → ℕ → ℕ → ℕ → AreaIndex

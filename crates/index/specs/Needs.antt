@@ -10,7 +10,7 @@ use Rattle.rules.specs.Tests.{all}
 use Rattle.rules.specs.Values.{Scan, frontier, counted, maxHints}
 use Rattle.rules.specs.Sections.{checkpointsOk, endingOk, malformedOk}
 use Rattle.rules.specs.Questions.{areaOk, numbersOk, question4, heldOk, scanOk, hintingOk, scanRoom}
-use Rattle.index.specs.Index.{Tables, tables, roomOf, indexIn, kindsIn, roomIn}
+use Rattle.tables.specs.Index.{Tables, tables, roomOf, indexIn, kindsIn, roomIn}
 
 -- ---- 4 with the kind bytes
 unfoldable pub heldQuestion4 : AreaIndex → Tables → Bool

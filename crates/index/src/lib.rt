@@ -30,9 +30,7 @@ ghost use Prim.Native.Nat.{ℕ};
 ghost use Rattle.rules.specs.Tests.{isSome};
 ghost use Rattle.rules.specs.Values.{stated, isChecked};
 ghost use Rattle.rules.specs.Questions.{areaOk};
-ghost use Rattle.index.specs.Index.{tables, roomIn, three, refusal, frontierIn, frontierAnswer};
-ghost use Rattle.sections.specs.Numbers.{endIn};
-ghost use Rattle.index.specs.Room.{hintRoom};
+ghost use Rattle.tables.specs.Index.{tables, roomIn, three, refusal, frontierIn, frontierAnswer, endIn, hintRoom};
 ghost use Rattle.index.specs.Needs.{Long, Roomy, heldQuestion4, scanSpace, sectionsIn, scanIn, hintingIn, hintCounts};
 
 // ---- 3

@@ -9,8 +9,7 @@ ghost use Prim.Native.Nat.{_/_, _<_};
 ghost use lib.Dec.{leb};
 ghost use lib.ListN.{length};
 ghost use Rattle.rules.specs.Questions.{areaOk, numbersOk};
-ghost use Rattle.index.specs.Room.{hintRoom};
-ghost use Rattle.index.specs.Lowest.{lowest};
+ghost use Rattle.tables.specs.Index.{hintRoom, lowest};
 
 // Question 1 of an area.
 pub fn question1(area: Area) -> bool

@@ -18,7 +18,7 @@ use Rattle.rules.specs.Tests.{Answer, Refused, Accepted, after, bind, firstNo}
 use Rattle.rules.specs.Values.{Frame, Index, used}
 use Rattle.rules.specs.File.{readHeader}
 use Rattle.rules.specs.Load.{Read, readEach, HintSection, noHintHeader, readHintSection, readSections, indexFrom, bodyIn, sumIn, fileNumber, fromBytes}
-use Rattle.sections.specs.Numbers.{idFrom}
+use Rattle.tables.specs.Index.{idFrom}
 use Rattle.rules.proofs.Tests.{accepted-eq, after→, bind→}
 use Rattle.inspect.specs.declared.Found.{Found}
 use Rattle.inspect.specs.declared.Inspected.{Inspected}

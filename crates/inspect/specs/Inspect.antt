@@ -6,7 +6,7 @@ use Rattle.rules.specs.Tests.{Answer, Refused, Accepted}
 use Rattle.rules.specs.Values.{Index, used}
 use Rattle.rules.specs.File.{readHeader}
 use Rattle.rules.specs.Load.{bodyIn, fromBytes}
-use Rattle.sections.specs.Numbers.{numbersFrom}
+use Rattle.tables.specs.Index.{numbersFrom}
 use Rattle.inspect.specs.declared.Found.{Found}
 use Rattle.inspect.specs.declared.Inspected.{Inspected}
 use Rattle.inspect.specs.declared.Inspected.the-variants as inspected

@@ -20,7 +20,7 @@ use Rattle.rules.specs.File.{readHeader, magicBytes}
 use Rattle.rules.specs.Load.{Read, hasFingerprint, endingOf, headerNumber, endNumber, readCheckpoints, readFrames, readParts, readHintSection, readConfirmedSection}
 use Rattle.tables.specs.Files.{framesRead}
 use Rattle.inspect.specs.Taken.{readLsns}
-use Rattle.sections.specs.Numbers.{endFrom}
+use Rattle.tables.specs.Index.{endFrom}
 use Rattle.inspect.specs.declared.Found.{Found}
 use Rattle.inspect.specs.declared.Inspected.{Inspected}
 use Rattle.inspect.specs.declared.Inspected.the-variants as inspected

@@ -25,7 +25,7 @@ ghost use Rattle.rules.specs.Questions.{areaOk};
 ghost use Rattle.rules.specs.Values.{lastCheckpoint};
 ghost use Rattle.rules.specs.Sections.{reached as framesReached};
 ghost use Rattle.rules.specs.Load.{isComplete, endingOf, endNumber, bodyIn};
-ghost use Rattle.sections.specs.Numbers.{endIn, endFrom};
+ghost use Rattle.tables.specs.Index.{endIn, endFrom};
 
 // The end state of a header.
 pub fn ending_of(h: Header) -> End

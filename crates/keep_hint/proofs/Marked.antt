@@ -22,9 +22,9 @@ use Rattle.rules.proofs.Tests.{and-left}
 use Rattle.tables.specs.Tables.{encodeKept, decodeKept, keptIn}
 use Rattle.tables.proofs.Kept.{KeptFits, kept-layout}
 use Rattle.rules.specs.declared.Made.the-variants as made
-use Rattle.index.specs.Index.{Tables, indexIn, roomOf, kindsIn, kinded, refusal, numbersFrom, outOf, out}
+use Rattle.tables.specs.Index.{Tables, indexIn, roomOf, kindsIn, kinded, refusal, numbersFrom, outOf, out}
 use Rattle.index.specs.Needs.{Passes}
-use Rattle.index.specs.Lent.{TableBytes}
+use Rattle.tables.specs.Lent.{TableBytes}
 use Rattle.index.proofs.Four.{Later, kinded-index}
 use Rattle.index.proofs.Questions.{passes, passes-hints}
 use Rattle.index.proofs.Left.{withHintTable, hints-left}

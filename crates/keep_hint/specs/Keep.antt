@@ -9,7 +9,7 @@ use Rattle.rules.specs.declared.Hint.{Hint}
 use Rattle.rules.specs.Values.{noHint}
 use Rattle.rules.specs.Sections.{isKept, keptCount}
 use Rattle.rules.specs.Hints.{keepHint}
-use Rattle.index.specs.Index.{Tables, roomOf, indexIn, kindsIn, kinded, tablesFrom, Out, outOf}
+use Rattle.tables.specs.Index.{Tables, roomOf, indexIn, kindsIn, kinded, tablesFrom, Out, outOf}
 
 -- the answer and the tables
 unfoldable pub keepHintIn : AreaIndex → Tables → ℕ → Out

@@ -15,7 +15,7 @@ ghost use Rattle.field.specs.Records.{recordAt};
 ghost use Rattle.rules.specs.Sections.{isKept, keptCount};
 ghost use Rattle.rules.specs.Hints.{placeOf, keptHint};
 ghost use Rattle.tables.specs.Tables.{encodeKept, decodeKept, keptIn};
-ghost use Rattle.index.specs.Index.{tables, out};
+ghost use Rattle.tables.specs.Index.{tables, out};
 ghost use Rattle.keep_hint.specs.Keep.{mayKeep, keepHintIn};
 
 // The place of the first of n hints with that LSN; n where there is none.

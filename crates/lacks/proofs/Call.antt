@@ -22,10 +22,9 @@ use Rattle.rules.proofs.Walk.{walk-head, walk-tail}
 use Rattle.laws.proofs.scans.Parts.{keep, part→}
 use Rattle.tables.specs.Tables.{decodeHeader, headersIn, framesIn, partsIn, lsnsIn, confirmationsIn, keptIn}
 use Rattle.tables.proofs.Frames.{frames-length}
-use Rattle.index.specs.Index.{Tables, indexIn}
+use Rattle.tables.specs.Index.{Tables, indexIn, endIn, idIn}
 use Rattle.index.specs.Needs.{Passes}
 use Rattle.index.proofs.Questions.{passes-long, passes-hints, passes-store}
-use Rattle.sections.specs.Numbers.{endIn, idIn}
 use Rattle.merge.specs.Join.{mergeRefusal}
 use Rattle.merge.specs.QuestionsNeeds.{Joins}
 use Rattle.merge.proofs.questions.Refusal.{asked-after}

@@ -4,8 +4,7 @@ use lib.Dec.{ltb}
 use Rattle.rules.specs.declared.AreaIndex.{AreaIndex}
 use Rattle.rules.specs.Tests.{isSome, Answer, Refused, Accepted}
 use Rattle.rules.specs.Values.{stated}
-use Rattle.index.specs.Index.{Tables, roomOf, indexIn, kindsIn, kinded}
-use Rattle.sections.specs.Numbers.{endIn, idIn}
+use Rattle.tables.specs.Index.{Tables, roomOf, indexIn, kindsIn, kinded, endIn, idIn}
 use Rattle.rules_lacks.specs.declared.Lacks.{Lacks}
 use Rattle.rules_lacks.specs.Lacks.{lacking, lacks}
 use Rattle.rules_lacks.specs.declared.Lacked.{Lacked}

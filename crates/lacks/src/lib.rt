@@ -24,15 +24,14 @@ ghost use mathlib.Core.Bool.{cond};
 ghost use Prim.Native.Nat.{_+_, _-_, _*_, _<_, _≤_};
 ghost use lib.ListN.{length, take, drop};
 ghost use Rattle.tables.specs.Tables.{partsIn};
-ghost use Rattle.index.specs.Index.{tables};
+ghost use Rattle.tables.specs.Index.{tables};
 ghost use Rattle.parts.specs.Needs.{offsetTo};
 ghost use Rattle.merge.specs.QuestionsNeeds.{Joins};
 ghost use Rattle.rules_lacks.specs.Lacks.{sameHint, confirmsAlso, sameSigned};
 ghost use Rattle.lacks.specs.Lacks.{lacksBy, countsIn, lackedOf, lacksIn};
 ghost use Rattle.lacks.specs.Pass.{firstStands, missed, common};
 ghost use Rattle.lacks.specs.Sections.{widthOf, itemKey, standsFor, itemsIn, itemAt};
-ghost use Rattle.lacks.specs.Parts.{nearestTo, FramesLent, PairIs, PairAt, samePartBy, partKey};
-ghost use Rattle.lacks.specs.Parts.{PartWithin, PartsWithin, standsIn, StepIs, unpairedYet, PartsLent};
+ghost use Rattle.lacks.specs.Parts.{nearestTo, FramesLent, PairIs, PairAt, samePartBy, partKey, PartWithin, PartsWithin, standsIn, StepIs, unpairedYet, PartsLent};
 
 // How many of what lies in tables.
 pub struct Missing {

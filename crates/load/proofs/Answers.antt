@@ -14,7 +14,7 @@ use Rattle.rules.specs.Load.{fromBytes, limited, load}
 use Rattle.rules.proofs.Tests.{→bind}
 use Rattle.laws.proofs.Loaded.{loaded-valid}
 use Rattle.rules.specs.declared.Made.the-variants as made
-use Rattle.index.specs.Index.{Tables, roomOf, roomIn, numbersFrom, tablesFrom, out, outOf}
+use Rattle.tables.specs.Index.{Tables, roomOf, roomIn, numbersFrom, tablesFrom, out, outOf}
 use Rattle.inspect.specs.declared.Found.{Found}
 use Rattle.inspect.specs.declared.Inspected.the-variants as inspected
 use Rattle.inspect.specs.Inspect.{foundIn, inspectionOf, inspection}

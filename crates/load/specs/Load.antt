@@ -3,7 +3,7 @@ use Prim.Native.Nat.{ℕ}
 use mathlib.Core.List.{List}
 use Rattle.rules.specs.declared.Area.{Area}
 use Rattle.rules.specs.Load.{load}
-use Rattle.index.specs.Index.{Tables, roomOf, tablesFrom, Out, outOf}
+use Rattle.tables.specs.Index.{Tables, roomOf, tablesFrom, Out, outOf}
 
 -- from_bytes: an accepted list stands at the start of its tables, and what lies past it stays
 abbrev pub loadIn : Area → List ℕ → ℕ → Tables → Out

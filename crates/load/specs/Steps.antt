@@ -8,7 +8,7 @@ use Rattle.rules.specs.declared.AreaIndex.{AreaIndex}
 use Rattle.rules.specs.Tests.{Refused}
 use Rattle.rules.specs.Questions.{question3}
 use Rattle.rules.specs.Load.{load}
-use Rattle.index.specs.Index.{Tables, roomOf, numbersFrom}
+use Rattle.tables.specs.Index.{Tables, roomOf, numbersFrom}
 use Rattle.inspect.specs.declared.Found.{Found}
 use Rattle.load.specs.Limit.{limitedIn, Accepts}
 use Rattle.load.specs.declared.Decided.{Decided}

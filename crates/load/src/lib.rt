@@ -28,7 +28,7 @@ ghost use Rattle.rules.specs.File.{encodeFrameHeader, over};
 ghost use Rattle.rules.specs.Hints.{thin};
 ghost use Rattle.tables.specs.Tables.{encodeKept, keptIn};
 ghost use Rattle.tables.specs.Files.{placeAt, framesRead};
-ghost use Rattle.index.specs.Index.{tables, storeOf, tablesFrom, out};
+ghost use Rattle.tables.specs.Index.{tables, storeOf, tablesFrom, out};
 ghost use Rattle.load.specs.Limit.{Accepts, limitedIn, lengthHere, Moved};
 ghost use Rattle.load.specs.Load.{loadIn};
 ghost use Rattle.load.specs.Steps.{Ready, Decision};

@@ -14,7 +14,7 @@ ghost use lib.ListN.{length, drop};
 ghost use Rattle.rules.specs.Load.{fitting, within};
 ghost use Rattle.tables.specs.Tables.{partsIn};
 ghost use Rattle.tables.specs.Files.{placeAt, framesRead};
-ghost use Rattle.index.specs.Index.{numbersFrom};
+ghost use Rattle.tables.specs.Index.{numbersFrom};
 ghost use Rattle.load.specs.Limit.{Accepts, limitedIn};
 
 // Of the f frames of b from at on, how many first ones fit the budget together.

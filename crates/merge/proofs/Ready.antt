@@ -11,7 +11,7 @@ use Rattle.rules.proofs.Tests.{test}
 use Rattle.laws.proofs.scans.Scans.{malformed-length}
 use Rattle.laws.proofs.hint_lists.Rising.{rising→, rises-from}
 use Rattle.tables.specs.Tables.{decodeKept, confirmationsIn}
-use Rattle.index.specs.Index.{Tables}
+use Rattle.tables.specs.Index.{Tables}
 use Rattle.index.specs.Needs.{Passes}
 use Rattle.index.proofs.Questions.{space, passes-long, passes-hints}
 use Rattle.confirmations.specs.Kept.{Rising}

@@ -22,8 +22,7 @@ use Rattle.rules.proofs.Tests.{test}
 use Rattle.laws.specs.Passes.{Begins}
 use Rattle.laws.proofs.Layouts.{confirmation-layout}
 use Rattle.tables.specs.Tables.{checkpointsIn, partsIn, encodeKept, confirmationsIn}
-use Rattle.index.specs.Index.{Tables, tables, indexIn, storeOf, numbersFrom, tablesCleared, Out, out, outOf}
-use Rattle.sections.specs.Numbers.{endIn, endFrom, idFrom}
+use Rattle.tables.specs.Index.{Tables, tables, indexIn, storeOf, numbersFrom, tablesCleared, Out, out, outOf, endIn, endFrom, idFrom}
 use Rattle.rules.specs.declared.Made.the-variants as made
 use Rattle.merge.specs.Join.{mergeRefusal}
 use Rattle.merge.specs.Further.{furtherIn}

@@ -3,7 +3,7 @@ use mathlib.Core.Bool.{Bool, not, _&&_, _||_}
 use lib.Dec.{ltb}
 use Rattle.rules.specs.declared.AreaIndex.{AreaIndex}
 use Rattle.rules.specs.Tests.{isSome}
-use Rattle.sections.specs.Numbers.{endIn}
+use Rattle.tables.specs.Index.{endIn}
 
 -- the other list goes further, by the numbers
 unfoldable pub furtherIn : AreaIndex → AreaIndex → Bool

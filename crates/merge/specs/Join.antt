@@ -3,7 +3,7 @@ use Prim.Native.Nat.{ℕ}
 use mathlib.Core.Bool.{_&&_}
 use Rattle.rules.specs.declared.AreaIndex.{AreaIndex}
 use Rattle.rules.specs.Merge.{mergeNumber}
-use Rattle.index.specs.Index.{Tables, roomOf, indexIn, kindsIn, kindedNumber}
+use Rattle.tables.specs.Index.{Tables, roomOf, indexIn, kindsIn, kindedNumber}
 
 -- the number of the rules, with the kind bytes of both; 0 for none
 unfoldable pub mergeRefusal : AreaIndex → Tables → AreaIndex → Tables → ℕ

@@ -4,7 +4,7 @@ use mathlib.Core.Bool.{_&&_, cond}
 use lib.Dec.{eqb}
 use Rattle.rules.specs.declared.AreaIndex.{AreaIndex}
 use Rattle.rules.specs.Merge.{merge}
-use Rattle.index.specs.Index.{Tables, roomOf, indexIn, kindsIn, kinded, tablesCleared, Out, outOf}
+use Rattle.tables.specs.Index.{Tables, roomOf, indexIn, kindsIn, kinded, tablesCleared, Out, outOf}
 
 -- up to which record number the hint table is written: both lists' hints, before they are thinned; at M = 0 the own ones stay
 unfoldable pub hintsWritten : AreaIndex → AreaIndex → ℕ

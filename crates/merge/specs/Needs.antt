@@ -2,7 +2,7 @@
 use Rattle.rules.specs.declared.AreaIndex.{AreaIndex}
 use Rattle.rules.specs.Merge.{merged}
 use Rattle.rules.specs.declared.Made.the-variants as made
-use Rattle.index.specs.Index.{Tables, indexIn, numbersFrom, tablesCleared, Out, out}
+use Rattle.tables.specs.Index.{Tables, indexIn, numbersFrom, tablesCleared, Out, out}
 use Rattle.merge.specs.Merge.{hintsWritten}
 
 abbrev pub outIndex : AreaIndex → Tables → Out

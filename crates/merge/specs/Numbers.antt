@@ -4,7 +4,7 @@ use mathlib.Core.Bool.{Bool, cond}
 use Rattle.rules.specs.declared.AreaIndex.{AreaIndex}
 use Rattle.rules.specs.Tests.{orElse}
 use Rattle.rules.specs.Merge.{mergedFingerprint}
-use Rattle.sections.specs.Numbers.{idIn, idFrom}
+use Rattle.tables.specs.Index.{idIn, idFrom}
 use Rattle.parts.specs.declared.Counts.{Counts}
 
 -- by the numbers x and y of both, whether the other goes further, and the counts

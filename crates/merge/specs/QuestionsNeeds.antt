@@ -7,7 +7,7 @@ use Rattle.rules.specs.declared.AreaIndex.{AreaIndex}
 use Rattle.rules.specs.Tests.{ask, firstNo}
 use Rattle.rules.specs.Values.{Index}
 use Rattle.rules.specs.Merge.{question41, question42, question43}
-use Rattle.index.specs.Index.{Tables, tables, indexIn}
+use Rattle.tables.specs.Index.{Tables, tables, indexIn}
 use Rattle.index.specs.Needs.{Passes}
 
 -- a list as far as its checkpoints

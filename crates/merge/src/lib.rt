@@ -18,7 +18,7 @@ use index::is_checked;
 use rules::AreaIndex;
 use rules::Made;
 ghost use mathlib.Core.Path.{_≡_};
-ghost use Rattle.index.specs.Index.{tables, out};
+ghost use Rattle.tables.specs.Index.{tables, out};
 ghost use Rattle.merge.specs.QuestionsNeeds.{Joins};
 ghost use Rattle.merge.specs.Merge.{mergeIn};
 ghost use Rattle.merge.specs.Needs.{outIndex, mergedIn};

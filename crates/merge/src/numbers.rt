@@ -10,7 +10,7 @@ ghost use Prim.Native.Nat.{_-_};
 ghost use Rattle.rules.specs.Tests.{orElse};
 ghost use Rattle.rules.specs.Merge.{mergedFingerprint};
 ghost use Rattle.rules.specs.declared.Fingerprint.the-variants.{Unknown};
-ghost use Rattle.sections.specs.Numbers.{idIn, idFrom};
+ghost use Rattle.tables.specs.Index.{idIn, idFrom};
 ghost use Rattle.merge.specs.Numbers.{numbersBy};
 
 // m where go holds, else n.

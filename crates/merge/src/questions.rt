@@ -18,8 +18,7 @@ ghost use lib.Dec.{eqb};
 ghost use lib.ListN.{length};
 ghost use Rattle.rules.specs.Tests.{agree};
 ghost use Rattle.rules.specs.Values.{stated, sameArea, sameEnd};
-ghost use Rattle.index.specs.Index.{tables};
-ghost use Rattle.sections.specs.Numbers.{endIn, idIn};
+ghost use Rattle.tables.specs.Index.{tables, endIn, idIn};
 ghost use Rattle.merge.specs.Join.{mergeRefusal};
 ghost use Rattle.merge.specs.QuestionsNeeds.{areaAgrees, imageAgrees, readingAgrees, joinNumber};
 

@@ -27,7 +27,7 @@ use Rattle.tables.specs.declared.FrameHeader.{FrameHeader}
 use Rattle.tables.specs.Tables.{decodeHeader, headersIn, headerAt, frameOf, framesOf, framesIn, partsIn}
 use Rattle.tables.proofs.Frames.{stretch-length, frame-start, frames-used}
 use Rattle.tables.proofs.Walk.{records-turn}
-use Rattle.index.specs.Index.{storeOf}
+use Rattle.tables.specs.Index.{storeOf}
 use Rattle.index.proofs.Back.{HeaderFits, FrameFits, header-layout}
 use Rattle.plan.proofs.Held.{weight-next, weight-offset}
 use Rattle.index.proofs.Lent.{store-back}

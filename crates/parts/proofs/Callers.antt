@@ -21,7 +21,7 @@ use Rattle.rules.proofs.Walk.{walk-head, walk-tail}
 use Rattle.laws.proofs.scans.Parts.{keep, atAfter, framesTo, latest-last, part→, follows→, HeldIs, frames-used}
 use Rattle.laws.proofs.scans.Parts.{held-counts}
 use Rattle.tables.specs.Tables.{framesIn, partsIn}
-use Rattle.index.specs.Index.{kindsOk}
+use Rattle.tables.specs.Index.{kindsOk}
 use Rattle.parts.specs.declared.Counts.{Counts}
 use Rattle.parts.specs.Parts.{PartTables}
 use Rattle.parts.specs.Needs.{Room, wanted, InOrder, Lent}

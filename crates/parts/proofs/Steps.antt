@@ -22,7 +22,7 @@ use Rattle.laws.proofs.scans.Parts.{used-snoc}
 use Rattle.laws.proofs.scans.PartRule.{longer, some-part}
 use Rattle.laws.proofs.Layouts.{HeldFits, held-length}
 use Rattle.laws.proofs.Length.{length-each}
-use Rattle.index.specs.Index.{storeOf}
+use Rattle.tables.specs.Index.{storeOf}
 use Rattle.index.proofs.Back.{FrameFits, frames-back, headers-length}
 use Rattle.index.proofs.Standing.{held-records, kinds-held, over-length}
 use Rattle.index.proofs.Store.{store-length}

@@ -25,7 +25,7 @@ use Rattle.laws.proofs.Layouts.{held-length}
 use Rattle.tables.specs.declared.FrameHeader.{FrameHeader}
 use Rattle.tables.specs.Tables.{framesIn, headersIn}
 use Rattle.tables.proofs.Frames.{frames-used}
-use Rattle.index.specs.Index.{kindsOk, storeOf}
+use Rattle.tables.specs.Index.{kindsOk, storeOf}
 use Rattle.index.proofs.Back.{header-layout, header-length}
 use Rattle.index.proofs.Lent.{over-same, parts-bytes, headers-of, store-back}
 use Rattle.index.proofs.Store.{store-snoc}

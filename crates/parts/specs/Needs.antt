@@ -14,7 +14,7 @@ use Rattle.rules.specs.PartRule.{Piece, partOf, addPart}
 use Rattle.rules.specs.File.{encodeHeld}
 use Rattle.tables.specs.declared.FrameHeader.{FrameHeader}
 use Rattle.tables.specs.Tables.{headersIn, framesOf, framesIn, partsIn}
-use Rattle.index.specs.Index.{kindsOk}
+use Rattle.tables.specs.Index.{kindsOk}
 use Rattle.parts.specs.declared.Counts.{Counts}
 use Rattle.parts.specs.declared.Placed.{Placed}
 use Rattle.parts.specs.Parts.{PartTables, partTables, storedIn, Held, held, heldFrom}

@@ -8,7 +8,7 @@ use Rattle.rules.specs.PartRule.{Stored}
 use Rattle.rules.specs.PartRule as rule
 use Rattle.rules.specs.File.{encodeFrameHeader, encodeHeld, over}
 use Rattle.tables.specs.Tables.{framesIn, partsIn}
-use Rattle.index.specs.Index.{storeOf}
+use Rattle.tables.specs.Index.{storeOf}
 use Rattle.parts.specs.declared.Counts.{Counts}
 use Rattle.parts.specs.declared.Piece.{Piece}
 

@@ -23,7 +23,7 @@ use Rattle.rules.specs.Plan.{offsetOf, assemblyOf, planFrom, planOr, planned, b
 use Rattle.rules.proofs.Tests.{test, all→, after→, accepted→}
 use Rattle.laws.proofs.scans.Parts.{part→}
 use Rattle.rules.proofs.Walk.{walk-at}
-use Rattle.index.specs.Index.{Tables, indexIn, refusal}
+use Rattle.tables.specs.Index.{Tables, indexIn, refusal}
 use Rattle.index.specs.Needs.{Passes}
 use Rattle.index.proofs.Questions.{passes, passes-parts}
 use Rattle.index.proofs.Store.{store-part}

@@ -19,8 +19,7 @@ use Rattle.rules.specs.File.{decodeCheckpoint}
 use Rattle.rules.specs.Plan.{lastNotAbove, assemblyOf, planFrom, planOr, planned, plan}
 use Rattle.tables.specs.Tables.{checkpointsIn, framesIn, partsIn}
 use Rattle.rules.specs.declared.Planned.the-variants as variants
-use Rattle.index.specs.Index.{Tables, indexIn, refusal}
-use Rattle.sections.specs.Numbers.{endIn}
+use Rattle.tables.specs.Index.{Tables, indexIn, refusal, endIn}
 use Rattle.plan.specs.Calls.{plannedOf, planIn}
 use Rattle.index.specs.Needs.{Passes}
 use Rattle.plan.specs.Search.{lastIn}

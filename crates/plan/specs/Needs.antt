@@ -9,7 +9,7 @@ use Rattle.rules.specs.declared.Held.{Held}
 use Rattle.rules.specs.declared.Plan.{Plan}
 use Rattle.rules.specs.Values.{Frame}
 use Rattle.rules.specs.Plan.{offsetOf, lastNotAbove, resume, planFrom, planned}
-use Rattle.index.specs.Index.{Tables, indexIn}
+use Rattle.tables.specs.Index.{Tables, indexIn}
 use Rattle.plan.specs.Search.{Rising}
 
 -- what a plan reads of the tables

@@ -14,7 +14,7 @@ use Rattle.rules.specs.declared.Resume.{Resume}
 use Rattle.rules.specs.Tests.{Accepted}
 use Rattle.rules.specs.Values.{noHeld, partBytes}
 use Rattle.rules.specs.Plan.{bytesAt}
-use Rattle.index.specs.Index.{Tables, indexIn}
+use Rattle.tables.specs.Index.{Tables, indexIn}
 use Rattle.plan.specs.Calls.{planIn}
 
 -- do len bytes from offset on lie in a store?

@@ -23,7 +23,7 @@ ghost use Prim.Native.Nat.{ℕ, _*_, _≤_};
 ghost use lib.ListN.{length};
 ghost use Rattle.rules.specs.Plan.{offsetOf, assemblyOf, bytesAt};
 ghost use Rattle.tables.specs.Tables.{framesIn, partsIn};
-ghost use Rattle.index.specs.Index.{tables};
+ghost use Rattle.tables.specs.Index.{tables};
 ghost use Rattle.plan.specs.Calls.{plannedOf, planIn};
 ghost use Rattle.plan.specs.Part.{liesIn};
 ghost use Rattle.plan.specs.Needs.{Ready, storedOf, resumeIn, withinOf, planOf};

@@ -11,7 +11,7 @@ use Rattle.rules.specs.FirstRecord.{firstRecord}
 use Rattle.rules.specs.Tests.{Accepted}
 use Rattle.blocks.specs.Head.{indexWords}
 use Rattle.blocks.specs.IsHead.{isIndex}
-use Rattle.index.specs.Index.{Tables, out}
+use Rattle.tables.specs.Index.{Tables, out}
 use Rattle.rules.specs.declared.Made.{Made}
 use Rattle.index.specs.Calls.{madeOf, newIn, boundIn}
 use Rattle.plan.specs.Calls.{plannedOf, planIn}

@@ -6,7 +6,7 @@ use Rattle.rules.specs.FirstRecord.{firstRecord}
 use Rattle.rules.specs.Tests.{Accepted}
 use Rattle.blocks.specs.Head.{indexWords}
 use Rattle.blocks.specs.IsHead.{isIndex}
-use Rattle.index.specs.Index.{Tables, Out}
+use Rattle.tables.specs.Index.{Tables, Out}
 use Rattle.index.specs.Calls.{madeOf, newIn, boundIn}
 use Rattle.plan.specs.Calls.{planIn}
 use Rattle.load.specs.Load.{loadIn}

@@ -2,7 +2,7 @@
 use Prim.Native.Nat.{ℕ}
 use mathlib.Core.List.{List}
 use Rattle.blocks.specs.IsHead.{isIndex}
-use Rattle.index.specs.Index.{Tables}
+use Rattle.tables.specs.Index.{Tables}
 use Rattle.coarsen.specs.Coarsen.{coarseIn}
 use Rattle.player.specs.Block.{inBlock, inHead, headIndex}
 use Rattle.player.specs.Calls.{CalledOver, calledOver, outInto}

@@ -2,7 +2,7 @@
 use Prim.Native.Nat.{ℕ}
 use mathlib.Core.List.{List}
 use Rattle.blocks.specs.IsHead.{isIndex}
-use Rattle.index.specs.Index.{Tables}
+use Rattle.tables.specs.Index.{Tables}
 use Rattle.drawer.specs.Drawer.{mergeAllIn}
 use Rattle.player.specs.Block.{inHead, asWorkshop, headIndex}
 use Rattle.player.specs.Calls.{CalledOver, calledOver, outInto}

@@ -4,7 +4,7 @@ use mathlib.Core.List.{List, [], _∷_}
 use Rattle.rules.specs.File.{bit}
 use Rattle.rules_lacks.specs.declared.Lacks.{Lacks}
 use Rattle.blocks.specs.IsHead.{isIndex}
-use Rattle.index.specs.Index.{Tables}
+use Rattle.tables.specs.Index.{Tables}
 use Rattle.lacks.specs.Lacks.{lacksIn}
 use Rattle.player.specs.Block.{Called, called, into, inBlock, inHead, headIndex}
 

@@ -2,7 +2,7 @@
 use Prim.Native.Nat.{ℕ}
 use mathlib.Core.List.{List}
 use Rattle.blocks.specs.IsHead.{isIndex}
-use Rattle.index.specs.Index.{Tables}
+use Rattle.tables.specs.Index.{Tables}
 use Rattle.rules.specs.Tests.{Answer, Refused, Accepted}
 use Rattle.rules_view.specs.View.{isRole}
 use Rattle.rules.specs.declared.Viewed.{Viewed}

@@ -4,7 +4,7 @@ use crate::block::put_made;
 use blocks::HEAD_BYTES;
 use blocks::read::is_index;
 ghost use mathlib.Core.Path.{_≡_};
-ghost use Rattle.index.specs.Index.{tables};
+ghost use Rattle.tables.specs.Index.{tables};
 ghost use Rattle.player.specs.Calls.{calledOver};
 ghost use Rattle.player.specs.CoarseCalls.{coarseCall};
 

@@ -9,7 +9,7 @@ use rules_lacks::Lacks;
 ghost use mathlib.Core.Path.{_≡_};
 ghost use Prim.Native.Nat.{_≤_};
 ghost use lib.ListN.{length};
-ghost use Rattle.index.specs.Index.{tables};
+ghost use Rattle.tables.specs.Index.{tables};
 ghost use Rattle.lacks.specs.Lacks.{lackedOf};
 ghost use Rattle.player.specs.Block.{called, into};
 ghost use Rattle.player.specs.LacksCalls.{lacksWords, lacksCall};

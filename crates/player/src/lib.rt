@@ -19,7 +19,7 @@ use blocks::HEAD_BYTES;
 use blocks::read::is_index;
 ghost use mathlib.Core.Path.{_≡_};
 ghost use Rattle.fnv.specs.Fnv.{fnv64};
-ghost use Rattle.index.specs.Index.{tables};
+ghost use Rattle.tables.specs.Index.{tables};
 ghost use Rattle.player.specs.Block.{called, areaFrom};
 ghost use Rattle.player.specs.Calls.{calledOver, mergeCallAs, addsCall, addHintsCall, newCall, loadCallAs, fingerprintCall, planCall, saveCallAs, lengthCall, sizesCall, fileSizesCall, fileAreaCall, firstCall};
 

@@ -3,7 +3,7 @@ use crate::block::index_in;
 use rules::Viewed;
 use view::block_refuses;
 ghost use mathlib.Core.Path.{_≡_};
-ghost use Rattle.index.specs.Index.{tables};
+ghost use Rattle.tables.specs.Index.{tables};
 ghost use Rattle.player.specs.Block.{called};
 ghost use Rattle.player.specs.ViewCalls.{viewedNumber, viewLengthCall, viewCall};
 

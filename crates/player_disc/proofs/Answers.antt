@@ -7,7 +7,7 @@ use lib.ListN.{length}
 use Rattle.rules.specs.declared.Area.{Area}
 use Rattle.rules.specs.declared.AreaIndex.{AreaIndex}
 use Rattle.blocks.specs.IsHead.{isIndex}
-use Rattle.index.specs.Index.{Tables}
+use Rattle.tables.specs.Index.{Tables}
 use Rattle.save.specs.Save.{made}
 use Rattle.rules.specs.declared.Saved.{Saved}
 use Rattle.player.specs.Block.{called, into, headIndex, savedNumber}

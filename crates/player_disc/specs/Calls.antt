@@ -3,7 +3,7 @@ use Prim.Native.Nat.{ℕ}
 use mathlib.Core.List.{List}
 use Rattle.rules.specs.declared.Area.{Area}
 use Rattle.blocks.specs.IsHead.{isIndex}
-use Rattle.index.specs.Index.{Tables}
+use Rattle.tables.specs.Index.{Tables}
 use Rattle.player.specs.Block.{Called, called, into, inBlock, inHead, asWorkshop, headIndex, savedInto}
 use Rattle.disc_load.specs.Contents.{contentsIn}
 use Rattle.disc_load.specs.Calls.{DiscOut, loadDiscIn}

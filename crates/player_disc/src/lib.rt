@@ -10,7 +10,7 @@ use player::block::area_from;
 use player::block::index_in;
 use player::block::saved_number;
 ghost use mathlib.Core.Path.{_≡_};
-ghost use Rattle.index.specs.Index.{tables};
+ghost use Rattle.tables.specs.Index.{tables};
 ghost use Rattle.player.specs.Block.{called, areaFrom};
 ghost use Rattle.player_disc.specs.Block.{calledLists};
 ghost use Rattle.player_disc.specs.Calls.{discContentsCall, discSizesCall, discLengthCall, discLengthBothCall, discSaveCallAs, discSaveBothCallAs, calledDisc, discLoadCallAs};

@@ -10,7 +10,7 @@ use Rattle.rules.specs.declared.UnderAssembly.the-variants as frame
 use Rattle.rules.specs.Record.{question7}
 use Rattle.rules.specs.Tests.{all}
 use Rattle.rules.specs.Values.{Recorder, lim}
-use Rattle.recorder.specs.Record.{assemblingIn}
+use Rattle.tables.specs.Recorder.{assemblingIn}
 use Rattle.player_record.specs.Block.{kindFrom, numberFrom, frameFrom}
 use Rattle.player_record.specs.KindAsked.{KindAsked}
 

@@ -5,7 +5,7 @@ use Rattle.rules.specs.declared.Confirmation.{Confirmation}
 use Rattle.blocks.specs.Head.{hintRecorderWords}
 use Rattle.blocks.specs.IsHead.{isIndex, isHintRecorder}
 use Rattle.rules.specs.Tests.{numberOf}
-use Rattle.index.specs.Index.{Tables}
+use Rattle.tables.specs.Index.{Tables}
 use Rattle.index.specs.Calls.{madeOf}
 use Rattle.hint.specs.Calls.{hintIn}
 use Rattle.hint_recorder.specs.Recorder.{Out, SawOut, hintRecorderIn, seeIn, flushIn, takeIn}

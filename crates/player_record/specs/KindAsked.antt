@@ -7,7 +7,7 @@ use mathlib.Core.List.{List}
 use mathlib.Core.Path.{_≡_}
 use Rattle.rules.specs.Record.{question7}
 use Rattle.rules.specs.Values.{Recorder}
-use Rattle.recorder.specs.Record.{assemblingIn}
+use Rattle.tables.specs.Recorder.{assemblingIn}
 use Rattle.player_record.specs.Block.{frameFrom}
 
 -- 7 of a frame in numbers: there is none, or its kind is 0 or 1 and the rules' 7 of the frame holds

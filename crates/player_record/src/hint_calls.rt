@@ -12,7 +12,7 @@ use blocks::read::is_index;
 use player::block::hint_recorder_in;
 use player::block::index_in;
 ghost use mathlib.Core.Path.{_≡_};
-ghost use Rattle.index.specs.Index.{tables};
+ghost use Rattle.tables.specs.Index.{tables};
 ghost use Rattle.confirmations.specs.Keeping.{given};
 ghost use Rattle.player.specs.Block.{called};
 ghost use Rattle.player_record.specs.Block.{calledBoth};

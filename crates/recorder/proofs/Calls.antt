@@ -21,12 +21,13 @@ use Rattle.rules.specs.Create.{recorder, emptyRecorder}
 use Rattle.rules.specs.Record.{isRunning, withMode, finish}
 use Rattle.rules.specs.File.{decodeCheckpoint, decodeHeld}
 use Rattle.rules.proofs.Tests.{test, asked, and-left}
-use Rattle.index.specs.Index.{Tables, indexIn, refusal}
+use Rattle.tables.specs.Index.{Tables, indexIn, refusal}
 use Rattle.index.proofs.Four.{kinded-index, kinded-more}
 use Rattle.parts.proofs.Frames.{count}
 use Rattle.rules.specs.declared.Recorded.{Recorded}
 use Rattle.rules.specs.declared.Recorded.the-variants as recorded
-use Rattle.recorder.specs.Recorder.{RecorderTables, recorderRoom, recorderIn, recorderKinds, recorderRefusal, recorderFrom, recorderOf, startedIn, finishedIn}
+use Rattle.tables.specs.Recorder.{RecorderTables, recorderRoom, recorderIn, recorderKinds, recorderRefusal, recorderFrom}
+use Rattle.recorder.specs.Recorder.{recorderOf, startedIn, finishedIn}
 use Rattle.recorder.specs.Needs.{recorderHeld, Roomy, Long, emptyOf, modeOf}
 use Rattle.recorder.proofs.Questions.{refusal-is, held-is, long-by}
 

@@ -22,7 +22,7 @@ use Rattle.index.proofs.Four.{one-bits}
 use Rattle.index.proofs.Numbers.{within24, within8, test}
 use Rattle.index.proofs.Questions.{range}
 use Rattle.parts.proofs.Frames.{count}
-use Rattle.recorder.specs.Recorder.{RecorderTables, recorderIn, recorderKinds, recorderRefusal}
+use Rattle.tables.specs.Recorder.{RecorderTables, recorderIn, recorderKinds, recorderRefusal}
 use Rattle.recorder.specs.Needs.{recorderHeld, stretchCounts, stretchIn, Roomy, Long}
 
 -- ---- counts

@@ -13,9 +13,9 @@ use Rattle.rules.specs.Tests.{all, isSome}
 use Rattle.rules.specs.Values.{boundaries}
 use Rattle.rules.specs.Sections.{checkpointsOk, endingOk}
 use Rattle.rules.specs.Questions.{areaOk, numbersOk, heldOk, endOf, recorderQuestion4}
-use Rattle.sections.specs.Numbers.{endIn}
+use Rattle.tables.specs.Index.{endIn}
 use Rattle.index.specs.Needs.{scanSpace}
-use Rattle.recorder.specs.Recorder.{RecorderTables, recorderIn, recorderKinds}
+use Rattle.tables.specs.Recorder.{RecorderTables, recorderIn, recorderKinds}
 
 -- 4 with the kind bytes
 unfoldable pub recorderHeld : Recorder → RecorderTables → Bool

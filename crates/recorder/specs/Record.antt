@@ -1,22 +1,15 @@
 -- What record answers, and the recorder's tables afterwards.
 use Prim.Native.Nat.{ℕ}
 use mathlib.Core.List.{List}
-use mathlib.Core.Option.{Option, none, some}
 use Rattle.rules.specs.declared.Recorder.{Recorder}
 use Rattle.rules.specs.declared.UnderAssembly.{UnderAssembly}
-use Rattle.rules.specs.declared.UnderAssembly.the-variants.{Nothing, Frame}
 use Rattle.rules.specs.Tests.{Answer, Refused, Accepted}
 use Rattle.rules.specs.Values as values
-use Rattle.rules.specs.Record.{Assembling, recordAt}
-use Rattle.index.specs.Index.{kinded}
+use Rattle.rules.specs.Record.{recordAt}
+use Rattle.tables.specs.Index.{kinded}
 use Rattle.rules.specs.declared.Recorded.{Recorded}
 use Rattle.rules.specs.declared.Recorded.the-variants as recorded
-use Rattle.recorder.specs.Recorder.{RecorderTables, recorderRoom, recorderIn, recorderKinds, recorderFrom, recorderOver}
-
--- a frame under assembly with its bytes
-unfoldable pub assemblingIn : UnderAssembly → List ℕ → Option Assembling
-assemblingIn Nothing b = none
-assemblingIn (Frame a) b = some (record { start = a .start; number = a .number; kind = a .kind; remaining = a .remaining; bytes = b })
+use Rattle.tables.specs.Recorder.{RecorderTables, recorderRoom, recorderIn, recorderKinds, recorderFrom, recorderOver, assemblingIn}
 
 -- the answer and the tables
 pub record RecorderOut : Type 0 where

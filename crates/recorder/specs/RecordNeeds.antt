@@ -15,7 +15,7 @@ use Rattle.rules.specs.PartRule.{Stored, addPart}
 use Rattle.rules.specs.Record.{Assembling, isRunning}
 use Rattle.tables.specs.Tables.{checkpointsIn}
 use Rattle.parts.specs.declared.Counts.{Counts}
-use Rattle.recorder.specs.Recorder.{RecorderTables, recorderRefusal}
+use Rattle.tables.specs.Recorder.{RecorderTables, recorderRefusal}
 
 -- 5, 6 and 7 by numbers
 unfoldable pub dueIn : Recorder → ℕ → ℕ → Bool

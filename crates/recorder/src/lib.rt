@@ -30,9 +30,9 @@ ghost use mathlib.Core.List.{List};
 ghost use Prim.Native.Nat.{ℕ};
 ghost use Rattle.rules.specs.Tests.{isSome};
 ghost use Rattle.rules.specs.Questions.{endOf};
-ghost use Rattle.index.specs.Index.{tables};
-ghost use Rattle.sections.specs.Numbers.{endIn};
-ghost use Rattle.recorder.specs.Recorder.{recorderTables, recorderRefusal, startedIn, finishedIn};
+ghost use Rattle.tables.specs.Index.{tables, endIn};
+ghost use Rattle.tables.specs.Recorder.{recorderTables, recorderRefusal};
+ghost use Rattle.recorder.specs.Recorder.{startedIn, finishedIn};
 ghost use Rattle.recorder.specs.Needs.{recorderHeld, stretchCounts, stretchIn, Roomy, Long, emptyOf, modeOf};
 
 // ---- the end state

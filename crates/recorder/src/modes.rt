@@ -13,7 +13,7 @@ ghost use Rattle.rules.specs.Values.{boundaries};
 ghost use Rattle.rules.specs.Questions.{areaOk};
 ghost use Rattle.rules.specs.declared.Mode.the-variants.{Running, Stopped};
 ghost use Rattle.rules.specs.Record.{isRunning};
-ghost use Rattle.sections.specs.Numbers.{endIn};
+ghost use Rattle.tables.specs.Index.{endIn};
 
 pub fn is_running(mode: Mode) -> bool
     ensures { λ r. ⌜ r ≡ isRunning mode ⌝ }

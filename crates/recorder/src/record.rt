@@ -29,8 +29,8 @@ ghost use Rattle.rules.specs.Record.{backOf};
 ghost use Rattle.rules.specs.File.{encodeCheckpoint};
 ghost use Rattle.parts.specs.Parts.{partTables, storedIn, held, heldFrom};
 ghost use Rattle.parts.specs.Needs.{Room};
-ghost use Rattle.recorder.specs.Recorder.{recorderTables};
-ghost use Rattle.recorder.specs.Record.{assemblingIn, recorderOut, recordIn};
+ghost use Rattle.tables.specs.Recorder.{recorderTables, assemblingIn};
+ghost use Rattle.recorder.specs.Record.{recorderOut, recordIn};
 ghost use Rattle.recorder.specs.RecordNeeds.{dueIn, risesIn, startsIn, assembledIn, recordNumber, advancedOf};
 
 // ---- 5 to 7

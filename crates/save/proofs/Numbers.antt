@@ -11,7 +11,7 @@ use Rattle.rules.specs.declared.AreaIndex.{AreaIndex}
 use Rattle.rules.specs.Values.{used}
 use Rattle.rules.specs.File.{decodeConfirmation, hasHinting, versionOf, headerBytes, headerOf, hintSection, confirmedSection, bodyOf, savedLength}
 use Rattle.tables.specs.Tables.{framesIn, decodeKept}
-use Rattle.index.specs.Index.{Tables, indexIn, tables}
+use Rattle.tables.specs.Index.{Tables, indexIn, tables}
 use Rattle.fnv.specs.Fnv.{fnvFrom}
 use Rattle.save.specs.Output.{Summed}
 use Rattle.save.specs.declared.output.Written.{Written}

@@ -21,7 +21,7 @@ use Rattle.laws.proofs.Length.{savedLength-is}
 use Rattle.index.specs.Needs.{Passes, scanIn, hintingIn, hintCounts}
 use Rattle.index.proofs.Four.{kinded-index}
 use Rattle.index.proofs.Questions.{passes, passes-long, held-is, hinting-is, hints-long, hint-space}
-use Rattle.index.specs.Index.{Tables, indexIn, kindsOk, refusal, roomIn}
+use Rattle.tables.specs.Index.{Tables, indexIn, kindsOk, refusal, roomIn}
 use Rattle.rules.specs.declared.Saved.the-variants.{Refused, Length}
 use Rattle.save.specs.Layout.{Framed}
 use Rattle.save.specs.Save.{made, saveOut, saveIn}

@@ -12,7 +12,7 @@ use Rattle.rules.specs.declared.HintHeader.{HintHeader}
 use Rattle.rules.specs.Values.{Index, used}
 use Rattle.rules.specs.File.{encodeCheckpoint, encodeFrame, encodeHeld, encodeLsn, encodeHint, encodeConfirmation, versionOf}
 use Rattle.tables.specs.Tables.{checkpointsIn, partsIn, lsnsIn, keptIn, confirmationsIn, framesIn}
-use Rattle.index.specs.Index.{indexIn, kindsOk, tables}
+use Rattle.tables.specs.Index.{indexIn, kindsOk, tables}
 use Rattle.index.specs.Needs.{Long}
 use Rattle.save.specs.Layout.{Framed}
 use Rattle.save.specs.Output.{hintHeader}

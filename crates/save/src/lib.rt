@@ -39,7 +39,7 @@ ghost use lib.ListN.{length};
 ghost use Rattle.rules.specs.Values.{used};
 ghost use Rattle.rules.specs.File.{hintSection, confirmedSection, bodyOf, saved, savedLength, over};
 ghost use Rattle.tables.specs.Tables.{framesIn};
-ghost use Rattle.index.specs.Index.{indexIn, tables, refusal};
+ghost use Rattle.tables.specs.Index.{indexIn, tables, refusal};
 ghost use Rattle.save.specs.Output.{Filled, Summed, nothingWritten};
 ghost use Rattle.save.specs.Save.{made, saveIn};
 ghost use Rattle.save.specs.Steps.{hintBytes, confirmedBytes, Scanned, Hinted, scanSize, scanBytes, hintIndex, hintingSize};

@@ -22,7 +22,7 @@ ghost use Rattle.fnv.specs.Fnv.{fnvFrom, prime64};
 ghost use Rattle.rules.specs.Values.{used};
 ghost use Rattle.rules.specs.File.{encodeCheckpoint, encodeFrame, encodeHeld, encodeLsn, encodeHint, encodeConfirmation};
 ghost use Rattle.tables.specs.Tables.{checkpointsIn, partsIn, lsnsIn, keptIn, confirmationsIn, framesIn, decodeHeader, frameOf};
-ghost use Rattle.index.specs.Index.{kindsOk};
+ghost use Rattle.tables.specs.Index.{kindsOk};
 ghost use Rattle.save.specs.Output.{Filled, Summed, upTo};
 
 // ---- the first n records of a table, over the start of the stretch that is lent, and the hash of them from sum

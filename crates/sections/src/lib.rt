@@ -27,7 +27,7 @@ ghost use Rattle.rules.specs.Sections.{countsOk, endOk, endingOk, malformedOk};
 ghost use Rattle.rules.specs.Questions.{areaOk, heldOk};
 ghost use Rattle.rules.specs.declared.Checkpoint.{Checkpoint};
 ghost use Rattle.tables.specs.Tables.{checkpointsIn, framesIn, partsIn, lsnsIn};
-ghost use Rattle.sections.specs.Numbers.{endIn};
+ghost use Rattle.tables.specs.Index.{endIn};
 ghost use Rattle.sections.specs.Asked.{asked, stretch};
 
 // ---- questions

@@ -19,7 +19,7 @@ use Rattle.rules.specs.File.{readHeader, savedLength}
 use Rattle.fnv.specs.Fnv.{fnv64}
 use Rattle.rules.specs.Load.{bodyIn, sumIn, keyOf, fileNumber, fromBytes, limited}
 use Rattle.laws.proofs.Loaded.{loaded-valid}
-use Rattle.index.specs.Index.{Tables, indexIn, refusal, numbersFrom}
+use Rattle.tables.specs.Index.{Tables, indexIn, refusal, numbersFrom}
 use Rattle.inspect.specs.declared.Found.{Found}
 use Rattle.inspect.specs.declared.Inspected.the-variants as inspected
 use Rattle.inspect.specs.Inspect.{foundIn, inspectionOf, inspection}

@@ -11,7 +11,7 @@ use Rattle.rules.specs.Values.{Index, maxHints}
 use Rattle.rules.specs.Questions.{areaOk, numbersOk}
 use Rattle.rules.specs.File.{readHeader, savedLength}
 use Rattle.rules.specs.Load.{keyOf, bodyIn, fileNumber, fromBytes, limited}
-use Rattle.index.specs.Index.{Tables, indexIn, refusal}
+use Rattle.tables.specs.Index.{Tables, indexIn, refusal}
 use Rattle.rules.specs.declared.TableSizes.{TableSizes}
 use Rattle.sizes.specs.LengthsSizes.{sizesOf, rangeOf}
 use Rattle.rules.specs.declared.Sized.{Sized}

@@ -1,3 +1,6 @@
 pub mod Files
-pub mod Kinds
+pub mod HintRecorder
+pub mod Index
+pub mod Lent
+pub mod Recorder
 pub mod Tables

@@ -1,11 +1,11 @@
 -- How the bytes of tables stand for the lists of an index. The tables are in the file's layout; the frames' bytes lie end to end in a store.
 use mathlib.Core.Path.{_≡_}
-use Prim.Native.Nat.{ℕ, _+_, _-_, _*_, _%_}
+use Prim.Native.Nat.{ℕ, _+_, _-_, _*_, _%_, _/_}
 use mathlib.Core.Bool.{Bool, true, false, _&&_}
 use lib.Dec.{leb, ltb}
 use mathlib.Core.List.{List, [], _∷_, _++_}
 use mathlib.Core.Option.{Option, none, some}
-use lib.ListN.{take, drop, getD, replicate}
+use lib.ListN.{take, drop, getD, replicate, length}
 use Rattle.field.specs.Number.{encode, numberAt}
 use Rattle.field.specs.Records.{records}
 use Rattle.rules.specs.declared.Area.{Area}
@@ -16,6 +16,7 @@ use Rattle.rules.specs.declared.Hint.{Hint}
 use Rattle.rules.specs.Values.{Frame, used, checkpointAt, lim}
 use Rattle.rules.specs.Sections.{Passed, Filled, filled, frameOk, follows, belongs}
 use Rattle.rules.specs.File.{decodeCheckpoint, decodeHeld, decodeLsn, decodeHint, decodeConfirmation}
+use Rattle.rules.specs.Hints.{unkeptHint}
 use Rattle.tables.specs.declared.FrameHeader.{FrameHeader}
 
 abbrev pub checkpointsIn : ℕ → List ℕ → List Checkpoint
@@ -111,3 +112,18 @@ partNext o p = some p
 pub record Checked (p : List Frame → Bool) (fs : List Frame) (ok : Bool) (bytes : ℕ) : Type 0 where
   pub answer : ok ≡ p fs
   pub bytes-are : ok ≡ true → bytes ≡ used fs
+
+-- the malformed LSNs of the reading, from their bytes
+abbrev pub givenIn : List ℕ → List ℕ
+givenIn ms = lsnsIn (length ms / 4) ms
+
+-- a hint of a list that arrives: its mark is not taken
+abbrev pub decodeUnkept : List ℕ → Hint
+decodeUnkept b = unkeptHint (decodeKept b)
+
+abbrev pub unkeptIn : ℕ → List ℕ → List Hint
+unkeptIn n list = records 8 decodeUnkept n list
+
+-- the hints of a delivered list; a rest shorter than a record is not looked at
+abbrev pub hintsOf : List ℕ → List Hint
+hintsOf list = hintsIn (length list / 8) list

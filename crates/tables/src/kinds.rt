@@ -3,7 +3,7 @@ use field::read_u32;
 ghost use mathlib.Core.Path.{_≡_};
 ghost use Prim.Native.Nat.{_*_, _≤_};
 ghost use lib.ListN.{length};
-ghost use Rattle.tables.specs.Kinds.{kindsOk};
+ghost use Rattle.tables.specs.Index.{kindsOk};
 
 // Is the kind of each of the first h parts 0 or 1?
 pub fn check_kinds(parts: &[u8], h: usize) -> bool

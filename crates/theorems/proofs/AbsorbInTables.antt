@@ -20,13 +20,13 @@ use Rattle.rules.specs.Merge.{further, mergedScan}
 use Rattle.rules.proofs.Tests.{choose, all→, →all, and-right, each-append, each-drop}
 use Rattle.laws.specs.Statements.{Savable}
 use Rattle.laws.proofs.scans.Sizes.{merged-sized}
-use Rattle.index.specs.Index.{Tables, roomOf, indexIn, kindsIn, orFour, idIn}
+use Rattle.tables.specs.Index.{Tables, roomOf, indexIn, kindsIn, orFour, idIn}
 use Rattle.index.proofs.Lent.{sized-in}
 use Rattle.index.proofs.Standing.{stands, kinds-from}
-use Rattle.recorder.specs.Recorder.{RecorderTables, recorderRoom, recorderIn, recorderKinds, recorderFrom}
+use Rattle.tables.specs.Recorder.{RecorderTables, recorderRoom, recorderIn, recorderKinds, recorderFrom}
 use Rattle.absorb.specs.Absorb.{absorbed, kindedBoth, outOf, absorbIn}
 use Rattle.absorb.specs.Absorb as absorbing
-use Rattle.absorb.specs.Given.{givenIn}
+use Rattle.tables.specs.Tables.{givenIn}
 use Rattle.theorems.specs.Terms.{Valid, ValidRecorder}
 use Rattle.theorems.specs.TableRun.{LentIn}
 use Rattle.theorems.specs.Recorders.{StandsRecorder, RecorderBytes}

@@ -36,24 +36,24 @@ use Rattle.field.proofs.Records.{records-length}
 use Rattle.rules.proofs.Tests.{never, both, asks, →asked, →bind, numberOf-accepted}
 use Rattle.rules_disc.specs.Disc.{slotArea, contentsOk, bodiesLength, discLength, bySlot}
 use Rattle.laws.proofs.Length.{savedLength-is}
-use Rattle.index.specs.Index.{Tables, roomOf, indexIn, kindsIn, kindedNumber, refusal, idIn, numbersFrom, tablesFrom, frontierIn, outOf}
-use Rattle.index.specs.Lowest.{lowest}
-use Rattle.index.specs.Lent.{TableBytes}
+use Rattle.tables.specs.Index.{Tables, roomOf, indexIn, kindsIn, kindedNumber, refusal, idIn, numbersFrom, tablesFrom, frontierIn, outOf, lowest}
+use Rattle.tables.specs.Lent.{TableBytes}
 use Rattle.index.specs.Calls.{numbersOf, newIn, boundIn}
 use Rattle.index.proofs.Back.{numbers-back}
 use Rattle.index.proofs.Lent.{put-back}
 use Rattle.index.proofs.Questions.{passes}
 use Rattle.plan.specs.Calls.{planIn}
 use Rattle.rules.specs.declared.Recorded.the-variants as recordedAs
-use Rattle.recorder.specs.Recorder.{RecorderTables, recorderRoom, recorderIn, recorderKinds, recorderFrom, recorderOver, recorderOf, startedIn, finishedIn}
-use Rattle.recorder.specs.Record.{assemblingIn, recorderOut, recordOut, recordIn}
+use Rattle.tables.specs.Recorder.{RecorderTables, recorderRoom, recorderIn, recorderKinds, recorderFrom, recorderOver, assemblingIn}
+use Rattle.recorder.specs.Recorder.{recorderOf, startedIn, finishedIn}
+use Rattle.recorder.specs.Record.{recorderOut, recordOut, recordIn}
 use Rattle.absorb.specs.Absorb.{absorbed, kindedBoth, absorbIn}
 use Rattle.absorb.specs.Absorb as absorbing
-use Rattle.absorb.specs.Given.{givenIn}
+use Rattle.tables.specs.Tables.{givenIn, hintsOf}
 use Rattle.rules.specs.declared.Saw.the-variants as sawAs
 use Rattle.hint_recorder.specs.Recorder.{hintRecorderIn, seeIn, flushIn, takeIn}
 use Rattle.hint_recorder.specs.Recorder as hinting
-use Rattle.add_hints.specs.JoinedMerged.{hintsOf}
+use Rattle.tables.specs.HintRecorder as hintRecorderTable
 use Rattle.add_hints.specs.Added.{addHintsIn}
 use Rattle.keep_hint.specs.Keep.{keepHintIn}
 use Rattle.confirmations.specs.Keeping.{keepIn}
@@ -94,8 +94,8 @@ saw-refused t (Accepted v) n e = let z : _≡_ {A = ℕ} 0 1 = cc in let f : ⊥
 see-accepted : (r : HintRecorder) (t : List ℕ) (lsn : ℕ) (sector : List ℕ) → ValidHintRecorderIn r t → (n : ℕ) → seeIn r t lsn sector .answer ≢ sawAs.Refused n
 unfolding seeIn among
 see-accepted r t lsn sector v n e =
-    never-0 (3 ∷ 4 ∷ []) _ n (saw-refused t (see (length t / 8) (hinting.recorderIn r t) lsn sector) n e)
-    (numberOf-accepted _ _ (refuses-nothing .sees (length t / 8) (hinting.recorderIn r t) lsn sector v)) refl (demand1 .see r t lsn sector .number n e)
+    never-0 (3 ∷ 4 ∷ []) _ n (saw-refused t (see (length t / 8) (hintRecorderTable.recorderIn r t) lsn sector) n e)
+    (numberOf-accepted _ _ (refuses-nothing .sees (length t / 8) (hintRecorderTable.recorderIn r t) lsn sector v)) refl (demand1 .see r t lsn sector .number n e)
 
 -- ---- 1 to 4 are answered yes
 no-number : (x : AreaIndex) (t : Tables) → ValidIn x t → refusal x t ≡ 0
@@ -170,7 +170,7 @@ module _ (x : AreaIndex) (t : Tables) (image : ImageId) (given : List ℕ) (r : 
 
 -- ---- each call
 pub refuses-nothing-in : RefusesNothingIn
-unfolding newIn boundIn keepIn keeping.outOf seeIn flushIn takeIn hinting.outOf hinting.sawOf hinting.takenOf frontierIn boundaryAt newSizes fileSizes fileArea fold contentsIn contentsFrom discSizes bothSizes after firstNo numbersOf startedIn recorderOf hintRecorderIn hinting.createdOf hinting.lastFrom hinting.tailFrom addHintsIn keepHintIn hintIn planIn saveIn saveOut outOf isAccepted listsOf lineRow fileRow
+unfolding newIn boundIn keepIn keeping.outOf seeIn flushIn takeIn hinting.outOf hinting.sawOf hinting.takenOf frontierIn boundaryAt newSizes fileSizes fileArea fold contentsIn contentsFrom discSizes bothSizes after firstNo numbersOf startedIn recorderOf hintRecorderIn hinting.createdOf hintRecorderTable.lastFrom hintRecorderTable.tailFrom addHintsIn keepHintIn hintIn planIn saveIn saveOut outOf isAccepted listsOf lineRow fileRow
 refuses-nothing-in =
     record {
       made = λ t a k budget spacing most q1 q2 q3. rw (refuses-nothing .made (roomOf t) a k budget spacing most q1 q2 q3) refl;
@@ -222,8 +222,8 @@ refuses-nothing-in =
       stopped = λ x t image given r u v b w m. absorb-stopped x t image given r u v w b m;
       sees = see-accepted;
       seen = λ r t lsn sector s e. ap (hinting.sawOf t) e;
-      flushes = λ r t v. ap (hinting.outOf t) (refuses-nothing .flushes (length t / 8) (hinting.recorderIn r t) v);
-      takes = λ r t v. ap hinting.takenOf (refuses-nothing .takes (length t / 8) (hinting.recorderIn r t) v);
+      flushes = λ r t v. ap (hinting.outOf t) (refuses-nothing .flushes (length t / 8) (hintRecorderTable.recorderIn r t) v);
+      takes = λ r t v. ap hinting.takenOf (refuses-nothing .takes (length t / 8) (hintRecorderTable.recorderIn r t) v);
       frontiers = λ x q. rw q refl;
       boundary = λ x j p q. rw (p, q) refl;
       due = λ r p q. rw (p, q) refl;

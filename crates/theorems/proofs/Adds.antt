@@ -18,7 +18,7 @@ use Rattle.rules_lacks.specs.Lacks.{equalHint}
 use Rattle.rules_lacks.proofs.Laws.{equalHint-self, equalHint-eq}
 use Rattle.adds.specs.Same.{sameList, sameConfirmation}
 use Rattle.adds.proofs.compare.Same.{sameList-self, sameList-eq, sameConfirmation-self, sameConfirmation-eq}
-use Rattle.index.specs.Index.{Tables, roomOf, roomIn, indexIn, kindsIn, kinded, storeOf}
+use Rattle.tables.specs.Index.{Tables, roomOf, roomIn, indexIn, kindsIn, kinded, storeOf}
 use Rattle.index.specs.Needs.{Passes, heldQuestion4}
 use Rattle.index.proofs.Lent.{put-back}
 use Rattle.plan.specs.Calls.{planIn}

@@ -25,15 +25,14 @@ use Rattle.rules.specs.Load.{load}
 use Rattle.rules.proofs.Tests.{all→, →all, accepted→}
 use Rattle.laws.specs.Statements.{Savable}
 use Rattle.laws.proofs.hint_lists.Closure.{keptHinting, add-hints-sized, keep-hinting-sized}
-use Rattle.tables.specs.Tables.{hintsIn, framesOf}
-use Rattle.tables.specs.Kinds.{kindsOk}
+use Rattle.tables.specs.Tables.{hintsIn, framesOf, hintsOf}
+use Rattle.tables.specs.Index.{kindsOk, Tables, roomOf, indexIn, kindsIn, kinded, endIn, endFrom, idIn, idFrom, numbersFrom, tablesFrom, tablesCleared, Out, out, outOf}
 use Rattle.rules.specs.declared.Made.the-variants as made
-use Rattle.index.specs.Index.{Tables, roomOf, indexIn, kindsIn, kinded, endIn, endFrom, idIn, idFrom, numbersFrom, tablesFrom, tablesCleared, Out, out, outOf}
 use Rattle.index.specs.Calls.{numbersOf, newIn, boundIn}
 use Rattle.index.proofs.Back.{withPrint, numbers-with}
 use Rattle.index.proofs.Lent.{sized-in}
 use Rattle.index.proofs.Standing.{stands, stands-cleared, kinds-from}
-use Rattle.add_hints.specs.JoinedMerged.{hintsOf, touched}
+use Rattle.add_hints.specs.JoinedMerged.{touched}
 use Rattle.add_hints.specs.Added.{addHintsIn}
 use Rattle.keep_hint.specs.Keep.{keepHintIn}
 use Rattle.rules.specs.declared.Kept.the-variants as kept

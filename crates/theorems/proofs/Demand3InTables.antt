@@ -26,7 +26,7 @@ use Rattle.rules.specs.Run.{Reading, Content, Cut, Place, State, begin, mergeRe
 use Rattle.rules.proofs.Tests.{test, asked, both, accepted→, and-left}
 use Rattle.laws.proofs.scans.Parts.{part-at}
 use Rattle.laws.proofs.scans.Scans.{scan-of, scan→}
-use Rattle.index.specs.Index.{roomOf, roomIn, indexIn, kindsIn}
+use Rattle.tables.specs.Index.{roomOf, roomIn, indexIn, kindsIn}
 use Rattle.index.specs.Needs.{Passes, heldQuestion4}
 use Rattle.plan.specs.Calls.{planIn}
 use Rattle.index.proofs.Questions.{passes-store}

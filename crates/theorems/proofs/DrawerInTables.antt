@@ -27,7 +27,7 @@ use Rattle.rules_drawer.specs.Drawer.{lengthsIn, loadFiles, pairNumber, pairsWi
 use Rattle.rules_drawer.proofs.Pairs.{first-of→, →first-of, mergeable→}
 use Rattle.rules_drawer.proofs.Files.{behind→, →behind, refused-after}
 use Rattle.rules.specs.declared.Made.the-variants as made
-use Rattle.index.specs.Index.{Tables, roomOf, indexIn, kindsIn, kindedNumber, refusal, numbersFrom, tablesFrom, tablesCleared, out, outOf}
+use Rattle.tables.specs.Index.{Tables, roomOf, indexIn, kindsIn, kindedNumber, refusal, numbersFrom, tablesFrom, tablesCleared, out, outOf}
 use Rattle.index.proofs.Back.{numbers-back}
 use Rattle.index.proofs.Lent.{sized-in}
 use Rattle.index.proofs.Questions.{passes, passes-kinds}

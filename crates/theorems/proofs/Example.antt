@@ -38,7 +38,7 @@ use Rattle.laws.proofs.Facts.{SizeFacts, sized→, facts}
 use Rattle.laws.proofs.hint_lists.Lists.{All}
 use Rattle.laws.proofs.Layouts.{checkpoint-layout, lsn-layout, confirmation-layout, held-bytes}
 use Rattle.laws.proofs.Readers.{each-bytes}
-use Rattle.index.specs.Index.{Tables, tables, roomOf, numbersFrom, tablesFrom, storeOf}
+use Rattle.tables.specs.Index.{Tables, tables, roomOf, numbersFrom, tablesFrom, storeOf}
 use Rattle.index.proofs.Standing.{stands, kinds-from, within, room-from}
 use Rattle.theorems.specs.Terms.{Valid, AllCut, afterCalls}
 use Rattle.theorems.specs.TableRun.{TablePlace, TableCall, isAccepted, merging, placeIn, stateIn, LentIn, AllCutIn, afterTableCalls}

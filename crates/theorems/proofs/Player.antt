@@ -16,7 +16,7 @@ use Rattle.rules.specs.Create.{emptyHintRecorder, hintRecorder}
 use Rattle.rules.specs.File.{saved, savedLength, save}
 use Rattle.rules.proofs.Tests.{test, never}
 use Rattle.laws.proofs.Length.{savedLength-is}
-use Rattle.index.specs.Index.{indexIn, orFour, kindedNumber, kinded, refusal}
+use Rattle.tables.specs.Index.{indexIn, orFour, kindedNumber, kinded, refusal}
 use Rattle.rules.specs.declared.Created.the-variants as created
 use Rattle.hint_recorder.specs.Recorder.{createdOf, hintRecorderIn}
 use Rattle.rules.specs.declared.Saved.the-variants as told

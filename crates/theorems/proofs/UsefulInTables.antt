@@ -11,18 +11,17 @@ use Rattle.rules.specs.Values.{Index}
 use Rattle.rules.specs.Plan.{plan}
 use Rattle.rules_jump.specs.Names.{namedHint}
 use Rattle.rules_jump.proofs.Values.{named-none}
-use Rattle.tables.specs.Tables.{decodeKept}
+use Rattle.tables.specs.Tables.{decodeKept, givenIn}
 use Rattle.rules.specs.File.{saved, save, over}
 use Rattle.rules.proofs.Tests.{accepted→}
 use Rattle.laws.proofs.Facts.{sized→}
 use Rattle.laws.proofs.Length.{savedLength-is}
 use Rattle.laws.proofs.Question4.{saved-bytes}
-use Rattle.index.specs.Index.{roomOf, indexIn, kindsIn, kinded, endIn, idIn, numbersFrom, outOf}
+use Rattle.tables.specs.Index.{roomOf, indexIn, kindsIn, kinded, endIn, idIn, numbersFrom, outOf}
 use Rattle.index.proofs.Lent.{sized-in}
 use Rattle.index.proofs.Standing.{stands}
 use Rattle.plan.specs.Calls.{planIn}
-use Rattle.recorder.specs.Recorder.{recorderRoom, recorderIn}
-use Rattle.absorb.specs.Given.{givenIn}
+use Rattle.tables.specs.Recorder.{recorderRoom, recorderIn}
 use Rattle.hint.specs.Calls.{hintIn}
 use Rattle.rules.specs.declared.Saved.the-variants as told
 use Rattle.save.specs.Save.{SaveOut, saveOut, saveIn, made}

@@ -10,7 +10,7 @@ use Rattle.rules.specs.declared.AreaIndex.{AreaIndex}
 use Rattle.rules.specs.Tests.{Answer, Accepted, after, firstNo}
 use Rattle.rules.specs.File.{over}
 use Rattle.rules_view.specs.View.{listener, workshop, isRole, viewBytes, viewLength, view, viewSize}
-use Rattle.index.specs.Index.{Tables, roomOf, indexIn, kindsIn, kinded}
+use Rattle.tables.specs.Index.{Tables, roomOf, indexIn, kindsIn, kinded}
 use Rattle.rules.specs.declared.Viewed.the-variants as viewed
 use Rattle.view.specs.View.{ViewOut, viewOut, inRole, viewIn, viewSizeIn}
 use Rattle.view.proofs.Layouts.{view-length}

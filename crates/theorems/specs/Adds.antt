@@ -13,7 +13,7 @@ use Rattle.rules.specs.Merge.{merge}
 use Rattle.rules.specs.File.{saved}
 use Rattle.rules_jump.specs.Names.{namedHint}
 use Rattle.rules.specs.declared.Made.the-variants as made
-use Rattle.index.specs.Index.{Tables, indexIn, out}
+use Rattle.tables.specs.Index.{Tables, indexIn, out}
 use Rattle.plan.specs.Calls.{planIn}
 use Rattle.hint.specs.Calls.{hintIn}
 use Rattle.rules.specs.declared.Brings.{Brings}

@@ -16,7 +16,7 @@ use Rattle.rules.specs.Tests.{Accepted}
 use Rattle.rules.specs.Values.{max64}
 use Rattle.rules.specs.Questions.{question1, question2, question4}
 use Rattle.rules.specs.declared.Made.the-variants as made
-use Rattle.index.specs.Index.{Tables, indexIn, kindsIn, out}
+use Rattle.tables.specs.Index.{Tables, indexIn, kindsIn, out}
 use Rattle.index.specs.Calls.{newIn, boundIn}
 use Rattle.add_hints.specs.Added.{addHintsIn}
 use Rattle.keep_hint.specs.Keep.{keepHintIn}
@@ -26,7 +26,8 @@ use Rattle.confirmations.specs.Keeping as keeping
 use Rattle.load.specs.Load.{loadIn}
 use Rattle.merge.specs.Merge.{mergeIn}
 use Rattle.rules.specs.declared.Recorded.the-variants as recordedAs
-use Rattle.recorder.specs.Recorder.{RecorderTables, startedIn, finishedIn}
+use Rattle.tables.specs.Recorder.{RecorderTables}
+use Rattle.recorder.specs.Recorder.{startedIn, finishedIn}
 use Rattle.recorder.specs.Record.{recorderOut, recordIn}
 use Rattle.absorb.specs.Absorb.{absorbIn}
 use Rattle.rules.specs.declared.Created.the-variants as createdAs

@@ -8,7 +8,7 @@ use Rattle.rules.specs.Sections.{rising, ownLsn, anyLsn}
 use Rattle.rules.specs.Run.{Reading, Cut}
 use Rattle.rules_coarsen.specs.Coarse.{coarser, question47}
 use Rattle.rules.specs.declared.Made.the-variants as made
-use Rattle.index.specs.Index.{Tables, roomOf, indexIn, kindsIn, numbersFrom, tablesFrom, out}
+use Rattle.tables.specs.Index.{Tables, roomOf, indexIn, kindsIn, numbersFrom, tablesFrom, out}
 use Rattle.coarsen.specs.Coarsen.{coarseIn}
 use Rattle.theorems.specs.Terms.{ValidIn}
 use Rattle.theorems.specs.TableRun.{LentIn}

@@ -16,7 +16,7 @@ use Rattle.rules.specs.Merge.{question42}
 use Rattle.rules.specs.Plan.{assemblyOf, startOf, bytesAt}
 use Rattle.rules.specs.Run.{Reading}
 use Rattle.rules.specs.declared.Made.the-variants as made
-use Rattle.index.specs.Index.{Tables, out}
+use Rattle.tables.specs.Index.{Tables, out}
 use Rattle.plan.specs.Calls.{planIn}
 use Rattle.merge.specs.Merge.{mergeIn}
 use Rattle.theorems.specs.Demand3.{Outcome, PartsLeft}

@@ -14,7 +14,7 @@ use Rattle.rules.specs.Load.{load}
 use Rattle.rules_disc.specs.Disc.{slotArea, contentsOk, discBytes}
 use Rattle.blocks.specs.Head.{blockOf}
 use Rattle.blocks.specs.IsHead.{isIndex}
-use Rattle.index.specs.Index.{Tables, roomOf, indexIn}
+use Rattle.tables.specs.Index.{Tables, roomOf, indexIn}
 use Rattle.player.specs.Block.{called, headIndex, two}
 use Rattle.player_disc.specs.Calls.{CalledDisc, discSaveCall, discSaveBothCall, discLoadCall}
 use Rattle.theorems.specs.Terms.{ValidIn}

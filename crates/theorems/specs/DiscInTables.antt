@@ -14,8 +14,8 @@ use Rattle.rules.specs.Questions.{question3}
 use Rattle.rules.specs.File.{over, saved}
 use Rattle.rules.specs.Load.{load}
 use Rattle.rules_disc.specs.Disc.{slotArea, contentsOk, discBytes}
-use Rattle.index.specs.Index.{Tables, roomOf, indexIn}
-use Rattle.index.specs.Lent.{Typed, TableBytes}
+use Rattle.tables.specs.Index.{Tables, roomOf, indexIn}
+use Rattle.tables.specs.Lent.{Typed, TableBytes}
 use Rattle.rules.specs.declared.Saved.the-variants.{Length}
 use Rattle.save.specs.Save.{made}
 use Rattle.laws.specs.Statements.{stripped}

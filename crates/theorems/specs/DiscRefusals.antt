@@ -14,7 +14,7 @@ use Rattle.rules.specs.File.{saved}
 use Rattle.rules.specs.Load.{load}
 use Rattle.blocks.specs.IsHead.{isIndex}
 use Rattle.rules_disc.specs.Disc.{slotOf, slotArea, contentsOk, loadBody, saveOne, saveBoth, loadDisc}
-use Rattle.index.specs.Index.{Tables, roomOf, indexIn}
+use Rattle.tables.specs.Index.{Tables, roomOf, indexIn}
 use Rattle.rules.specs.declared.Saved.the-variants as told
 use Rattle.save.specs.Save as saving
 use Rattle.rules_disc.specs.declared.Loaded.the-variants as loaded

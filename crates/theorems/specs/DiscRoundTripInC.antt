@@ -12,7 +12,7 @@ use Rattle.rules_disc.specs.Disc.{slotArea}
 use Rattle.laws.specs.Statements.{stripped}
 use Rattle.blocks.specs.Head.{blockOf}
 use Rattle.blocks.specs.IsHead.{isIndex}
-use Rattle.index.specs.Index.{Tables, roomOf, indexIn}
+use Rattle.tables.specs.Index.{Tables, roomOf, indexIn}
 use Rattle.player.specs.Block.{called, headIndex, two}
 use Rattle.player_disc.specs.Block.{calledLists}
 use Rattle.player_disc.specs.Calls.{calledDisc, discSaveCall, discSaveBothCall, discLoadCall}

@@ -16,7 +16,7 @@ use Rattle.rules.specs.Load.{limited}
 use Rattle.rules.specs.Run.{Reading, Cut}
 use Rattle.rules_drawer.specs.Drawer.{maxFiles, lengthsIn, mergeAll}
 use Rattle.rules.specs.declared.Made.the-variants as made
-use Rattle.index.specs.Index.{Tables, roomOf, indexIn, kindsIn, numbersFrom, refusal, out}
+use Rattle.tables.specs.Index.{Tables, roomOf, indexIn, kindsIn, numbersFrom, refusal, out}
 use Rattle.drawer.specs.Drawer.{mergeAllIn}
 use Rattle.theorems.specs.Terms.{Valid, ValidIn}
 use Rattle.theorems.specs.TableRun.{LentIn}

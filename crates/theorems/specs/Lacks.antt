@@ -18,7 +18,7 @@ use Rattle.rules.specs.declared.Resume.{Resume}
 use Rattle.rules.specs.Tests.{Accepted, agree, orElse}
 use Rattle.rules.specs.Values.{Frame, Index, Lengths, noConfirmation, count, complete, stated, isChecked}
 use Rattle.rules.specs.Plan.{jump, planned, bytesAt}
-use Rattle.index.specs.Index.{storeOf}
+use Rattle.tables.specs.Index.{storeOf}
 use Rattle.rules.specs.Run.{Content, contentOf, Reading, Cut}
 use Rattle.rules.specs.Sections.{ownLsn}
 use Rattle.rules.specs.Hints.{insertAll, unkept, thin, keepsNothing, confirmedAt, Hinted, hint}

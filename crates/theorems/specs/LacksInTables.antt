@@ -17,7 +17,7 @@ use Rattle.rules.specs.Run.{Reading, Cut}
 use Rattle.rules.specs.Sections.{ownLsn}
 use Rattle.laws.specs.Order.{Rises}
 use Rattle.rules.specs.declared.Made.the-variants as made
-use Rattle.index.specs.Index.{Tables, indexIn, out}
+use Rattle.tables.specs.Index.{Tables, indexIn, out}
 use Rattle.plan.specs.Calls.{planIn}
 use Rattle.hint.specs.Calls.{hintIn}
 use Rattle.merge.specs.Merge.{mergeIn}

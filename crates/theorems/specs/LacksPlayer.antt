@@ -7,7 +7,7 @@ use lib.Dec.{eqb}
 use lib.ListN.{getD}
 use Rattle.rules.specs.Tests.{all, Accepted}
 use Rattle.rules_lacks.specs.declared.Lacks.{Lacks}
-use Rattle.index.specs.Index.{Tables}
+use Rattle.tables.specs.Index.{Tables}
 use Rattle.lacks.specs.Lacks.{lacksIn}
 use Rattle.blocks.specs.Head.{wordsIn}
 use Rattle.player.specs.Block.{called, headIndex}

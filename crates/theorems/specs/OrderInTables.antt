@@ -4,7 +4,7 @@ use mathlib.Core.Path.{_≡_}
 use mathlib.Core.Bool.{true}
 use mathlib.Core.List.{List, [], _∷_}
 use Rattle.rules.specs.declared.Area.{Area}
-use Rattle.index.specs.Index.{kindsIn}
+use Rattle.tables.specs.Index.{kindsIn}
 use Rattle.theorems.specs.TableRun.{TablePlace, TableCall, mergeTables, TableState, beginTables, tableRun, placeIn, stateIn, LentIn}
 use Rattle.theorems.specs.Order.{Together, Merge, Gathered}
 

@@ -14,8 +14,8 @@ use Rattle.rules.specs.Values.{Index, maxList, sameKey}
 use Rattle.rules.specs.Values as values
 use Rattle.rules.specs.Questions.{areaOk, question3, recorderQuestion3}
 use Rattle.rules.specs.Load.{fromBytes, limited, load}
-use Rattle.index.specs.Index.{Tables, roomOf}
-use Rattle.recorder.specs.Recorder.{RecorderTables, recorderRoom}
+use Rattle.tables.specs.Index.{Tables, roomOf}
+use Rattle.tables.specs.Recorder.{RecorderTables, recorderRoom}
 use Rattle.rules.specs.declared.Created.the-variants as created
 use Rattle.hint_recorder.specs.Recorder.{hintRecorderIn}
 use Rattle.rules.specs.declared.Saved.{Saved}

@@ -12,8 +12,8 @@ use Rattle.rules.specs.declared.UnderAssembly.{UnderAssembly}
 use Rattle.rules.specs.declared.UnderAssembly.the-variants.{Nothing, Frame}
 use Rattle.rules.specs.Values.{maxList}
 use Rattle.rules.specs.Questions.{recorderQuestion1, recorderQuestion2, recorderQuestion4}
-use Rattle.recorder.specs.Recorder.{RecorderTables, recorderRoom, recorderIn, recorderKinds}
-use Rattle.hint_recorder.specs.Recorder as hinting
+use Rattle.tables.specs.Recorder.{RecorderTables, recorderRoom, recorderIn, recorderKinds}
+use Rattle.tables.specs.HintRecorder as hinting
 use Rattle.theorems.specs.Terms.{ValidRecorder, ValidHintRecorder}
 
 -- ---- 1 to 4 of a recorder in its tables, its parts' kinds among them

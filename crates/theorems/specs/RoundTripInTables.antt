@@ -14,8 +14,8 @@ use Rattle.rules.specs.Load.{fromBytes}
 use Rattle.laws.specs.Statements.{stripped}
 use Rattle.rules.specs.declared.Made.the-variants as made
 use Rattle.rules.specs.File.{over}
-use Rattle.index.specs.Index.{Tables, roomOf, indexIn, Out, out}
-use Rattle.index.specs.Lent.{Typed, TableBytes}
+use Rattle.tables.specs.Index.{Tables, roomOf, indexIn, Out, out}
+use Rattle.tables.specs.Lent.{Typed, TableBytes}
 use Rattle.rules.specs.declared.Saved.the-variants.{Length}
 use Rattle.save.specs.Save.{saveIn}
 use Rattle.save.specs.Save as saving

@@ -11,8 +11,8 @@ use Rattle.rules.specs.Sizes.{sized}
 use Rattle.rules.specs.Run.{Reading, Cut, Place, Call, mergeCall, saveCall, loadCall, Saved, State, begin, run, replace}
 use Rattle.rules.specs.declared.Made.{Made}
 use Rattle.rules.specs.declared.Made.the-variants as made
-use Rattle.index.specs.Index.{Tables, roomOf, indexIn, kindsIn, Out}
-use Rattle.index.specs.Lent.{Typed, TableBytes}
+use Rattle.tables.specs.Index.{Tables, roomOf, indexIn, kindsIn, Out}
+use Rattle.tables.specs.Lent.{Typed, TableBytes}
 use Rattle.rules.specs.declared.Saved as declared
 use Rattle.rules.specs.declared.Saved.the-variants as answer
 use Rattle.save.specs.Save.{SaveOut, saveIn}

@@ -9,7 +9,7 @@ use Rattle.rules.specs.Values.{Scan, Index, Recorder, HintRecorder, Lengths, ma
 use Rattle.rules.specs.Questions.{question1, question2, question3, question4, recorderQuestion1, recorderQuestion2, recorderQuestion3, recorderQuestion4}
 use Rattle.rules.specs.PartRule.{Stored}
 use Rattle.rules.specs.Run.{Reading, Content, contentOf, Cut, Place, Call, State, begin, run}
-use Rattle.index.specs.Index.{Tables, roomOf, indexIn, kindsIn}
+use Rattle.tables.specs.Index.{Tables, roomOf, indexIn, kindsIn}
 
 -- ---- "each call on an index or recorder": 1 to 4
 -- an index passes questions 1 to 4, in tables of the lengths l

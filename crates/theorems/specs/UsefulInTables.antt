@@ -41,24 +41,26 @@ use Rattle.rules_coverage.specs.declared.Row.{Row}
 use Rattle.rules_coverage.specs.Lines.{Line}
 use Rattle.rules_coverage.specs.Coverage.{areaIn, rangeOk, rowFrom, rowOf, maxFile, lineRow}
 use Rattle.rules_coarsen.specs.Coarse.{coarser, question47, question48}
-use Rattle.index.specs.Index.{Tables, roomOf, indexIn, endIn, idIn, numbersFrom, tablesFrom, tablesCleared, frontierIn, Out, out}
-use Rattle.index.specs.Lent.{TableBytes}
+use Rattle.tables.specs.Index.{Tables, roomOf, indexIn, endIn, idIn, numbersFrom, tablesFrom, tablesCleared, frontierIn, Out, out}
+use Rattle.tables.specs.Lent.{TableBytes}
 use Rattle.index.specs.Calls.{newIn, boundIn}
 use Rattle.rules.specs.declared.Recorded.the-variants as recordedAs
-use Rattle.recorder.specs.Recorder.{RecorderTables, recorderIn, recorderFrom, recorderOver, startedIn, finishedIn}
-use Rattle.recorder.specs.Record.{assemblingIn, recorderOut, recordIn}
+use Rattle.tables.specs.Recorder.{RecorderTables, recorderIn, recorderFrom, recorderOver, assemblingIn}
+use Rattle.recorder.specs.Recorder.{startedIn, finishedIn}
+use Rattle.recorder.specs.Record.{recorderOut, recordIn}
 use Rattle.rules.specs.declared.Boundary.the-variants as boundaryAs
 use Rattle.recorder.specs.Boundary.{checkpointAt, dueAt}
 use Rattle.absorb.specs.Absorb.{absorbed, absorbIn}
 use Rattle.absorb.specs.Absorb as absorbing
-use Rattle.absorb.specs.Given.{givenIn}
+use Rattle.tables.specs.Tables.{givenIn, hintsOf}
 use Rattle.rules.specs.declared.Created.the-variants as createdAs
 use Rattle.rules.specs.declared.Saw.the-variants as sawAs
 use Rattle.rules.specs.declared.Seen.the-variants as seenAs
 use Rattle.rules.specs.declared.Taken.the-variants as takenAs
 use Rattle.hint_recorder.specs.Recorder.{hintRecorderIn, seeIn, flushIn, takeIn}
 use Rattle.hint_recorder.specs.Recorder as hinting
-use Rattle.add_hints.specs.JoinedMerged.{hintsOf, touched}
+use Rattle.tables.specs.HintRecorder as hintRecorder
+use Rattle.add_hints.specs.JoinedMerged.{touched}
 use Rattle.add_hints.specs.Added.{addHintsIn}
 use Rattle.keep_hint.specs.Keep.{keepHintIn}
 use Rattle.rules.specs.declared.Kept.the-variants as keptAs
@@ -161,15 +163,15 @@ pub record RefusesNothingIn : Type 0 where
       → isStopped (r .mode) ≡ true → absorbIn x t image given r u ≡ absorbing.out (absorbed 0 x r) t
   pub sees : (r : HintRecorder) (t : List ℕ) (lsn : ℕ) (sector : List ℕ) → ValidHintRecorderIn r t → (n : ℕ) → seeIn r t lsn sector .answer ≢ sawAs.Refused n
   -- what the rules accept is put into the table
-  pub seen : (r : HintRecorder) (t : List ℕ) (lsn : ℕ) (sector : List ℕ) (s : rules.SeenSector) → see (length t / 8) (hinting.recorderIn r t) lsn sector ≡ Accepted s
+  pub seen : (r : HintRecorder) (t : List ℕ) (lsn : ℕ) (sector : List ℕ) (s : rules.SeenSector) → see (length t / 8) (hintRecorder.recorderIn r t) lsn sector ≡ Accepted s
       → seeIn r t lsn sector
-      ≡ hinting.sawOut (sawAs.Sector (record { first = s .first; recorder = hinting.numbersFrom (s .recorder) })) (over (bytesOf encodeHint (s .recorder .list)) t)
-  pub flushes : (r : HintRecorder) (t : List ℕ) → ValidHintRecorderIn r t → let v = hinting.recorderIn r t in let hs = flushedList (v .tail) (v .list) in
+      ≡ hinting.sawOut (sawAs.Sector (record { first = s .first; recorder = hintRecorder.numbersFrom (s .recorder) })) (over (bytesOf encodeHint (s .recorder .list)) t)
+  pub flushes : (r : HintRecorder) (t : List ℕ) → ValidHintRecorderIn r t → let v = hintRecorder.recorderIn r t in let hs = flushedList (v .tail) (v .list) in
       flushIn r t
-      ≡ hinting.out (seenAs.Recorder (hinting.numbersFrom (record { spacing = v .spacing; last = v .last; tail = none; list = hs }))) (over (bytesOf encodeHint hs) t)
-  pub takes : (r : HintRecorder) (t : List ℕ) → ValidHintRecorderIn r t → let v = hinting.recorderIn r t in
+      ≡ hinting.out (seenAs.Recorder (hintRecorder.numbersFrom (record { spacing = v .spacing; last = v .last; tail = none; list = hs }))) (over (bytesOf encodeHint hs) t)
+  pub takes : (r : HintRecorder) (t : List ℕ) → ValidHintRecorderIn r t → let v = hintRecorder.recorderIn r t in
       takeIn r t
-      ≡ takenAs.List (record { count = length (v .list); recorder = hinting.numbersFrom (record { spacing = v .spacing; last = v .last; tail = v .tail; list = [] }) })
+      ≡ takenAs.List (record { count = length (v .list); recorder = hintRecorder.numbersFrom (record { spacing = v .spacing; last = v .last; tail = v .tail; list = [] }) })
   -- numbers, lengths and what a file says
   pub frontiers : (x : AreaIndex) → areaOk (x .area) ≡ true → frontierIn x ≡ Accepted (frontierOf (x .area) (x .interval) (x .checkpoints) (endIn (x .ending)))
   pub boundary : (x : AreaIndex) (j : ℕ) → areaOk (x .area) ≡ true → numbersOk (x .interval) (x .budget) ≡ true

@@ -15,7 +15,7 @@ use Rattle.rules.specs.File.{over}
 use Rattle.rules_view.specs.View.{listener, workshop, listenerOf, workshopOf, listenerBytes, workshopBytes, readListener, readWorkshop, isRole, viewBytes, viewLength, view, viewSize}
 use Rattle.rules_view.specs.Roles.{asWorkshop}
 use Rattle.blocks.specs.IsHead.{isIndex}
-use Rattle.index.specs.Index.{Tables, indexIn}
+use Rattle.tables.specs.Index.{Tables, indexIn}
 use Rattle.rules.specs.declared.Viewed.the-variants as viewed
 use Rattle.view.specs.View.{viewIn, viewSizeIn}
 use Rattle.player.specs.Block.{called, headIndex}

@@ -17,7 +17,7 @@ use Rattle.rules.specs.File.{over, decodeLsn, decodeConfirmation, decodeCheckpo
 use Rattle.rules.proofs.Tests.{test, never}
 use Rattle.tables.specs.Tables.{checkpointsIn, partsIn, decodeKept}
 use Rattle.index.specs.Needs.{Passes}
-use Rattle.index.specs.Index.{Tables, tables, indexIn, roomOf, refusal}
+use Rattle.tables.specs.Index.{Tables, tables, indexIn, roomOf, refusal}
 use Rattle.index.proofs.Four.{kinded-index}
 use Rattle.index.proofs.Questions.{passes, passes-long, passes-hints, range}
 use Rattle.save.specs.Output.{Put}

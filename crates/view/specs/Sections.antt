@@ -10,7 +10,7 @@ use Rattle.rules.specs.Values.{stated}
 use Rattle.rules.specs.File.{encodeLsn, encodeHint, encodeConfirmation, orZero, bit}
 use Rattle.rules_view.specs.View.{Seen, Listener, Backing, Head, Totals, seenFrom, backingsOf, lengthsOf, listenerOf, wordBytes, totalWords, encodeBacking, encodeHeldLength, encodeMark}
 use Rattle.tables.specs.Tables.{checkpointsIn, partsIn, lsnsIn, keptIn, confirmationsIn}
-use Rattle.index.specs.Index.{indexIn, tables, endIn}
+use Rattle.tables.specs.Index.{indexIn, tables, endIn}
 
 -- ---- the words
 abbrev pub headIn : ℕ → AreaIndex → Head

@@ -8,7 +8,7 @@ use Rattle.rules.specs.Tests.{Answer, Refused, Accepted, after, ask, firstNo}
 use Rattle.rules.specs.File.{over}
 use Rattle.rules_view.specs.View.{isRole, view, viewSize}
 use Rattle.blocks.specs.IsHead.{isIndex}
-use Rattle.index.specs.Index.{Tables, roomOf, indexIn, kindsIn, kinded, refusal}
+use Rattle.tables.specs.Index.{Tables, roomOf, indexIn, kindsIn, kinded, refusal}
 use Rattle.rules.specs.declared.Viewed.{Viewed}
 use Rattle.rules.specs.declared.Viewed.the-variants as answer
 

@@ -17,7 +17,7 @@ ghost use Prim.Native.Nat.{_+_, _*_, _≤_};
 ghost use lib.ListN.{length};
 ghost use Rattle.rules.specs.File.{over};
 ghost use Rattle.rules_view.specs.View.{isRole, viewBytes, viewLength};
-ghost use Rattle.index.specs.Index.{Tables, indexIn, tables};
+ghost use Rattle.tables.specs.Index.{Tables, indexIn, tables};
 ghost use Rattle.view.specs.Sections.{Shown};
 ghost use Rattle.view.specs.View.{viewed, viewIn, viewSizeIn, viewedOf, asked, blockRefusal};
 

@@ -1,5 +1,5 @@
-use Rattle.index.specs.Index.{Tables, tables}
-use Rattle.index.specs.Lent.{TableBytes}
+use Rattle.tables.specs.Index.{Tables, tables}
+use Rattle.tables.specs.Lent.{TableBytes}
 use Rattle.absorb.proofs.committed.Facts.{ready}
 use Rattle.absorb.proofs.Calls.{absorb-left, absorbs, few, absorb-done}
 use borrow.Author.Needs.{needs}

@@ -19,9 +19,8 @@ use Rattle.rules.specs.Record.{below}
 use Rattle.rules.specs.File.{decodeLsn}
 use Rattle.rules.proofs.Tests.{test}
 use Rattle.rules.proofs.Walk.{walk-tail}
-use Rattle.tables.specs.Tables.{lsnsIn}
+use Rattle.tables.specs.Tables.{lsnsIn, givenIn}
 use Rattle.merge.specs.TakeNeeds.{Takes, Taken}
-use Rattle.absorb.specs.Given.{givenIn}
 use Rattle.absorb.proofs.questions.Lists.{below-past, below-few}
 use Rattle.absorb.specs.CommittedNeeds.{frontOf, frontAt, TakesBelow, TakenBelow}
 

@@ -21,13 +21,12 @@ use Rattle.rules.proofs.Tests.{test, implied, all→, asked}
 use Rattle.laws.proofs.scans.Absorb.{unstopped}
 use Rattle.laws.proofs.Layouts.{confirmation-layout}
 use Rattle.tables.proofs.Kept.{kept-layout}
-use Rattle.sections.specs.Numbers.{idIn}
-use Rattle.index.specs.Index.{Tables, roomOf, indexIn, kindsIn, orFour, kindedNumber}
+use Rattle.tables.specs.Index.{idIn, Tables, roomOf, indexIn, kindsIn, orFour, kindedNumber}
 use Rattle.index.specs.Needs.{Passes}
 use Rattle.index.proofs.Lent.{over-same}
 use Rattle.index.proofs.Questions.{passes, passes-hints}
-use Rattle.recorder.specs.Recorder.{RecorderTables, recorderRoom, recorderIn, recorderKinds}
-use Rattle.absorb.specs.Given.{givenIn}
+use Rattle.tables.specs.Recorder.{RecorderTables, recorderRoom, recorderIn, recorderKinds}
+use Rattle.tables.specs.Tables.{givenIn}
 use Rattle.absorb.specs.QuestionsNeeds.{nineIn}
 use Rattle.absorb.specs.RefusalAbsorb.{absorbRefusal}
 use Rattle.absorb.specs.RefusalNeeds.{Absorbs}

@@ -24,7 +24,7 @@ use Rattle.merge.proofs.questions.Ready.{scan-is, store-room, few-boundaries, f
 use Rattle.parts.specs.Parts.{PartTables, partTables}
 use Rattle.parts.specs.Needs.{wanted}
 use Rattle.parts.proofs.Callers.{lent-from, wanted-from, room-from}
-use Rattle.recorder.specs.Recorder.{RecorderTables, recorderIn, recorderKinds}
+use Rattle.tables.specs.Recorder.{RecorderTables, recorderIn, recorderKinds}
 use Rattle.recorder.specs.Needs.{recorderHeld}
 use Rattle.recorder.specs.Needs as recorder
 use Rattle.recorder.proofs.Calls.{passes-roomy, passes-held, passes-long as recorder-long}

@@ -21,14 +21,12 @@ use Rattle.rules.specs.PartRule.{Stored, addParts}
 use Rattle.rules.specs.Questions.{endOf}
 use Rattle.rules.specs.Record.{below, moves}
 use Rattle.rules.specs.File.{encodeCheckpoint, encodeFrameHeader, encodeHeld, encodeLsn, decodeCheckpoint, decodeConfirmation, over}
-use Rattle.tables.specs.Tables.{lsnsIn, decodeKept, keptIn, confirmationsIn}
-use Rattle.index.specs.Index.{Tables, tables, indexIn, storeOf, numbersFrom}
-use Rattle.sections.specs.Numbers.{endIn, endFrom, idIn, idFrom}
+use Rattle.tables.specs.Tables.{lsnsIn, decodeKept, keptIn, confirmationsIn, givenIn}
+use Rattle.tables.specs.Index.{Tables, tables, indexIn, storeOf, numbersFrom, endIn, endFrom, idIn, idFrom}
 use Rattle.parts.specs.declared.Counts.{Counts}
 use Rattle.parts.specs.Parts.{partTables, storedIn, Held, held, heldFrom}
-use Rattle.recorder.specs.Recorder.{RecorderTables, recorderIn}
+use Rattle.tables.specs.Recorder.{RecorderTables, recorderIn}
 use Rattle.merge.specs.TakeNeeds.{Appended, partsTaken}
-use Rattle.absorb.specs.Given.{givenIn}
 use Rattle.absorb.specs.Commit.{written, absorbed, absorbedIn, Kept}
 use Rattle.absorb.specs.CommittedNeeds.{Ready, frontOf, frontAt, TakesBelow, TakenBelow, numbersBy}
 use Rattle.absorb.proofs.committed.Ready.{own-malformed}

@@ -20,10 +20,9 @@ use Rattle.rules.specs.Sections.{endingOk}
 use Rattle.rules.specs.Questions.{areaOk, endOf}
 use Rattle.rules.specs.File.{decodeCheckpoint}
 use Rattle.rules.proofs.Tests.{all→}
-use Rattle.tables.specs.Tables.{checkpointsIn, lsnsIn}
-use Rattle.sections.specs.Numbers.{endIn}
+use Rattle.tables.specs.Tables.{checkpointsIn, lsnsIn, givenIn}
+use Rattle.tables.specs.Index.{endIn}
 use Rattle.laws.specs.Twelve.{continues, listOk, joinedOk}
-use Rattle.absorb.specs.Given.{givenIn}
 use Rattle.absorb.specs.QuestionsNeeds.{listIn, movedIn, twelveIn}
 
 module _ (x : AreaIndex) (cs held : List ℕ) (r : Recorder) (ds ms : List ℕ) where

@@ -14,7 +14,7 @@ use Rattle.rules.specs.Tests.{agree, firstNo}
 use Rattle.rules.specs.Values.{frontierOf}
 use Rattle.rules.specs.Questions.{areaOk}
 use Rattle.rules.proofs.Tests.{and-right}
-use Rattle.sections.specs.Numbers.{endIn, idIn}
+use Rattle.tables.specs.Index.{endIn, idIn}
 use Rattle.index.proofs.Questions.{range}
 use Rattle.absorb.specs.QuestionsNeeds.{nineIn, elevenIn, twelveIn, Joinable}
 use Rattle.absorb.specs.RefusalNeeds.{tenIn, laterNumber, Readable}

@@ -18,17 +18,15 @@ use Rattle.rules.proofs.Same.{sameArea-eq}
 use Rattle.laws.proofs.scans.Scans.{recorder→}
 use Rattle.laws.specs.Twelve.{listOk, joinedOk}
 use Rattle.laws.proofs.absorbing.Twelve.{twelve-is}
-use Rattle.sections.specs.Numbers.{idIn}
-use Rattle.index.specs.Index.{Tables, roomOf, indexIn, kindsIn, kindedNumber, refusal}
+use Rattle.tables.specs.Index.{idIn, Tables, roomOf, indexIn, kindsIn, kindedNumber, refusal, lowest}
 use Rattle.index.specs.Needs.{heldQuestion4}
-use Rattle.index.specs.Lowest.{lowest}
 use Rattle.index.proofs.Four.{Later, number-more, lowest-both}
 use Rattle.index.proofs.Questions.{passes, passes-long}
 use Rattle.merge.proofs.questions.Refusal.{lowest-zero}
-use Rattle.recorder.specs.Recorder.{RecorderTables, recorderRoom, recorderIn, recorderKinds, recorderRefusal}
+use Rattle.tables.specs.Recorder.{RecorderTables, recorderRoom, recorderIn, recorderKinds, recorderRefusal}
 use Rattle.recorder.specs.Needs.{recorderHeld}
 use Rattle.recorder.proofs.Calls.{passes-held, passes-long as recorder-long}
-use Rattle.absorb.specs.Given.{givenIn}
+use Rattle.tables.specs.Tables.{givenIn}
 use Rattle.absorb.specs.QuestionsNeeds.{nineIn, elevenIn, twelveIn}
 use Rattle.absorb.specs.RefusalAbsorb.{absorbRefusal}
 use Rattle.absorb.specs.RefusalNeeds.{tenIn, laterNumber, Readable}

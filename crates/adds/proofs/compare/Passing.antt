@@ -18,9 +18,8 @@ use Rattle.rules.specs.Hints.{heldConfirmation, unkept}
 use Rattle.rules.proofs.Tests.{test, never}
 use Rattle.rules.proofs.Same.{eqb-self}
 use Rattle.laws.proofs.hint_lists.Hints.{joined-none}
-use Rattle.tables.specs.Tables.{decodeKept, keptIn}
+use Rattle.tables.specs.Tables.{decodeKept, keptIn, unkeptIn}
 use Rattle.tables.proofs.Walk.{records-turn}
-use Rattle.add_hints.specs.Merged.{unkeptIn}
 use Rattle.add_hints.proofs.Arriving.{unkept-in}
 use Rattle.rules_lacks.specs.Lacks.{equalHint}
 use Rattle.rules_lacks.proofs.Laws.{equalHint-self}

@@ -1,4 +1,4 @@
-use Rattle.sections.specs.Numbers.{idIn}
+use Rattle.tables.specs.Index.{idIn}
 use Rattle.rules.specs.Tests.{isSome}
 use borrow.Author.Needs.{needs}
 use Rattle.adds.proofs.has_id.Statement.{statement}

@@ -14,7 +14,7 @@ use Rattle.rules_disc.specs.declared.Place.{Place}
 use Rattle.rules_disc.specs.declared.Place.the-variants as place
 use Rattle.disc_load.specs.Contents.{entryIn}
 use Rattle.disc_load.specs.Inside.{Inside}
-use Rattle.index.specs.Index.{Tables, roomOf}
+use Rattle.tables.specs.Index.{Tables, roomOf}
 use Rattle.inspect.specs.declared.Found.{Found}
 use Rattle.load.specs.declared.Decided.{Decided}
 use Rattle.load.specs.declared.Decided.the-variants as decided

@@ -11,7 +11,7 @@ use Rattle.rules_disc.specs.declared.Contents.the-variants.{Broken, Lists}
 use Rattle.rules_disc.specs.declared.Place.{Place}
 use Rattle.disc_load.specs.Contents.{entryIn, contentsIn}
 use Rattle.disc_load.proofs.contents.Inside.{locates, breaks}
-use Rattle.index.specs.Index.{Tables, roomOf}
+use Rattle.tables.specs.Index.{Tables, roomOf}
 use Rattle.disc_load.specs.declared.ask.Asked.{Asked}
 use Rattle.disc_load.specs.declared.ask.Asked.the-variants as asked
 use Rattle.disc_load.specs.declared.ask.Decided.{Decided}

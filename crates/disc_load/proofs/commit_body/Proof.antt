@@ -1,5 +1,5 @@
 use mathlib.Core.Path.{refl}
-use Rattle.index.specs.Index.{Tables, tables}
+use Rattle.tables.specs.Index.{Tables, tables}
 use Rattle.disc_load.proofs.Body.{absent, inside, ready, present}
 use borrow.Author.Needs.{needs}
 use Rattle.disc_load.proofs.commit_body.Statement.{statement}

@@ -10,8 +10,7 @@ use Rattle.rules.specs.Values.{Index, max32}
 use Rattle.rules.specs.File.{savedLength}
 use Rattle.rules.proofs.Tests.{test, all→}
 use Rattle.rules_disc.specs.Disc.{entry, slotOf, listed, bySlot}
-use Rattle.index.specs.Index.{Tables, indexIn, refusal}
-use Rattle.index.specs.Lowest.{lowest}
+use Rattle.tables.specs.Index.{Tables, indexIn, refusal, lowest}
 use Rattle.merge.proofs.questions.Refusal.{lowest-zero}
 use Rattle.disc_save.proofs.Answers.{one-length, two-length, one-contents, two-contents, one-small}
 use Rattle.disc_save.specs.Length.{lengthOf, lengthAfter, oneLength, bothLength}

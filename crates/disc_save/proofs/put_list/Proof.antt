@@ -1,5 +1,5 @@
 use native.Mathlib.Omega.{arith}
-use Rattle.index.specs.Index.{Tables, tables}
+use Rattle.tables.specs.Index.{Tables, tables}
 use Rattle.disc_save.proofs.Files.{put-list-is}
 use borrow.Author.Needs.{needs}
 use Rattle.disc_save.proofs.put_list.Statement.{statement}

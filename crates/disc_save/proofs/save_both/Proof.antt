@@ -1,5 +1,5 @@
 use mathlib.Core.Path.{refl}
-use Rattle.index.specs.Index.{Tables, tables}
+use Rattle.tables.specs.Index.{Tables, tables}
 use Rattle.disc_save.proofs.Answers.{both-refused, both-pass, both-saved}
 use borrow.Author.Needs.{needs}
 use Rattle.disc_save.proofs.save_both.Statement.{statement}

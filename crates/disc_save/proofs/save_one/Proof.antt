@@ -1,5 +1,5 @@
 use mathlib.Core.Path.{sym, _∙_}
-use Rattle.index.specs.Index.{Tables, tables}
+use Rattle.tables.specs.Index.{Tables, tables}
 use Rattle.disc_save.proofs.Answers.{one-refused, one-saved}
 use borrow.Author.Needs.{needs}
 use Rattle.disc_save.proofs.save_one.Statement.{statement}

@@ -1,6 +1,6 @@
 use mathlib.Core.Path.{refl, sym, _∙_}
 use borrow.Author.Tests.{ltb-true, ltb-false}
-use Rattle.index.specs.Index.{Tables, tables, indexIn}
+use Rattle.tables.specs.Index.{Tables, tables, indexIn}
 use Rattle.disc_save.proofs.Answers.{first-by-slot, second-by-slot}
 use borrow.Author.Needs.{needs}
 use Rattle.disc_save.proofs.write_by_slot.Statement.{statement}

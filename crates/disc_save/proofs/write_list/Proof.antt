@@ -3,7 +3,7 @@ use mathlib.Core.List.{[], _∷_}
 use lib.ListN.{length}
 use native.Mathlib.Omega.{arith}
 use borrow.Author.Tests.{leb-true, leb-false, not-true, not-false}
-use Rattle.index.specs.Index.{Tables, tables, indexIn}
+use Rattle.tables.specs.Index.{Tables, tables, indexIn}
 use Rattle.save.proofs.Saving.{framed}
 use Rattle.disc_save.proofs.Files.{file-of-one}
 use Rattle.disc_save.proofs.Answers.{one-contents, one-small, one-length, as-broken, as-short, as-done}

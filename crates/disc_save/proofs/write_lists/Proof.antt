@@ -4,7 +4,7 @@ use Prim.Native.Nat.{_+_}
 use lib.ListN.{length}
 use native.Mathlib.Omega.{arith}
 use borrow.Author.Tests.{leb-true, leb-false, not-true, not-false}
-use Rattle.index.specs.Index.{Tables, tables, indexIn}
+use Rattle.tables.specs.Index.{Tables, tables, indexIn}
 use Rattle.save.proofs.Saving.{framed}
 use Rattle.disc_save.proofs.Files.{file-of-two}
 use Rattle.disc_save.proofs.Answers.{two-contents, two-small, two-length, as-broken, as-short, as-done}

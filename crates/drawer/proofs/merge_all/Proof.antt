@@ -1,6 +1,6 @@
 use mathlib.Core.Path.{refl}
 use borrow.Author.Tests.{not-true, not-false}
-use Rattle.index.specs.Index.{Tables, tables}
+use Rattle.tables.specs.Index.{Tables, tables}
 use Rattle.drawer.proofs.Answers.{call-refused, turns-of, call-done}
 use Rattle.drawer.proofs.merge_all.Statement.{statement}
 use Rattle.drawer.proofs.merge_all.Tie as tie

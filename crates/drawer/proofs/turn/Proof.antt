@@ -1,7 +1,7 @@
 use mathlib.Core.Path.{refl}
 use native.Mathlib.Omega.{arith}
 use Rattle.field.specs.Records.{Bytes}
-use Rattle.index.specs.Index.{Tables, tables}
+use Rattle.tables.specs.Index.{Tables, tables}
 use Rattle.drawer.proofs.Turning.{commits, turned}
 use Rattle.drawer.proofs.turn.Statement.{statement}
 use Rattle.drawer.proofs.turn.Tie as tie

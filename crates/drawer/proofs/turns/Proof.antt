@@ -1,6 +1,6 @@
 use Prim.Native.Nat.{_-_}
 use native.Mathlib.Omega.{arith}
-use Rattle.index.specs.Index.{tables}
+use Rattle.tables.specs.Index.{tables}
 use Rattle.drawer.specs.Turns.{Turns}
 use Rattle.drawer.proofs.Turning.{At, at-start, at-turn, at-next, at-end}
 use Rattle.drawer.proofs.turns.Statement.{statement}

@@ -1,4 +1,4 @@
-use Rattle.index.specs.Index.{tables}
+use Rattle.tables.specs.Index.{tables}
 use Rattle.hint_recorder.proofs.Recorder.{created-no, created-unspaced, created-none, created-yes}
 use borrow.Author.Needs.{needs}
 use Rattle.hint_recorder.proofs.hint_recorder.Statement.{statement}

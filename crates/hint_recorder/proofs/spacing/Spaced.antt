@@ -6,7 +6,7 @@ use lib.Dec.{leb, ltb}
 use Rattle.rules.specs.declared.LastListed.{LastListed}
 use Rattle.rules.specs.declared.LastListed.the-variants.{Never, Number}
 use Rattle.rules.specs.Hints.{spaced}
-use Rattle.hint_recorder.specs.Numbers.{lastIn}
+use Rattle.tables.specs.HintRecorder.{lastIn}
 
 pub never-spaced : {l : LastListed} (spacing t : ℕ) → l ≡ Never → true ≡ spaced (lastIn l) spacing t
 unfolding spaced lastIn

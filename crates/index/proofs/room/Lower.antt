@@ -2,7 +2,7 @@
 use mathlib.Core.Path.{_≡_, sym, _∙_}
 use Prim.Native.Nat.{ℕ, min}
 use borrow.Author.Tests.{ne-eqb}
-use Rattle.index.specs.Lowest.{lowest}
+use Rattle.tables.specs.Index.{lowest}
 
 module _ (m n : ℕ) where
   pub lowest-right : m ≡ 0 → n ≡ lowest m n

@@ -1,4 +1,4 @@
-use Rattle.index.specs.Index.{Tables, tables}
+use Rattle.tables.specs.Index.{Tables, tables}
 use Rattle.load.proofs.Filling.{Fits, ready-inside, ready-fits, ready-filled}
 use Rattle.load.proofs.commit.Statement.{statement}
 use Rattle.load.proofs.commit.Tie as tie

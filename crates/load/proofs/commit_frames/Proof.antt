@@ -7,7 +7,7 @@ use Rattle.field.specs.Records.{bytesOf}
 use Rattle.rules.specs.Values.{used}
 use Rattle.rules.specs.File.{encodeFrameHeader}
 use Rattle.tables.specs.Files.{framesRead}
-use Rattle.index.specs.Index.{storeOf}
+use Rattle.tables.specs.Index.{storeOf}
 use Rattle.load.proofs.limit.Frames.{Moving, move-start, move-room, move-on, move-end, moved-all}
 use borrow.Author.Needs.{needs}
 use Rattle.load.proofs.commit_frames.Statement.{statement}

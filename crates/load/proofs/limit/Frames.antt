@@ -16,7 +16,7 @@ use Rattle.rules.specs.Load.{fitting}
 use Rattle.laws.proofs.Length.{length-each}
 use Rattle.tables.specs.Files.{placeAt, listed, frameHere, frameFollows, framesRead}
 use Rattle.tables.proofs.Files.{place-first, place-shift, place-inside}
-use Rattle.index.specs.Index.{storeOf}
+use Rattle.tables.specs.Index.{storeOf}
 use Rattle.index.proofs.Store.{store-length}
 use Rattle.load.specs.Limit.{lengthHere, Moved}
 

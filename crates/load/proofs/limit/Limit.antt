@@ -29,7 +29,7 @@ use Rattle.laws.proofs.hint_lists.Thinning.{thin-length}
 use Rattle.laws.proofs.hint_lists.Lists.{last-length}
 use Rattle.tables.specs.Tables.{partsIn}
 use Rattle.tables.specs.Files.{placeAt, framesRead}
-use Rattle.index.specs.Index.{numbersFrom}
+use Rattle.tables.specs.Index.{numbersFrom}
 use Rattle.inspect.specs.declared.Found.{Found}
 use Rattle.load.specs.Limit.{listIn, limitedIn, Accepts, framesAt, partsAt}
 use Rattle.load.proofs.limit.Sections.{Laid, laid}

@@ -4,7 +4,7 @@ use Prim.Native.Nat.{ℕ}
 use Rattle.rules.specs.declared.ImageId.{ImageId}
 use Rattle.rules.specs.declared.ImageId.the-variants.{Anonymous, Id}
 use Rattle.rules.specs.Tests.{orElse}
-use Rattle.sections.specs.Numbers.{idIn, idFrom}
+use Rattle.tables.specs.Index.{idIn, idFrom}
 
 image-back : (b : ImageId) → b ≡ idFrom (idIn b)
 unfolding idFrom idIn

@@ -12,7 +12,7 @@ use Rattle.rules.specs.Values.{boundaries, used}
 use Rattle.rules.specs.File.{decodeCheckpoint}
 use Rattle.rules.proofs.Tests.{test}
 use Rattle.tables.specs.Tables.{framesIn, partsIn}
-use Rattle.index.specs.Index.{Tables}
+use Rattle.tables.specs.Index.{Tables}
 use Rattle.index.proofs.Questions.{space, passes-long, passes-kinds, passes-store}
 use Rattle.parts.specs.declared.Counts.{Counts}
 use Rattle.parts.specs.Parts.{PartTables, partTables}

@@ -14,8 +14,7 @@ use Rattle.rules.specs.Questions.{both, fourOf, askFour}
 use Rattle.rules.specs.File.{decodeCheckpoint}
 use Rattle.rules.specs.Merge.{question41, question42, question43, further, mergeNumber}
 use Rattle.rules.proofs.Tests.{test, asked}
-use Rattle.index.specs.Index.{Tables, roomOf, indexIn, kindsIn, kindedNumber, kinded, refusal}
-use Rattle.index.specs.Lowest.{lowest}
+use Rattle.tables.specs.Index.{Tables, roomOf, indexIn, kindsIn, kindedNumber, kinded, refusal, lowest}
 use Rattle.index.proofs.Four.{Later, number-more, kinded-more, lowest-both}
 use Rattle.index.proofs.Questions.{passes, passes-long}
 use Rattle.merge.specs.Join.{mergeRefusal}

@@ -20,9 +20,8 @@ use Rattle.rules.proofs.Tests.{test}
 use Rattle.laws.proofs.hint_lists.Hints.{joined-none, joined-cases, limitedTo-keeps, insertAll-length}
 use Rattle.laws.proofs.hint_lists.Thinning.{thin-length}
 use Rattle.laws.proofs.Marks.{unkept-length}
-use Rattle.tables.specs.Tables.{encodeKept, decodeKept, keptIn}
+use Rattle.tables.specs.Tables.{encodeKept, decodeKept, keptIn, decodeUnkept}
 use Rattle.tables.proofs.Kept.{kept-layout}
-use Rattle.add_hints.specs.Merged.{decodeUnkept}
 use Rattle.add_hints.proofs.Arriving.{unkept-in}
 use Rattle.add_hints.specs.JoinedMerged.{joinedIn, touched, clearedTo}
 use Rattle.merge.specs.TakeNeeds.{HintsReady, listed, writtenTo, hintsJoined}

@@ -6,7 +6,7 @@ use Prim.Native.Nat.{ℕ, _≤_}
 use lib.ListN.{length}
 use Rattle.rules.specs.declared.AreaIndex.{AreaIndex}
 use Rattle.blocks.specs.IsHead.{isIndex}
-use Rattle.index.specs.Index.{Tables}
+use Rattle.tables.specs.Index.{Tables}
 use Rattle.lacks.specs.Lacks.{lackedOf, lacksIn}
 use Rattle.rules_lacks.specs.declared.Lacked.{Lacked}
 use Rattle.player.specs.Block.{called, into, headIndex}

@@ -1,5 +1,5 @@
 use mathlib.Core.Path.{refl}
-use Rattle.index.specs.Index.{Tables, tables}
+use Rattle.tables.specs.Index.{Tables, tables}
 use Rattle.player.specs.Calls.{mergeCall, mergeCallAs}
 use Rattle.player.proofs.block.Blocks.{no-workshop, is-workshop, no-head, is-head, known, known-long}
 use Rattle.player.proofs.Answers.{merge-done}

@@ -8,7 +8,7 @@ use Rattle.rules.specs.declared.AreaIndex.{AreaIndex}
 use Rattle.rules.specs.Tests.{ask, firstNo}
 use Rattle.rules_view.specs.View.{isRole}
 use Rattle.blocks.specs.IsHead.{isIndex}
-use Rattle.index.specs.Index.{Tables}
+use Rattle.tables.specs.Index.{Tables}
 use Rattle.rules.specs.declared.Viewed.{Viewed}
 use Rattle.rules.specs.declared.Viewed.the-variants as answer
 use Rattle.view.specs.View.{viewed, viewedOf, viewIn, viewSizeIn, blockRefusal}

@@ -1,5 +1,5 @@
 use Rattle.rules.specs.declared.Area.{Area}
-use Rattle.index.specs.Index.{Tables, tables}
+use Rattle.tables.specs.Index.{Tables, tables}
 use Rattle.player.specs.Block.{areaFrom}
 use Rattle.player_disc.specs.Calls.{discLoadCall, discLoadCallAs}
 use Rattle.player.proofs.block.Blocks.{no-workshop, is-workshop, too-short, long-enough}

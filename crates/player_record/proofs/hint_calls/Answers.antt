@@ -10,7 +10,7 @@ use Rattle.rules.specs.declared.HintRecorder.{HintRecorder}
 use Rattle.blocks.specs.Head.{hintRecorderWords}
 use Rattle.blocks.specs.IsHead.{isIndex, isHintRecorder}
 use Rattle.rules.specs.Tests.{numberOf}
-use Rattle.index.specs.Index.{Tables, out}
+use Rattle.tables.specs.Index.{Tables, out}
 use Rattle.rules.specs.declared.Made.{Made}
 use Rattle.index.specs.Calls.{madeOf}
 use Rattle.keep_hint.specs.Keep.{keepHintIn}

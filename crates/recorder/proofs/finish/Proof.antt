@@ -1,4 +1,4 @@
-use Rattle.sections.specs.Numbers.{endIn}
+use Rattle.tables.specs.Index.{endIn}
 use Rattle.index.proofs.Questions.{range}
 use Rattle.recorder.proofs.Calls.{passes-roomy, passes-long, finished-no, finished-5, finished-6, finished-yes}
 use borrow.Author.Needs.{needs}

@@ -39,10 +39,10 @@ use Rattle.parts.specs.Needs.{Room}
 use Rattle.parts.proofs.Stored.{over-more}
 use Rattle.parts.proofs.Callers.{room-from}
 use Rattle.rules.specs.declared.Recorded.the-variants as recorded
-use Rattle.recorder.specs.Recorder.{RecorderTables, recorderTables, recorderRoom, recorderIn, recorderKinds, recorderRefusal, recorderFrom, recorderOver}
+use Rattle.tables.specs.Recorder.{RecorderTables, recorderTables, recorderRoom, recorderIn, recorderKinds, recorderRefusal, recorderFrom, recorderOver, assemblingIn}
 use Rattle.recorder.specs.Needs.{recorderHeld, Roomy, Long}
 use Rattle.recorder.proofs.Calls.{passes-roomy, passes-held, passes-long}
-use Rattle.recorder.specs.Record.{assemblingIn, recorderOut, recordOut, recordIn}
+use Rattle.recorder.specs.Record.{recorderOut, recordOut, recordIn}
 use Rattle.recorder.specs.RecordNeeds.{dueIn, risesIn, startsIn, assembledIn, recordNumber, advancedOf}
 
 -- ---- 5 to 7

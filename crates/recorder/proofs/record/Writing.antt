@@ -21,7 +21,7 @@ use Rattle.parts.specs.declared.Counts.{Counts}
 use Rattle.parts.specs.Parts.{PartTables, storedIn, Held, held, heldFrom}
 use Rattle.parts.specs.Needs.{Room}
 use Rattle.parts.proofs.Stored.{stays}
-use Rattle.recorder.specs.Record.{assemblingIn}
+use Rattle.tables.specs.Recorder.{assemblingIn}
 use Rattle.recorder.specs.RecordNeeds.{assembledIn}
 
 pub checkpoint-put : {t1 t2 t3 t4 : List ℕ} (t : List ℕ) (k : ℕ) (c : Checkpoint) → t1 ≡ put 4 t k (c .threshold) → t2 ≡ put 4 t1 (k + 4) (c .back) → t3 ≡ put 8 t2 (k + 8) (c .malformed)

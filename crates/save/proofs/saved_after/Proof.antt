@@ -3,7 +3,7 @@ use mathlib.Core.Path.{refl, sym, _∙_}
 use native.Mathlib.Omega.{arith}
 use borrow.Author.Tests.{leb-true, leb-false, not-true, not-false}
 use lib.ListN.{length}
-use Rattle.index.specs.Index.{Tables, tables}
+use Rattle.tables.specs.Index.{Tables, tables}
 use borrow.Author.Needs.{needs}
 use Rattle.save.proofs.saved_after.Statement.{statement}
 use Rattle.save.proofs.saved_after.Tie as tie

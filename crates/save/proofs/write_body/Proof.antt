@@ -2,7 +2,7 @@ use Rattle.save.proofs.output.Sums.{summed-both}
 use Rattle.save.proofs.Sections.{header-summed, summed-same}
 use Rattle.save.proofs.Numbers.{sizes-are, body-is}
 use native.Mathlib.Omega.{arith}
-use Rattle.index.specs.Index.{Tables, tables}
+use Rattle.tables.specs.Index.{Tables, tables}
 use borrow.Author.Needs.{needs}
 use Rattle.save.proofs.write_body.Statement.{statement}
 use Rattle.save.proofs.write_body.Tie as tie

@@ -3,7 +3,7 @@ use Rattle.save.proofs.Sections.{sum-behind}
 use native.Mathlib.Omega.{arith}
 use Rattle.rules.specs.File.{saved}
 use Rattle.rules.specs.Values.{Index}
-use Rattle.index.specs.Index.{indexIn, tables}
+use Rattle.tables.specs.Index.{indexIn, tables}
 use borrow.Author.Needs.{needs}
 use Rattle.save.proofs.write_saved.Statement.{statement}
 use Rattle.save.proofs.write_saved.Tie as tie

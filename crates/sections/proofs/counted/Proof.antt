@@ -1,4 +1,4 @@
-use Rattle.sections.specs.Numbers.{endIn}
+use Rattle.tables.specs.Index.{endIn}
 use Rattle.rules.specs.Values.{counted}
 use borrow.Author.Needs.{needs}
 use Rattle.sections.proofs.counted.Statement.{statement}

@@ -1,4 +1,4 @@
-use Rattle.sections.specs.Numbers.{endIn}
+use Rattle.tables.specs.Index.{endIn}
 use Rattle.rules.specs.Values.{frontierOf}
 use Rattle.rules.proofs.Frontier.{frontier-open}
 use mathlib.Core.Path.{_∙_, sym}

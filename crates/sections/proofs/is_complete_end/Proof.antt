@@ -1,4 +1,4 @@
-use Rattle.sections.specs.Numbers.{endIn}
+use Rattle.tables.specs.Index.{endIn}
 use Rattle.rules.specs.Tests.{isSome}
 use borrow.Author.Needs.{needs}
 use Rattle.sections.proofs.is_complete_end.Statement.{statement}

@@ -1,5 +1,5 @@
 use mathlib.Core.Path.{refl}
-use Rattle.index.specs.Index.{Tables, tables}
+use Rattle.tables.specs.Index.{Tables, tables}
 use Rattle.save.proofs.Saving.{framed}
 use Rattle.sizes.proofs.Files.{length-refused, length-told}
 use Rattle.sizes.proofs.length_after.Statement.{statement}

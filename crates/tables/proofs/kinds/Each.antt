@@ -9,7 +9,7 @@ use Rattle.field.specs.Number.{numberAt}
 use Rattle.field.specs.Records.{records, recordAt}
 use Rattle.field.proofs.Number.{number-part}
 use Rattle.rules.specs.Tests.{each, walk}
-use Rattle.tables.specs.Kinds.{kindsOk}
+use Rattle.tables.specs.Index.{kindsOk}
 
 -- with no state
 abbrev pub still : {A : Type 0} → (A → Bool) → ℕ → A → Bool

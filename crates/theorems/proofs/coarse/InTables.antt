@@ -9,7 +9,7 @@ use Rattle.laws.specs.Statements.{Savable}
 use Rattle.laws.proofs.Facts.{facts}
 use Rattle.rules_coarsen.specs.Coarse.{coarser, coarseNumber, coarse}
 use Rattle.rules.specs.declared.Made.the-variants as made
-use Rattle.index.specs.Index.{Tables, roomOf, indexIn, kindedNumber, refusal, numbersFrom, tablesFrom, out, outOf}
+use Rattle.tables.specs.Index.{Tables, roomOf, indexIn, kindedNumber, refusal, numbersFrom, tablesFrom, out, outOf}
 use Rattle.index.proofs.Lent.{sized-in}
 use Rattle.index.proofs.Questions.{passes, passes-kinds}
 use Rattle.index.proofs.Standing.{stands, kinds-from, within, room-from}

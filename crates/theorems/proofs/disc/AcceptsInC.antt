@@ -18,7 +18,7 @@ use Rattle.blocks.specs.Head.{blockOf, indexWords}
 use Rattle.blocks.specs.IsHead.{isBlock}
 use Rattle.blocks.specs.RoundTrip.{IndexFits}
 use Rattle.blocks.proofs.RoundTrip.{index-back}
-use Rattle.index.specs.Index.{Tables, roomOf, indexIn, numbersFrom, tablesFrom}
+use Rattle.tables.specs.Index.{Tables, roomOf, indexIn, numbersFrom, tablesFrom}
 use Rattle.index.proofs.Standing.{stands}
 use Rattle.player.specs.Block.{headIndex, inBlock, inHead, savedNumber}
 use Rattle.disc_load.specs.Calls.{listedFrom, tablesWith, discOutOf, loadDiscIn}

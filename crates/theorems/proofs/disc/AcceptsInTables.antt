@@ -17,7 +17,7 @@ use Rattle.rules_disc.specs.Disc.{entriesIn, entryOf, bodyOf, saveBoth}
 use Rattle.laws.specs.Statements.{Savable}
 use Rattle.laws.proofs.Loaded.{loaded-valid}
 use Rattle.rules.specs.Questions.{question1}
-use Rattle.index.specs.Index.{roomOf, indexIn, kindsIn, kinded}
+use Rattle.tables.specs.Index.{roomOf, indexIn, kindsIn, kinded}
 use Rattle.index.proofs.Lent.{sized-in}
 use Rattle.save.specs.Save.{saveOut}
 use Rattle.disc_save.specs.Calls.{saveOneIn, saveBothIn}

@@ -15,7 +15,7 @@ use Rattle.rules_disc.specs.Disc.{saveOne, saveBoth, loadDisc}
 use Rattle.blocks.specs.Head.{blockOf, indexWords}
 use Rattle.blocks.specs.IsHead.{isBlock, isIndex}
 use Rattle.rules.specs.declared.Made.the-variants as made
-use Rattle.index.specs.Index.{Tables, roomOf, indexIn, kindsIn, numbersFrom, out, outOf}
+use Rattle.tables.specs.Index.{Tables, roomOf, indexIn, kindsIn, numbersFrom, out, outOf}
 use Rattle.index.specs.Calls.{madeOf}
 use Rattle.save.specs.Save.{saveOut, saveIn}
 use Rattle.rules_disc.specs.declared.Listed.{Listed}

@@ -16,8 +16,8 @@ use Rattle.rules.specs.File.{over}
 use Rattle.rules_disc.specs.Disc.{Disc, entriesIn, entryOf, saveOne, saveBoth, loadDisc}
 use Rattle.laws.specs.Statements.{Savable, stripped}
 use Rattle.laws.proofs.Facts.{facts}
-use Rattle.index.specs.Index.{Tables, roomOf, indexIn, numbersFrom, tablesFrom, kindsIn, kinded}
-use Rattle.index.specs.Lent.{Typed, TableBytes}
+use Rattle.tables.specs.Index.{Tables, roomOf, indexIn, numbersFrom, tablesFrom, kindsIn, kinded}
+use Rattle.tables.specs.Lent.{Typed, TableBytes}
 use Rattle.index.proofs.Lent.{sized-in}
 use Rattle.index.proofs.Standing.{stands, kinds-from, within, room-from}
 use Rattle.rules.specs.declared.Saved.the-variants.{Length}

@@ -12,8 +12,7 @@ use Rattle.rules.specs.Values.{Index}
 use Rattle.rules_disc.specs.Disc.{slotOf, contentsOf, listed, bodiesLength, discLength, discBytes, saveLists, saveOne, bySlot, saveBoth}
 use Rattle.rules.proofs.Tests.{test}
 use Rattle.laws.proofs.Length.{savedLength-is}
-use Rattle.index.specs.Index.{indexIn, orFour, kinded, refusal}
-use Rattle.index.specs.Lowest.{lowest}
+use Rattle.tables.specs.Index.{indexIn, orFour, kinded, refusal, lowest}
 use Rattle.rules.specs.declared.Saved.{Saved}
 use Rattle.rules.specs.declared.Saved.the-variants as told
 use Rattle.save.specs.Save.{SaveOut, made, saveOut}

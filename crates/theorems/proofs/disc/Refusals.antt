@@ -19,7 +19,7 @@ use Rattle.rules.proofs.Tests.{test, both, →asked, →bind}
 use Rattle.laws.proofs.Length.{savedLength-is}
 use Rattle.blocks.specs.IsHead.{isIndex}
 use Rattle.rules_disc.specs.Disc.{slotOf, slotArea, contentsOk, contentsOf, listed, saveLists, saveOne, bySlot, saveBoth, loadBody, loadBodies, loadDisc}
-use Rattle.index.specs.Index.{roomOf, indexIn, kindsIn}
+use Rattle.tables.specs.Index.{roomOf, indexIn, kindsIn}
 use Rattle.save.specs.Save.{saveOut}
 use Rattle.disc_load.specs.Calls.{discOutOf, loadDiscIn}
 use Rattle.disc_save.specs.Calls.{saveOneIn, saveBothIn}

@@ -23,7 +23,7 @@ use Rattle.laws.specs.Statements.{Savable, stripped}
 use Rattle.blocks.specs.Head.{blockOf, indexWords}
 use Rattle.blocks.specs.IsHead.{isBlock, isIndex}
 use Rattle.blocks.proofs.RoundTrip.{index-back, index-is-head}
-use Rattle.index.specs.Index.{Tables, roomOf, indexIn, numbersFrom}
+use Rattle.tables.specs.Index.{Tables, roomOf, indexIn, numbersFrom}
 use Rattle.rules.specs.declared.Saved as declared
 use Rattle.rules.specs.declared.Saved.the-variants as told
 use Rattle.save.specs.Save.{SaveOut}

@@ -12,7 +12,7 @@ use Rattle.rules.specs.Questions.{areaOk}
 use Rattle.rules.specs.Load.{fromBytes, limited}
 use Rattle.rules_disc.specs.Disc.{entriesIn, entryOf, contentsOk, bodyOf, slotArea, loadBody, loadBodies, loadDisc}
 use Rattle.rules.proofs.Tests.{asked→, →asked, accepted-eq, bind→, →bind}
-use Rattle.index.specs.Index.{Tables, roomOf}
+use Rattle.tables.specs.Index.{Tables, roomOf}
 use Rattle.rules.specs.declared.TableSizes.{TableSizes}
 use Rattle.sizes.specs.Sizes.{hasSizes, sizesFor, fileSizes}
 use Rattle.theorems.specs.Player.{loadWithout3}

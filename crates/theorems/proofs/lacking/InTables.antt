@@ -18,7 +18,7 @@ use Rattle.rules_jump.proofs.Values.{named-some, some-named}
 use Rattle.rules.proofs.Tests.{both, and-left, and-right, all→, after→, accepted→, →after}
 use Rattle.adds.specs.Brings.{bringsOf, brings}
 use Rattle.rules.proofs.Same.{sameArea-eq}
-use Rattle.index.specs.Index.{Tables, roomOf, indexIn, kindsIn, kinded, refusal}
+use Rattle.tables.specs.Index.{Tables, roomOf, indexIn, kindsIn, kinded, refusal}
 use Rattle.index.specs.Needs.{Passes}
 use Rattle.index.proofs.Questions.{passes}
 use Rattle.index.proofs.Lent.{store-is}

@@ -24,7 +24,7 @@ use Rattle.rules.proofs.Tests.{test}
 use Rattle.rules.proofs.Walk.{walk-rises}
 use Rattle.laws.proofs.scans.Parts.{keep, atAfter, part→, follows→, HeldIs, part-at}
 use Rattle.laws.proofs.scans.Scans.{ScanIs}
-use Rattle.index.specs.Index.{storeOf}
+use Rattle.tables.specs.Index.{storeOf}
 use Rattle.index.proofs.Store.{store-part}
 use Rattle.plan.specs.Needs.{storedOf}
 use Rattle.rules_lacks.specs.Lacks.{covers, samePart}

@@ -17,7 +17,7 @@ use Rattle.rules.specs.Merge.{mergeNumber}
 use Rattle.rules.proofs.Tests.{test, and-left, all→, →all, accepted→}
 use Rattle.rules_lacks.specs.declared.Lacks.{Lacks}
 use Rattle.rules_lacks.specs.Lacks.{anyOf, missing, lacking, holdsAll, lacks}
-use Rattle.index.specs.Index.{Tables, roomOf, indexIn, kindsIn, orFour, kinded}
+use Rattle.tables.specs.Index.{Tables, roomOf, indexIn, kindsIn, orFour, kinded}
 use Rattle.lacks.specs.Lacks.{lacksIn}
 use Rattle.blocks.specs.From.{indexFrom}
 use Rattle.blocks.specs.Head.{wordsIn, blockOf}

@@ -1,4 +1,4 @@
-use Rattle.index.specs.Index.{Tables, tables}
+use Rattle.tables.specs.Index.{Tables, tables}
 use Rattle.view.proofs.Views.{length-refused, length-told}
 use borrow.Author.Needs.{needs}
 use Rattle.view.proofs.view_length.Statement.{statement}

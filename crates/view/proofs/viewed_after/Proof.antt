@@ -4,7 +4,7 @@ use mathlib.Core.List.{[]}
 use native.Mathlib.Omega.{arith}
 use borrow.Author.Tests.{leb-true, leb-false, not-true, not-false}
 use lib.ListN.{length}
-use Rattle.index.specs.Index.{Tables, tables}
+use Rattle.tables.specs.Index.{Tables, tables}
 use borrow.Author.Needs.{needs}
 use Rattle.view.proofs.viewed_after.Statement.{statement}
 use Rattle.view.proofs.viewed_after.Tie as tie

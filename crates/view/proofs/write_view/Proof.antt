@@ -1,6 +1,6 @@
 use mathlib.Core.List.{[]}
 use native.Mathlib.Omega.{arith}
-use Rattle.index.specs.Index.{Tables, tables}
+use Rattle.tables.specs.Index.{Tables, tables}
 use Rattle.view.proofs.Views.{listener-room, workshop-room, listener-written, workshop-written}
 use borrow.Author.Needs.{needs}
 use Rattle.view.proofs.write_view.Statement.{statement}

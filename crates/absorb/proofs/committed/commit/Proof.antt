@@ -1,6 +1,6 @@
 use Prim.Native.Nat.{ℕ}
 use mathlib.Core.List.{List}
-use Rattle.index.specs.Index.{Tables, tables}
+use Rattle.tables.specs.Index.{Tables, tables}
 use Rattle.absorb.proofs.questions.Twelve.{end-is}
 use Rattle.absorb.proofs.committed.Ready.{appends, parts-ready}
 use Rattle.absorb.proofs.committed.Steps.{takes-below, committed}

@@ -1,5 +1,5 @@
 use Rattle.rules.specs.Tests.{orElse}
-use Rattle.sections.specs.Numbers.{endIn}
+use Rattle.tables.specs.Index.{endIn}
 use borrow.Author.Needs.{needs}
 use Rattle.absorb.proofs.tests.or_else.Statement.{statement}
 use Rattle.absorb.proofs.tests.or_else.Tie as tie

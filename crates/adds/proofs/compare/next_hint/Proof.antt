@@ -1,7 +1,6 @@
 use Rattle.adds.proofs.compare.Passing.{unkept-at, other-inside, own-inside, both-inside, turn-new, turn-held, turn-both}
 use Rattle.adds.proofs.keys.Laws.{read-turn}
-use Rattle.tables.specs.Tables.{decodeKept}
-use Rattle.add_hints.specs.Merged.{decodeUnkept}
+use Rattle.tables.specs.Tables.{decodeKept, decodeUnkept}
 use native.Mathlib.Omega.{arith}
 use borrow.Author.Needs.{needs}
 use Rattle.adds.proofs.compare.next_hint.Statement.{statement}

@@ -1,6 +1,5 @@
 use Rattle.adds.proofs.compare.Passing.{Weighing, weigh-start, weigh-on, weigh-end}
-use Rattle.tables.specs.Tables.{decodeKept, keptIn}
-use Rattle.add_hints.specs.Merged.{decodeUnkept, unkeptIn}
+use Rattle.tables.specs.Tables.{decodeKept, keptIn, decodeUnkept, unkeptIn}
 use Rattle.field.proofs.Records.{records-length}
 use Prim.Native.Nat.{_+_, _-_}
 use borrow.Author.Needs.{needs}

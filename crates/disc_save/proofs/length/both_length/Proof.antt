@@ -1,5 +1,5 @@
 use mathlib.Core.Path.{refl}
-use Rattle.index.specs.Index.{Tables, tables}
+use Rattle.tables.specs.Index.{Tables, tables}
 use Rattle.save.proofs.Saving.{framed}
 use Rattle.disc_save.proofs.length.Lengths.{both-refused, both-pass, both-told}
 use borrow.Author.Needs.{needs}

@@ -1,7 +1,7 @@
 use mathlib.Core.Path.{refl}
 use native.Mathlib.Omega.{arith}
 use borrow.Author.Tests.{not-true, not-false}
-use Rattle.index.specs.Index.{Tables, tables}
+use Rattle.tables.specs.Index.{Tables, tables}
 use Rattle.save.proofs.Saving.{framed}
 use Rattle.disc_save.proofs.length.Lengths.{one-refused, one-broken, one-told, one-fits}
 use borrow.Author.Needs.{needs}

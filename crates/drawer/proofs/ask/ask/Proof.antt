@@ -1,7 +1,7 @@
 use borrow.Author.Tests.{not-true, not-false}
 use Rattle.field.specs.Records.{Bytes}
-use Rattle.index.specs.Index.{Tables, tables}
-use Rattle.index.specs.Lent.{TableBytes}
+use Rattle.tables.specs.Index.{Tables, tables}
+use Rattle.tables.specs.Lent.{TableBytes}
 use Rattle.drawer.proofs.Answers.{typed, own-refused, size-refused, few-files, file-refuses, pairs-ready, pairs-decide}
 use Rattle.drawer.proofs.ask.ask.Statement.{statement}
 use Rattle.drawer.proofs.ask.ask.Tie as tie

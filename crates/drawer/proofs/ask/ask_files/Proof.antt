@@ -1,7 +1,7 @@
 use Prim.Native.Nat.{_-_, _≤_}
 use mathlib.Core.Path.{sym, _∙_}
 use native.Mathlib.Omega.{arith}
-use Rattle.index.specs.Index.{tables}
+use Rattle.tables.specs.Index.{tables}
 use Rattle.rules_drawer.specs.Drawer.{lengthsIn}
 use Rattle.drawer.proofs.Asking.{Asking, length-at, few-lengths, lengths-count, asking-none, asking-refused, asking-on, asking-done}
 use borrow.Author.Needs.{needs}

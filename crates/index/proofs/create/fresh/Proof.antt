@@ -1,4 +1,4 @@
-use Rattle.sections.specs.Numbers.{endFrom, idFrom}
+use Rattle.tables.specs.Index.{endFrom, idFrom}
 use Rattle.index.specs.CreateNeeds.{freshOf}
 use borrow.Author.Needs.{needs}
 use Rattle.index.proofs.create.fresh.Statement.{statement}

@@ -1,4 +1,4 @@
-use Rattle.index.specs.Room.{hintRoom}
+use Rattle.tables.specs.Index.{hintRoom}
 use Rattle.rules.specs.Questions.{hintingRoom}
 use Rattle.rules.specs.Tests.{all}
 use mathlib.Core.Bool.{and-true}

@@ -1,5 +1,5 @@
 use borrow.Author.Tests.{not-true, not-false}
-use Rattle.sections.specs.Numbers.{endFrom, endIn}
+use Rattle.tables.specs.Index.{endFrom, endIn}
 use borrow.Author.Needs.{needs}
 use Rattle.inspect.proofs.questions.ending_of.Statement.{statement}
 use Rattle.inspect.proofs.questions.ending_of.Tie as tie

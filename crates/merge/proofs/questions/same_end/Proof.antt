@@ -1,4 +1,4 @@
-use Rattle.sections.specs.Numbers.{endIn}
+use Rattle.tables.specs.Index.{endIn}
 use Rattle.rules.specs.Tests.{agree}
 use borrow.Author.Needs.{needs}
 use Rattle.merge.proofs.questions.same_end.Statement.{statement}

@@ -1,4 +1,4 @@
-use Rattle.sections.specs.Numbers.{idIn}
+use Rattle.tables.specs.Index.{idIn}
 use Rattle.rules.specs.Tests.{agree}
 use borrow.Author.Needs.{needs}
 use Rattle.merge.proofs.questions.same_image.Statement.{statement}

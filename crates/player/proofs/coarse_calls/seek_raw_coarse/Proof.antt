@@ -1,4 +1,4 @@
-use Rattle.index.specs.Index.{Tables, tables}
+use Rattle.tables.specs.Index.{Tables, tables}
 use Rattle.player.specs.CoarseCalls.{coarseCall}
 use Rattle.player.proofs.block.Blocks.{too-short, no-head, is-head, known, known-long}
 use Rattle.player.proofs.coarse_calls.Answers.{coarse-done}

@@ -1,5 +1,5 @@
 use Rattle.rules.specs.Record.{backOf}
-use Rattle.recorder.specs.Record.{assemblingIn}
+use Rattle.tables.specs.Recorder.{assemblingIn}
 use borrow.Author.Needs.{needs}
 use Rattle.recorder.proofs.record.back_of.Statement.{statement}
 use Rattle.recorder.proofs.record.back_of.Tie as tie

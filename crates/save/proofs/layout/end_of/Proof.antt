@@ -1,4 +1,4 @@
-use Rattle.sections.specs.Numbers.{endIn}
+use Rattle.tables.specs.Index.{endIn}
 use Rattle.rules.specs.File.{endOrZero}
 use borrow.Author.Needs.{needs}
 use Rattle.save.proofs.layout.end_of.Statement.{statement}

@@ -1,5 +1,5 @@
 use Rattle.tables.proofs.kinds.Each.{still, same, kindOk, itself, kinds-are, kind-no, kind-yes}
-use Rattle.tables.specs.Kinds.{kindsOk}
+use Rattle.tables.specs.Index.{kindsOk}
 use Rattle.tables.proofs.Walk.{Walk, walk-start, walk-on, walk-stop, walk-end}
 use native.Mathlib.Omega.{arith}
 use Prim.Native.Nat.{_-_}

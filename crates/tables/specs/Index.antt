@@ -1,24 +1,97 @@
 -- How the numbers of an index and its seven lent tables stand for its value.
-use Prim.Native.Nat.{ℕ, _-_, _*_}
+use Prim.Native.Nat.{ℕ, _/_, _-_, _*_, min}
 use mathlib.Core.Bool.{Bool, _&&_, cond}
 use mathlib.Core.List.{List, [], _∷_, _++_}
-use lib.Dec.{leb, ltb}
 use lib.ListN.{length, replicate}
-use Rattle.field.specs.Records.{bytesOf}
+use mathlib.Core.Option.{Option, none, some}
+use lib.Dec.{leb, ltb, eqb}
 use Rattle.rules.specs.declared.AreaIndex.{AreaIndex}
-use Rattle.rules.specs.Tests.{Answer, Refused, Accepted, after, numberOf, ask, firstNo}
-use Rattle.rules.specs.Values.{Frame, Index, frontierOf}
-use Rattle.rules.specs.Questions.{areaOk, question1, question2, question3, four}
-use Rattle.rules.specs.File.{encodeCheckpoint, encodeFrameHeader, encodeHeld, encodeLsn, encodeConfirmation, over}
+use Rattle.rules.specs.declared.End.{End}
+use Rattle.rules.specs.declared.End.the-variants.{Open, Closed}
+use Rattle.rules.specs.declared.EndState.{EndState}
+use Rattle.rules.specs.declared.ImageId.{ImageId}
+use Rattle.rules.specs.declared.ImageId.the-variants.{Anonymous, Id}
+use Rattle.field.specs.Number.{numberAt}
+use Rattle.field.specs.Records.{records, bytesOf}
 use Rattle.rules.specs.declared.FrontierLsn.{FrontierLsn}
 use Rattle.rules.specs.declared.FrontierLsn.the-variants as front
 use Rattle.rules.specs.declared.Made.{Made}
 use Rattle.rules.specs.declared.Made.the-variants as made
-unfoldable pub use Rattle.sections.specs.Numbers.{endIn, idIn, endFrom, idFrom}
-pub use Rattle.sections.specs.Numbers.{numbersFrom}
-pub use Rattle.index.specs.Room.{Tables, tables, roomOf}
-unfoldable pub use Rattle.tables.specs.Kinds.{kindsOk}
+use Rattle.rules.specs.Values.{Lengths, Index, Frame, frontierOf}
+use Rattle.rules.specs.Questions.{hintingRoom, areaOk, question1, question2, question3, four}
+use Rattle.rules.specs.Tests.{each, Answer, Refused, Accepted, after, numberOf, ask, firstNo}
+use Rattle.rules.specs.File.{encodeCheckpoint, encodeFrameHeader, encodeHeld, encodeLsn, encodeConfirmation, over}
 use Rattle.tables.specs.Tables.{checkpointsIn, framesIn, partsIn, lsnsIn, encodeKept, keptIn, confirmationsIn}
+
+-- the bytes of the seven tables
+pub record Tables : Type 0 where
+  pub checkpoints : List ℕ
+  pub frames : List ℕ
+  pub store : List ℕ
+  pub parts : List ℕ
+  pub malformed : List ℕ
+  pub hints : List ℕ
+  pub confirmed : List ℕ
+
+abbrev pub tables : List ℕ → List ℕ → List ℕ → List ℕ → List ℕ → List ℕ → List ℕ → Tables
+tables a b c d e f g = record { checkpoints = a; frames = b; store = c; parts = d; malformed = e; hints = f; confirmed = g }
+
+-- how many records each has space for
+abbrev pub roomOf : Tables → Lengths
+roomOf t =
+    record {
+      checkpoints = length (t .checkpoints) / 24;
+      frames = length (t .frames) / 8;
+      store = length (t .store);
+      parts = length (t .parts) / 24;
+      malformed = length (t .malformed) / 4;
+      hints = length (t .hints) / 8;
+      confirmed = length (t .confirmed) / 16;
+    }
+
+-- 3 of some of the tables
+unfoldable pub hintRoom : ℕ → List ℕ → List ℕ → Bool
+hintRoom most s c = hintingRoom (roomOf (tables [] [] [] [] [] s c)) most
+
+unfoldable pub endIn : End → Option EndState
+endIn Open = none
+endIn (Closed e) = some e
+
+unfoldable pub idIn : ImageId → Option ℕ
+idIn Anonymous = none
+idIn (Id v) = some v
+
+-- ---- the numbers of a value
+unfoldable pub endFrom : Option EndState → End
+endFrom none = Open
+endFrom (some e) = Closed e
+
+unfoldable pub idFrom : Option ℕ → ImageId
+idFrom none = Anonymous
+idFrom (some v) = Id v
+
+abbrev pub numbersFrom : Index → AreaIndex
+numbersFrom x =
+    record {
+      area = x .scan .area;
+      interval = x .scan .interval;
+      budget = x .scan .budget;
+      spacing = x .hinting .spacing;
+      most = x .hinting .most;
+      checkpoints = length (x .scan .checkpoints);
+      frames = length (x .scan .frames);
+      parts = length (x .scan .parts);
+      malformed = length (x .scan .malformed);
+      hints = length (x .hinting .hints);
+      confirmed = length (x .hinting .confirmed);
+      ending = endFrom (x .scan .ending);
+      fingerprint = x .fingerprint;
+      image = idFrom (x .image);
+    }
+
+-- is the kind of each of the first h parts 0 or 1, as loading asks?
+unfoldable pub kindsOk : ℕ → List ℕ → Bool
+kindsOk h t = each (λ b. leb (numberAt 4 b 20) 1) (records 24 (λ b. b) h t)
 
 -- ---- the value that numbers and tables stand for
 abbrev pub indexIn : AreaIndex → Tables → Index
@@ -126,3 +199,7 @@ frontierIn x =
 unfoldable pub frontierAnswer : FrontierLsn → Answer ℕ
 frontierAnswer (front.Refused n) = Refused n
 frontierAnswer (front.Lsn n) = Accepted n
+
+-- the lower of two numbers, where 0 is none
+unfoldable pub lowest : ℕ → ℕ → ℕ
+lowest m n = cond (eqb m 0) n (cond (eqb n 0) m (min m n))

@@ -6,7 +6,7 @@ use Rattle.field.specs.Records.{Bytes}
 use Rattle.rules.specs.declared.AreaIndex.{AreaIndex}
 use Rattle.rules.specs.Values.{max32, max64, stated}
 use Rattle.rules.specs.Sizes.{knownSized}
-use Rattle.index.specs.Index.{Tables}
+use Rattle.tables.specs.Index.{Tables}
 
 -- the ranges of an index's numbers that questions 1, 2 and 4 leave open
 pub record Typed (x : AreaIndex) : Type 0 where
