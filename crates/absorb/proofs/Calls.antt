@@ -25,16 +25,13 @@ use Rattle.index.proofs.Lent.{put-back}
 use Rattle.index.proofs.Questions.{passes}
 use Rattle.parts.proofs.Frames.{count}
 use Rattle.tables.specs.Recorder.{RecorderTables, recorderRoom, recorderIn, recorderKinds, recorderFrom}
-use Rattle.recorder.specs.Needs.{modeOf}
+use Rattle.recorder.specs.Recorder.{modeOf}
 use Rattle.recorder.proofs.Calls.{passes-long}
 use Rattle.tables.specs.Tables.{givenIn}
-use Rattle.absorb.specs.RefusalAbsorb.{absorbRefusal}
-use Rattle.absorb.specs.RefusalNeeds.{Absorbs}
+use Rattle.absorb.specs.Steps.{absorbRefusal, Absorbs, Written, written, Kept, absorbedIn, drainedOf}
 use Rattle.absorb.proofs.refusal.Refusal.{passed}
-use Rattle.absorb.specs.Commit.{Written, written, Kept, absorbedIn}
 use Rattle.absorb.proofs.committed.Facts.{kept}
 use Rattle.absorb.specs.Absorb.{out, absorbed, kindedBoth, outOf, absorbIn}
-use Rattle.absorb.specs.Needs.{drainedOf}
 
 -- ---- the number with the kind bytes
 four-some : (n : ℕ) → (1 ≤ orFour n) × (orFour n ≤ 4)

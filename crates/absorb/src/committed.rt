@@ -24,8 +24,7 @@ ghost use Rattle.rules.specs.Record.{below};
 ghost use Rattle.tables.specs.Index.{tables, endIn};
 ghost use Rattle.tables.specs.Recorder.{recorderTables};
 ghost use Rattle.tables.specs.Tables.{givenIn};
-ghost use Rattle.absorb.specs.Commit.{written, Kept, absorbedIn};
-ghost use Rattle.absorb.specs.CommittedNeeds.{Ready, TakesBelow, TakenBelow, numbersBy};
+ghost use Rattle.absorb.specs.Steps.{written, Kept, absorbedIn, Ready, TakesBelow, TakenBelow, numbersBy};
 
 // ---- malformed LSNs
 // How many of the given LSNs are taken: those below front, at most 4,096.

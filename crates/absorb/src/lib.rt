@@ -25,9 +25,9 @@ ghost use Rattle.rules.specs.declared.Mode.the-variants.{Stopped};
 ghost use Rattle.rules.specs.Record.{isStopped};
 ghost use Rattle.tables.specs.Index.{tables};
 ghost use Rattle.tables.specs.Recorder.{recorderTables};
-ghost use Rattle.recorder.specs.Needs.{modeOf};
+ghost use Rattle.recorder.specs.Recorder.{modeOf};
 ghost use Rattle.absorb.specs.Absorb.{out, absorbed, absorbIn};
-ghost use Rattle.absorb.specs.Needs.{drainedOf};
+ghost use Rattle.absorb.specs.Steps.{drainedOf};
 
 // ---- the recorder afterwards
 // 8 stops the recorder; another refusal leaves it.

@@ -28,7 +28,7 @@ ghost use lib.Dec.{eqb, leb};
 ghost use lib.ListN.{length, getD};
 ghost use Rattle.tables.specs.Index.{endIn};
 ghost use Rattle.tables.specs.Tables.{lsnsIn};
-ghost use Rattle.absorb.specs.QuestionsNeeds.{nineIn, elevenIn, listIn, movedIn, twelveIn, Joinable};
+ghost use Rattle.absorb.specs.Steps.{nineIn, elevenIn, listIn, movedIn, twelveIn, Joinable};
 
 // ---- 9 and 11
 // 9: same area and interval?

@@ -17,8 +17,7 @@ ghost use Prim.Native.Nat.{_≤_};
 ghost use Rattle.rules.specs.Record.{isStopped};
 ghost use Rattle.tables.specs.Index.{tables};
 ghost use Rattle.tables.specs.Recorder.{recorderTables};
-ghost use Rattle.absorb.specs.RefusalAbsorb.{absorbRefusal};
-ghost use Rattle.absorb.specs.RefusalNeeds.{tenIn, laterNumber, Readable};
+ghost use Rattle.absorb.specs.Steps.{absorbRefusal, tenIn, laterNumber, Readable};
 
 pub fn is_stopped(mode: Mode) -> bool
     ensures { λ q. ⌜ q ≡ isStopped mode ⌝ }

@@ -23,16 +23,15 @@ use Rattle.laws.specs.Passes.{between}
 use Rattle.tables.specs.Tables.{decodeKept, keptIn, hintsOf}
 use Rattle.rules.specs.declared.Made.the-variants as made
 use Rattle.tables.specs.Index.{Tables, indexIn, roomOf, roomIn, kindsIn, kinded, refusal, outOf, out}
-use Rattle.index.specs.Needs.{Passes, heldQuestion4}
+use Rattle.index.specs.Steps.{Passes, heldQuestion4}
 use Rattle.tables.specs.Lent.{TableBytes}
 use Rattle.index.proofs.Four.{Later, kinded-index}
 use Rattle.index.proofs.Questions.{passes}
 use Rattle.index.proofs.Left.{withHintTable, hints-left}
 use Rattle.index.proofs.Back.{numbers-back}
 use Rattle.add_hints.proofs.Arriving.{arriving-13}
-use Rattle.add_hints.specs.JoinedMerged.{joinedIn, touched, clearedTo}
-use Rattle.add_hints.specs.Added.{addHintsIn}
-use Rattle.add_hints.specs.Needs.{withCount}
+use Rattle.add_hints.specs.Steps.{joinedIn, clearedTo, withCount}
+use Rattle.add_hints.specs.AddHints.{touched, addHintsIn}
 
 -- ---- 13
 module _ {i n : ℕ} {h : Hint} (list : List ℕ) (l : i < n) (e : h ≡ recordAt 8 decodeHint list i) where

@@ -1,7 +1,4 @@
-pub mod Added
+pub mod AddHints
 pub mod Digits
-pub mod JoinedMerged
-pub mod Merged
-pub mod Needs
 pub mod Packed
-pub mod SortNeeds
+pub mod Steps

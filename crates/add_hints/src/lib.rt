@@ -21,8 +21,8 @@ ghost use Rattle.rules.specs.Sections.{hintOk};
 ghost use Rattle.rules.specs.Hints.{question13};
 ghost use Rattle.tables.specs.Tables.{hintsIn, hintsOf};
 ghost use Rattle.tables.specs.Index.{tables, out};
-ghost use Rattle.add_hints.specs.Added.{addHintsIn};
-ghost use Rattle.add_hints.specs.Needs.{withCount};
+ghost use Rattle.add_hints.specs.AddHints.{addHintsIn};
+ghost use Rattle.add_hints.specs.Steps.{withCount};
 
 // Is the number of each of the first n hints below LIM?
 fn numbers_ok(list: &[u8], n: usize) -> bool

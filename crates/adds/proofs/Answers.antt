@@ -18,19 +18,17 @@ use Rattle.rules.proofs.Tests.{test}
 use Rattle.tables.specs.Tables.{lsnsIn, confirmationsIn, decodeKept, keptIn}
 use Rattle.tables.specs.Index.{Tables, indexIn, endIn, idIn}
 use Rattle.index.proofs.Questions.{passes-long, passes-hints}
-use Rattle.merge.specs.Join.{mergeRefusal}
-use Rattle.merge.specs.Further.{furtherIn}
-use Rattle.merge.specs.QuestionsNeeds.{Joins}
+use Rattle.merge.specs.Merge.{mergeRefusal, furtherIn}
+use Rattle.merge.specs.Steps.{Joins}
 use Rattle.merge.proofs.questions.Refusal.{further-is, asked-after}
 use Rattle.merge.proofs.questions.Ready.{hinting-is, areas}
 use Rattle.merge.proofs.questions.Held.{lent, room}
 use Rattle.parts.specs.Parts.{partTables}
-use Rattle.adds.specs.Same.{sameList}
+use Rattle.adds.specs.Adds.{sameList, sameKnown, sameFingerprint, bringsOf, brings, addsOf, addsIn}
 use Rattle.adds.specs.Answers.{HintsAnswered, ConfirmedAnswered}
 use Rattle.rules.specs.declared.Brings.{Brings}
 use Rattle.rules.specs.declared.Added.the-variants as added
-use Rattle.adds.specs.Brings.{sameKnown, sameFingerprint, bringsOf, brings, addsOf, addsIn}
-use Rattle.adds.specs.Needs.{PartsRead, partsChange, someStored, bringsIn}
+use Rattle.adds.specs.Steps.{PartsRead, partsChange, someStored, bringsIn}
 use Rattle.adds.proofs.Fields.{checkpoints-change, ending-change, malformed-change}
 use Rattle.adds.proofs.Parts.{parts-change}
 

@@ -25,9 +25,8 @@ use Rattle.rules.specs.Merge.{further, mergedScan, mergedFingerprint, heldFrom}
 use Rattle.rules.proofs.Tests.{test, never, and-left}
 use Rattle.rules.proofs.Same.{eqb-self, sameCheckpoint-self, sameEnd-self}
 use Rattle.laws.proofs.Layouts.{lsn-layout}
-use Rattle.adds.specs.Same.{sameList}
+use Rattle.adds.specs.Adds.{sameList, sameKnown, sameFingerprint}
 use Rattle.adds.proofs.compare.Same.{sameList-self, sameList-eq}
-use Rattle.adds.specs.Brings.{sameKnown, sameFingerprint}
 use Rattle.adds.proofs.Same.{sameKnown-self}
 
 -- ---- checkpoints

@@ -12,14 +12,13 @@ use Rattle.rules.specs.PartRule.{Stored, Piece, opens, stores, addPart, piece, 
 use Rattle.rules.specs.Merge.{further, mergedScan}
 use Rattle.rules.proofs.Tests.{test, never}
 use Rattle.laws.proofs.scans.PartRule.{addParts-skip, addParts-add}
-use Rattle.adds.specs.Same.{sameList}
+use Rattle.adds.specs.Adds.{sameList, sameFrame, sameHeld}
 use Rattle.adds.proofs.compare.Same.{differ, sameList-self, sameList-eq}
-use Rattle.adds.specs.Brings.{sameFrame, sameHeld}
 use Rattle.rules.specs.declared.AreaIndex.{AreaIndex}
 use Rattle.tables.specs.Tables.{framesIn, partsIn}
 use Rattle.parts.specs.Parts.{PartTables, storedIn}
-use Rattle.parts.specs.Needs.{Lent, Ready}
-use Rattle.adds.specs.Needs.{someStored, PartsRead, partsChange}
+use Rattle.parts.specs.Steps.{Lent, Ready}
+use Rattle.adds.specs.Steps.{someStored, PartsRead, partsChange}
 use Rattle.adds.proofs.Same.{sameFrame-self, sameHeld-self, sameHeld-eq}
 
 -- ---- one part

@@ -12,7 +12,7 @@ use Rattle.rules.specs.Values.{Frame}
 use Rattle.rules.proofs.Tests.{never, all→, →all}
 use Rattle.rules.proofs.Same.{eqb-self, sameKind-self, sameKind-eq}
 use Rattle.rules_lacks.proofs.Laws.{sameSigned-self, sameSigned-eq}
-use Rattle.adds.specs.Brings.{sameKnown, sameFrame, sameHeld, sameFingerprint}
+use Rattle.adds.specs.Adds.{sameKnown, sameFrame, sameHeld, sameFingerprint}
 
 module _ {A : Type 0} (same : A → A → Bool) where
   pub sameKnown-self : ((a : A) → same a a ≡ true) → (o : Option A) → sameKnown same o o ≡ true

@@ -20,9 +20,9 @@ use Rattle.tables.proofs.Frames.{frames-length, frame-start}
 use Rattle.tables.proofs.Walk.{records-turn}
 use Rattle.parts.specs.declared.Source.{Source}
 use Rattle.parts.specs.Parts.{PartTables}
-use Rattle.parts.specs.Needs.{InOrder, Lent, offsetTo, heldPiece}
+use Rattle.parts.specs.Steps.{InOrder, Lent, offsetTo, heldPiece}
 use Rattle.parts.proofs.Adding.{bytes-inside, bytes-there}
-use Rattle.adds.specs.Needs.{someStored}
+use Rattle.adds.specs.Steps.{someStored}
 
 count : (f : ℕ) (headers store : List ℕ) → length (framesIn f headers store) ≡ f
 count f headers store = frames-length (headersIn f headers) store ∙ records-length 8 decodeHeader f headers

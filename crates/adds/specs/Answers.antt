@@ -12,7 +12,7 @@ use Rattle.rules.specs.Sections.{hintsOk, confirmationsOk}
 use Rattle.rules.specs.Hints.{joinedHints, unkept, keepAll}
 use Rattle.rules_lacks.specs.Lacks.{equalHint}
 use Rattle.adds.specs.declared.compare.Turn.{Turn}
-use Rattle.adds.specs.Same.{sameList, sameConfirmation}
+use Rattle.adds.specs.Adds.{sameList, sameConfirmation}
 use Rattle.adds.specs.Marks.{Marked, marked, lsnFrom}
 
 -- r is the LSN of hint i of the n hints xs, above every LSN where there is none

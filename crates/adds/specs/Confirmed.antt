@@ -9,7 +9,7 @@ use Rattle.rules.specs.Values.{noConfirmation}
 use Rattle.rules.specs.Sections.{confirmedLsn}
 use Rattle.rules.specs.Hints.{heldConfirmation, keepsNothing}
 use Rattle.adds.specs.Keys.{fromKey}
-use Rattle.adds.specs.Same.{sameConfirmation}
+use Rattle.adds.specs.Adds.{sameConfirmation}
 
 -- is each of ds held in cs, which stays as it is?
 unfoldable pub absorbed : List Confirmation → List Confirmation → Bool

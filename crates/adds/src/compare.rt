@@ -16,7 +16,7 @@ ghost use lib.Dec.{leb, ltb};
 ghost use lib.ListN.{length, drop};
 ghost use Rattle.rules.specs.Hints.{heldConfirmation};
 ghost use Rattle.tables.specs.Tables.{confirmationsIn, keptIn, unkeptIn};
-ghost use Rattle.adds.specs.Same.{sameConfirmation};
+ghost use Rattle.adds.specs.Adds.{sameConfirmation};
 ghost use Rattle.adds.specs.Marks.{marked, lower, unweighed, weighOne, weighed, changedBy};
 ghost use Rattle.adds.specs.Confirmed.{absorbed, unmovedBy, arriving};
 ghost use Rattle.adds.specs.Answers.{LsnAt, Turned, HintsAnswered, ConfirmedAnswered};

@@ -36,12 +36,11 @@ ghost use Rattle.rules.specs.PartRule.{stores};
 ghost use Rattle.rules.specs.Merge.{mergedFingerprint};
 ghost use Rattle.tables.specs.Tables.{lsnsIn, framesIn, partsIn};
 ghost use Rattle.tables.specs.Index.{tables, idIn};
-ghost use Rattle.merge.specs.QuestionsNeeds.{Joins};
+ghost use Rattle.merge.specs.Steps.{Joins};
 ghost use Rattle.parts.specs.Parts.{partTables, storedIn};
-ghost use Rattle.parts.specs.Needs.{Ready, Lent, heldPiece};
-ghost use Rattle.adds.specs.Same.{sameList};
-ghost use Rattle.adds.specs.Brings.{sameKnown, sameFingerprint, addsOf, addsIn};
-ghost use Rattle.adds.specs.Needs.{someStored, PartsRead, partsChange, bringsIn};
+ghost use Rattle.parts.specs.Steps.{Ready, Lent, heldPiece};
+ghost use Rattle.adds.specs.Adds.{sameList, sameKnown, sameFingerprint, addsOf, addsIn};
+ghost use Rattle.adds.specs.Steps.{someStored, PartsRead, partsChange, bringsIn};
 
 // ---- fingerprint and image id
 // Would b fill in a fingerprint?

@@ -2,9 +2,7 @@
 use mathlib.Core.Path.{refl}
 use Rattle.field.specs.Number.{encode, decode, sameBytes}
 use Rattle.field.specs.Records.{records, bytesOf}
-use Rattle.blocks.specs.From.{endFrom, fingerprintFrom, imageFrom, modeFrom, lastFrom, tailFrom, areaFrom, indexFrom, recorderFrom, hintRecorderFrom}
-use Rattle.blocks.specs.Head.{endWords, fingerprintWords, imageWords, modeWords, lastWords, tailWords, indexWords, recorderWords, hintRecorderArray, hintRecorderWords}
-use Rattle.blocks.specs.IsHead.{isHead, withFree}
+use Rattle.blocks.specs.Blocks.{endFrom, fingerprintFrom, imageFrom, modeFrom, lastFrom, tailFrom, areaFrom, indexFrom, recorderFrom, hintRecorderFrom, endWords, fingerprintWords, imageWords, modeWords, lastWords, tailWords, indexWords, recorderWords, hintRecorderArray, hintRecorderWords, isHead, withFree}
 use Rattle.blocks.specs.HeadExamples.{Hold, lists, recorders}
 
 lists-hold : Hold lists

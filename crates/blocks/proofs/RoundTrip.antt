@@ -27,9 +27,7 @@ use Rattle.rules.specs.declared.Tail.{Tail}
 use Rattle.rules.specs.declared.Tail.the-variants as tail
 use Rattle.rules.specs.File.{over}
 use Rattle.rules.proofs.Tests.{and-right}
-use Rattle.blocks.specs.From.{at, areaFrom, endFrom, fingerprintFrom, imageFrom, modeFrom, lastFrom, tailFrom, indexFrom, recorderFrom, hintRecorderFrom}
-use Rattle.blocks.specs.IsHead.{isHead, withFree}
-use Rattle.blocks.specs.Head.{wordsIn, blockOf, endWords, fingerprintWords, imageWords, modeWords, lastWords, tailWords, indexWords, recorderWords, hintRecorderArray, hintRecorderWords}
+use Rattle.blocks.specs.Blocks.{at, areaFrom, endFrom, fingerprintFrom, imageFrom, modeFrom, lastFrom, tailFrom, indexFrom, recorderFrom, hintRecorderFrom, isHead, withFree, wordsIn, blockOf, endWords, fingerprintWords, imageWords, modeWords, lastWords, tailWords, indexWords, recorderWords, hintRecorderArray, hintRecorderWords}
 use Rattle.blocks.specs.RoundTrip.{Fits8, Fits32, Fits64, tailMark, IndexFits, RecorderFits, HintRecorderFits, IndexBack, RecorderBack, HintRecorderBack, IndexIsHead, RecorderIsHead, HintRecorderIsHead, NoneFree, HeadWords}
 
 words-back : (ws b : List ℕ) → Each Fits64 ws → wordsIn (length ws) (over (blockOf ws) b) ≡ ws

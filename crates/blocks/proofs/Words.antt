@@ -18,8 +18,7 @@ use Rattle.field.proofs.Format.{numbers, bytesOf-append, bytesOf-one, bytesOf-l
 use Rattle.field.proofs.Records.{records-at, records-length}
 use Rattle.rules.specs.File.{over}
 use Rattle.rules.proofs.Tests.{and-left}
-use Rattle.blocks.specs.IsHead.{isHead}
-use Rattle.blocks.specs.Head.{wordsIn, blockOf}
+use Rattle.blocks.specs.Blocks.{isHead, wordsIn, blockOf}
 
 -- the first i of n words of b read, over the words z
 pub record Got (b z ws : List ℕ) (n i : ℕ) : Type 0 where

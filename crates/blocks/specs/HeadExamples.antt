@@ -4,8 +4,7 @@ use mathlib.Core.Bool.{Bool, true, false}
 use mathlib.Core.Path.{_≡_}
 use mathlib.Core.List.{List, [], _∷_, map}
 use lib.ListN.{set, replicate}
-use Rattle.blocks.specs.Head.{blockOf}
-use Rattle.blocks.specs.IsHead.{isIndex, isRecorder, isHintRecorder}
+use Rattle.blocks.specs.Blocks.{blockOf, isIndex, isRecorder, isHintRecorder}
 
 pub record Example : Type 0 where
   pub found : Bool

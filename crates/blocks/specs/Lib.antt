@@ -1,5 +1,3 @@
-pub mod From
-pub mod Head
+pub mod Blocks
 pub mod HeadExamples
-pub mod IsHead
 pub mod RoundTrip

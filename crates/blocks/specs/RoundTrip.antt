@@ -11,9 +11,7 @@ use Rattle.rules.specs.declared.Recorder.{Recorder}
 use Rattle.rules.specs.declared.Tail.{Tail}
 use Rattle.rules.specs.declared.Tail.the-variants as tail
 use Rattle.rules.specs.File.{over}
-use Rattle.blocks.specs.From.{at, indexFrom, recorderFrom, hintRecorderFrom}
-use Rattle.blocks.specs.IsHead.{isHead, withFree, isIndex, isRecorder, isHintRecorder}
-use Rattle.blocks.specs.Head.{wordsIn, blockOf, endWords, fingerprintWords, imageWords, modeWords, lastWords, tailWords, indexWords, recorderWords, hintRecorderArray, hintRecorderWords}
+use Rattle.blocks.specs.Blocks.{at, indexFrom, recorderFrom, hintRecorderFrom, isHead, withFree, isIndex, isRecorder, isHintRecorder, wordsIn, blockOf, endWords, fingerprintWords, imageWords, modeWords, lastWords, tailWords, indexWords, recorderWords, hintRecorderArray, hintRecorderWords}
 use Rattle.blocks.specs.declared.Told.{Told}
 
 -- numbers have the widths of their types

@@ -18,7 +18,7 @@ ghost use mathlib.Core.Path.{_≡_};
 ghost use Prim.Native.Nat.{_≤_, _<_, _*_};
 ghost use lib.ListN.{length};
 ghost use Rattle.rules.specs.File.{over};
-ghost use Rattle.blocks.specs.Head.{wordsIn, blockOf, indexArray, recorderArray, indexWords, recorderWords, hintRecorderArray, hintRecorderWords, seenWords, endWords, fingerprintWords, imageWords, lastWords, tailWords, modeWords, absenceNumber, firstTold};
+ghost use Rattle.blocks.specs.Blocks.{wordsIn, blockOf, indexArray, recorderArray, indexWords, recorderWords, hintRecorderArray, hintRecorderWords, seenWords, endWords, fingerprintWords, imageWords, lastWords, tailWords, modeWords, absenceNumber, firstTold};
 
 // The words of a head.
 pub const HEAD_WORDS: usize = 24;

@@ -18,8 +18,7 @@ use rules::Mode;
 use rules::Recorder;
 use rules::Tail;
 ghost use mathlib.Core.Path.{_≡_};
-ghost use Rattle.blocks.specs.From.{endFrom, fingerprintFrom, imageFrom, modeFrom, lastFrom, tailFrom, areaFrom, indexFrom, recorderFrom, hintRecorderFrom};
-ghost use Rattle.blocks.specs.IsHead.{withFree, isIndex, isRecorder, isHintRecorder};
+ghost use Rattle.blocks.specs.Blocks.{endFrom, fingerprintFrom, imageFrom, modeFrom, lastFrom, tailFrom, areaFrom, indexFrom, recorderFrom, hintRecorderFrom, withFree, isIndex, isRecorder, isHintRecorder};
 ghost use Rattle.field.specs.Number.{sameBytes};
 
 // ---- what may be unknown; what a field is too narrow for is cut off

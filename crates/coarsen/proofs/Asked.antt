@@ -19,7 +19,7 @@ use Rattle.rules.proofs.Tests.{test, order, all→, and-left}
 use Rattle.rules_coarsen.specs.Coarse.{everyNth, question47, question48, coarserScan, coarser, coarseFits, coarseNumber}
 use Rattle.tables.specs.Tables.{checkpointsIn}
 use Rattle.tables.specs.Index.{Tables, roomOf, indexIn, kindsIn, refusal, roomIn}
-use Rattle.index.specs.Needs.{Passes, heldQuestion4}
+use Rattle.index.specs.Steps.{Passes, heldQuestion4}
 use Rattle.index.proofs.Questions.{passes, passes-long, range}
 use Rattle.coarsen.specs.Coarsen.{coarseRefusal}
 use Rattle.coarsen.specs.Steps.{isMultiple, keptOf, Keeps, Widens, lastBelow, fitsIn, numbersAt, Coarsens}

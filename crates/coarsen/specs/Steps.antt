@@ -13,10 +13,10 @@ use Rattle.rules_coarsen.specs.Coarse.{everyNth, question47, coarser, coarseFit
 use Rattle.tables.specs.Tables.{checkpointsIn, lsnsIn, partsIn}
 use Rattle.tables.specs.Index.{endIn, Tables, roomOf, indexIn, numbersFrom, tablesFrom, Out, out}
 use Rattle.rules.specs.declared.Made.the-variants as made
-use Rattle.index.specs.Needs.{Passes}
+use Rattle.index.specs.Steps.{Passes}
 use Rattle.parts.specs.declared.Counts.{Counts}
 use Rattle.parts.specs.Parts.{PartTables}
-use Rattle.parts.specs.Needs.{Lent, Room}
+use Rattle.parts.specs.Steps.{Lent, Room}
 use Rattle.coarsen.specs.Laws.{multiples}
 
 -- 47 of two intervals

@@ -24,16 +24,15 @@ use Rattle.laws.specs.Passes.{Begins}
 use Rattle.laws.proofs.hint_lists.Keeping.{confirmed-rises}
 use Rattle.tables.specs.Tables.{confirmationsIn}
 use Rattle.tables.specs.Index.{Tables, roomIn, kindsIn, refusal}
-use Rattle.index.specs.Needs.{Passes, heldQuestion4}
+use Rattle.index.specs.Steps.{Passes, heldQuestion4}
 use Rattle.tables.specs.Lent.{TableBytes}
 use Rattle.index.proofs.Four.{Later, kinded-index}
 use Rattle.index.proofs.Questions.{passes}
 use Rattle.index.proofs.Left.{withConfirmedTable, confirmed-left}
 use Rattle.index.proofs.Back.{numbers-back}
-use Rattle.confirmations.specs.Kept.{Rising}
+use Rattle.confirmations.specs.Steps.{Rising, Room, withCount}
 use Rattle.rules.specs.declared.Kept.the-variants as kept
-use Rattle.confirmations.specs.Keeping.{given, out, outOf, keepIn}
-use Rattle.confirmations.specs.Steps.{Room, withCount}
+use Rattle.confirmations.specs.Confirmations.{given, out, outOf, keepIn}
 
 or-true : (b : Bool) → (b || true) ≡ true
 or-true true = refl

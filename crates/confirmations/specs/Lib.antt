@@ -1,3 +1,2 @@
-pub mod Keeping
-pub mod Kept
+pub mod Confirmations
 pub mod Steps

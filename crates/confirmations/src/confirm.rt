@@ -14,7 +14,7 @@ ghost use Rattle.rules.specs.File.{decodeConfirmation, encodeConfirmation};
 ghost use Rattle.rules.specs.Hints.{heldConfirmation, keepAll};
 ghost use Rattle.laws.specs.Passes.{between, Begins, Left, Takes, Fits};
 ghost use Rattle.tables.specs.Tables.{confirmationsIn};
-ghost use Rattle.confirmations.specs.Kept.{confirmationsMerged, lastLsn, Rising, Splits, Keeps};
+ghost use Rattle.confirmations.specs.Steps.{confirmationsMerged, lastLsn, Rising, Splits, Keeps};
 
 // The lower of two thresholds.
 fn lower_threshold(a: u32, b: u32) -> u32

@@ -21,7 +21,7 @@ ghost use Rattle.rules.specs.Hints.{inArea, keep};
 ghost use Rattle.laws.specs.Passes.{Begins};
 ghost use Rattle.tables.specs.Tables.{confirmationsIn};
 ghost use Rattle.tables.specs.Index.{tables};
-ghost use Rattle.confirmations.specs.Keeping.{given, out, keepIn};
+ghost use Rattle.confirmations.specs.Confirmations.{given, out, keepIn};
 ghost use Rattle.confirmations.specs.Steps.{Room, withCount};
 
 // 14: LSN in the area, threshold < LIM?

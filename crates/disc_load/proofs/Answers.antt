@@ -10,12 +10,12 @@ use Rattle.tables.specs.Index.{Tables, roomOf}
 use Rattle.disc_load.specs.declared.ask.Body.{Body}
 use Rattle.disc_load.specs.declared.ask.Decided.{Decided}
 use Rattle.disc_load.specs.declared.ask.Decided.the-variants as decided
-use Rattle.disc_load.specs.Ask.{heldIn, Ready, Decision}
+use Rattle.disc_load.specs.Steps.{heldIn, Ready, Decision}
 use Rattle.disc_load.proofs.ask.Asking.{held-loads}
 use Rattle.disc_load.proofs.ask.Deciding.{by-places}
 use Rattle.rules_disc.specs.declared.Listed.{Listed}
 use Rattle.rules_disc.specs.declared.Loaded.the-variants as loaded
-use Rattle.disc_load.specs.Calls.{discOut, listedFrom, tablesWith, discOutOf, loadDiscIn}
+use Rattle.disc_load.specs.DiscLoad.{discOut, listedFrom, tablesWith, discOutOf, loadDiscIn}
 
 module _ {a0 a1 : Area} {b : List ℕ} (limit : ℕ) (t u : Tables) where
   pub answer-refused : {r : Decided} {n : ℕ} → Decision a0 a1 b limit t u r → r ≡ decided.Refused n → discOut (loaded.Refused n) t u ≡ loadDiscIn a0 a1 b limit t u

@@ -13,9 +13,9 @@ use Rattle.load.specs.Limit.{limitedIn}
 use Rattle.load.specs.Steps.{Ready}
 use Rattle.disc_load.specs.declared.ask.Body.{Body}
 use Rattle.disc_load.specs.declared.ask.Body.the-variants as body
-use Rattle.disc_load.specs.Ask.{Holds, heldIn}
+use Rattle.disc_load.specs.Steps.{Holds, heldIn}
 use Rattle.rules_disc.specs.declared.Listed.the-variants as listed
-use Rattle.disc_load.specs.Calls.{listedFrom, tablesWith}
+use Rattle.disc_load.specs.DiscLoad.{listedFrom, tablesWith}
 
 module _ (a : Area) (b : List ℕ) (limit : ℕ) (t : Tables) {x : Body} where
   pub absent : x ≡ body.Absent → (listed.Absent ≡ listedFrom (heldIn a b limit x)) × (t ≡ tablesWith (heldIn a b limit x) t)

@@ -9,9 +9,8 @@ use rules_disc::Contents;
 use rules_disc::Entry;
 use rules_disc::Place;
 ghost use mathlib.Core.Path.{_≡_};
-ghost use Rattle.disc_load.specs.Inside.{Inside};
+ghost use Rattle.disc_load.specs.Steps.{Inside, BodyDecision, decidedBy, Located, Decision};
 ghost use Rattle.tables.specs.Index.{tables};
-ghost use Rattle.disc_load.specs.Ask.{BodyDecision, decidedBy, Located, Decision};
 
 // The body of a slot, which no question refuses: the file has none, or its entry, what it says, and the numbers of its limited list.
 pub enum Body {

@@ -13,7 +13,7 @@ ghost use lib.ListN.{length, take, drop};
 ghost use Rattle.field.specs.Number.{encode};
 ghost use Rattle.rules_disc.specs.Disc.{encodeEntry, decodeEntry, laid, entryOf};
 ghost use Rattle.save.specs.Output.{Put};
-ghost use Rattle.disc_load.specs.Contents.{placeFrom, contentsFrom, contentsIn};
+ghost use Rattle.disc_load.specs.DiscLoad.{placeFrom, contentsFrom, contentsIn};
 
 // ---- reading
 // The entry that begins at a byte.

@@ -13,8 +13,8 @@ use rules_disc::Listed;
 use rules_disc::Loaded;
 ghost use mathlib.Core.Path.{_≡_};
 ghost use Rattle.tables.specs.Index.{tables};
-ghost use Rattle.disc_load.specs.Ask.{Holds, heldIn};
-ghost use Rattle.disc_load.specs.Calls.{listedFrom, tablesWith, discOut, loadDiscIn};
+ghost use Rattle.disc_load.specs.Steps.{Holds, heldIn};
+ghost use Rattle.disc_load.specs.DiscLoad.{listedFrom, tablesWith, discOut, loadDiscIn};
 
 // The limited list of a body into the slot's tables, by what its questions found; an absent one leaves them.
 fn commit_body(

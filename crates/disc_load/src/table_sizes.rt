@@ -13,10 +13,9 @@ ghost use mathlib.Core.Path.{_≡_};
 ghost use mathlib.Core.Option.{some};
 ghost use Rattle.rules.specs.Tests.{Accepted, bind};
 ghost use Rattle.rules_disc.specs.Disc.{bodyOf};
-ghost use Rattle.disc_load.specs.Contents.{entryIn};
-ghost use Rattle.disc_load.specs.Inside.{Inside};
+ghost use Rattle.disc_load.specs.Steps.{entryIn, Inside, bodySizedOf};
 ghost use Rattle.sizes.specs.Sizes.{sizedOf};
-ghost use Rattle.disc_load.specs.Sizes.{bodySizes, bothSizes, discSizes, bodySizedOf, discSizedOf};
+ghost use Rattle.disc_load.specs.DiscLoad.{bodySizes, bothSizes, discSizes, discSizedOf};
 
 fn body_sized(sized: Sized) -> BodySized
     ensures { λ r. ⌜ bodySizedOf r ≡ bind (sizedOf sized) (λ s. Accepted (some s)) ⌝ }

@@ -19,8 +19,8 @@ use Rattle.index.proofs.Four.{Later, kinded-more, kinded-index, lowest-both}
 use Rattle.merge.proofs.questions.Refusal.{lowest-zero}
 use Rattle.rules.specs.declared.Saved.the-variants as answer
 use Rattle.save.specs.Save.{SaveOut, made, saveOut}
-use Rattle.disc_save.specs.Calls.{saveOneIn, saveBothIn}
-use Rattle.disc_save.specs.Needs.{savedAs}
+use Rattle.disc_save.specs.DiscSave.{saveOneIn, saveBothIn}
+use Rattle.disc_save.specs.Steps.{savedAs}
 use Rattle.disc_save.proofs.Files.{Written}
 
 -- ---- 54 and 40

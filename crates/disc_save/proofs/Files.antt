@@ -18,7 +18,7 @@ use Rattle.rules.specs.declared.Saved.{Saved}
 use Rattle.rules.specs.declared.Saved.the-variants as answer
 use Rattle.save.specs.Save.{SaveOut, made, saveIn}
 use Rattle.save.proofs.Saving.{save-done}
-use Rattle.disc_save.specs.Needs.{tableOfTwo}
+use Rattle.disc_save.specs.Steps.{tableOfTwo}
 
 -- ---- a list in its stretch
 module _ (x : AreaIndex) (t : Tables) (o : List ℕ) (at to len : ℕ) where

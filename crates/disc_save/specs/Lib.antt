@@ -1,4 +1,2 @@
-pub mod Calls
-pub mod Length
-pub mod LengthNeeds
-pub mod Needs
+pub mod DiscSave
+pub mod Steps

@@ -8,8 +8,8 @@ use rules::AreaIndex;
 use save::layout::saved_length;
 ghost use mathlib.Core.Path.{_≡_};
 ghost use Rattle.tables.specs.Index.{tables};
-ghost use Rattle.disc_save.specs.Length.{oneLength, bothLength};
-ghost use Rattle.disc_save.specs.LengthNeeds.{lengthOfTwo, lengthBySlot};
+ghost use Rattle.disc_save.specs.DiscSave.{oneLength, bothLength};
+ghost use Rattle.disc_save.specs.Steps.{lengthOfTwo, lengthBySlot};
 
 // 1 to 4, 54, then the length.
 pub fn one_length(

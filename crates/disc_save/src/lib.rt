@@ -27,8 +27,8 @@ ghost use Rattle.rules_disc.specs.Disc.{bySlot};
 ghost use Rattle.tables.specs.Index.{indexIn, tables, refusal, lowest};
 ghost use Rattle.save.specs.Output.{Put};
 ghost use Rattle.save.specs.Save.{made};
-ghost use Rattle.disc_save.specs.Calls.{saveOneIn, saveBothIn};
-ghost use Rattle.disc_save.specs.Needs.{tableOfTwo, savedAs};
+ghost use Rattle.disc_save.specs.DiscSave.{saveOneIn, saveBothIn};
+ghost use Rattle.disc_save.specs.Steps.{tableOfTwo, savedAs};
 
 // The list's file into its own stretch of the output.
 fn put_list(

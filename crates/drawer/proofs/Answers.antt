@@ -24,11 +24,11 @@ use Rattle.rules.proofs.AreaIndex.{the-row}
 use Rattle.rules.proofs.Fingerprint as print
 use Rattle.tables.specs.Index.{Tables, roomOf, roomIn, indexIn, kindsIn, refusal, out, outOf}
 use Rattle.rules.specs.declared.Made.the-variants as made
-use Rattle.index.specs.Needs.{Passes, heldQuestion4}
+use Rattle.index.specs.Steps.{Passes, heldQuestion4}
 use Rattle.tables.specs.Lent.{Typed, TableBytes}
 use Rattle.index.proofs.Questions.{passes, passes-long}
 use Rattle.index.proofs.Lent.{passes-savable}
-use Rattle.merge.specs.Needs.{outIndex}
+use Rattle.merge.specs.Steps.{outIndex}
 use Rattle.rules_drawer.specs.Drawer.{lengthsIn, question44, pairsNumber, mergeEach, mergeLists, mergeAll}
 use Rattle.rules_drawer.proofs.Files.{refused-bind, refused-after}
 use Rattle.drawer.specs.declared.ask.Asked.{Asked}

@@ -16,7 +16,7 @@ use Rattle.rules.specs.Load.{limited}
 use Rattle.tables.specs.Index.{Tables, indexIn}
 use Rattle.load.specs.Limit.{listIn}
 use Rattle.load.proofs.Filling.{ready-inside}
-use Rattle.merge.specs.QuestionsNeeds.{joinNumber}
+use Rattle.merge.specs.Steps.{joinNumber}
 use Rattle.rules_drawer.specs.Drawer.{maxFiles, firstOf, pairNumber, pairsWith, pairsNumber}
 use Rattle.rules_drawer.proofs.Pairs.{firstOf-zero, firstOf-other}
 use Rattle.drawer.specs.declared.ask.Entry.{Entry}

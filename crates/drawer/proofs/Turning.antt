@@ -27,7 +27,7 @@ use Rattle.index.proofs.Standing.{stands, stands-cleared, kinds-from, within, r
 use Rattle.load.specs.Limit.{listIn, limitedIn}
 use Rattle.load.specs.Steps.{Ready}
 use Rattle.merge.specs.Merge.{hintsWritten, mergeIn}
-use Rattle.merge.specs.Needs.{outIndex}
+use Rattle.merge.specs.Steps.{outIndex}
 use Rattle.rules_drawer.specs.Drawer.{pairNumber, pairsWith, pairsNumber, mergeEach}
 use Rattle.rules_drawer.proofs.Pairs.{first-of→, →first-of, mergeable→}
 use Rattle.drawer.specs.declared.ask.Entry.{Entry}

@@ -17,7 +17,7 @@ use Rattle.tables.specs.Index.{Tables, roomOf, indexIn, refusal}
 use Rattle.laws.specs.Statements.{Savable}
 use Rattle.load.specs.Limit.{limitedIn}
 use Rattle.load.specs.Steps.{Ready}
-use Rattle.merge.specs.QuestionsNeeds.{joinNumber}
+use Rattle.merge.specs.Steps.{joinNumber}
 use Rattle.drawer.specs.declared.ask.Entry.{Entry}
 use Rattle.drawer.specs.declared.ask.File.{File}
 use Rattle.drawer.specs.declared.ask.File.the-variants as file

@@ -11,10 +11,10 @@ use Rattle.rules_drawer.specs.Drawer.{pairsNumber, mergeEach}
 use Rattle.rules.specs.declared.Made.{Made}
 use Rattle.rules.specs.declared.Made.the-variants as made
 use Rattle.tables.specs.Index.{Tables, roomOf, indexIn, kindsIn, numbersFrom, tablesCleared, Out}
-use Rattle.index.specs.Needs.{Passes}
+use Rattle.index.specs.Steps.{Passes}
 use Rattle.laws.specs.Statements.{Savable}
 use Rattle.merge.specs.Merge.{hintsWritten}
-use Rattle.merge.specs.Needs.{outIndex}
+use Rattle.merge.specs.Steps.{outIndex}
 use Rattle.drawer.specs.declared.ask.Entry.{Entry}
 use Rattle.drawer.specs.declared.ask.Asked.{Asked}
 use Rattle.drawer.specs.Ask.{listAt, listsAt, Holds, Held}

@@ -11,7 +11,7 @@ use rules::AreaIndex;
 use rules::Made;
 ghost use mathlib.Core.Path.{_≡_};
 ghost use Rattle.tables.specs.Index.{tables, out};
-ghost use Rattle.merge.specs.Needs.{outIndex};
+ghost use Rattle.merge.specs.Steps.{outIndex};
 ghost use Rattle.drawer.specs.Ask.{listAt, listsAt};
 ghost use Rattle.drawer.specs.Drawer.{mergeAllIn};
 ghost use Rattle.drawer.specs.Turns.{numbersAfter, Turning, turnIn, Turns, turnsIn};

@@ -2,7 +2,7 @@
 ghost use mathlib.Core.Path.{_≡_};
 ghost use lib.Dec.{eqb};
 ghost use Rattle.fnv.specs.Fnv.{fnv64};
-ghost use Rattle.short_sum.specs.Short.{fnv32};
+ghost use Rattle.short_sum.specs.ShortSum.{fnv32};
 ghost use Rattle.examples.specs.Count.{ended, allRight};
 use crate::lines;
 use crate::tally::Tally;

@@ -1,4 +1,3 @@
-pub mod Calls
-pub mod DensityNeeds
-pub mod Needs
-pub mod Place
+pub mod Density
+pub mod Hint
+pub mod Steps

@@ -21,9 +21,9 @@ ghost use lib.ListN.{length, drop};
 ghost use Rattle.rules.specs.Hints.{firstFrom};
 ghost use Rattle.tables.specs.Tables.{keptIn};
 ghost use Rattle.tables.specs.Index.{tables};
-ghost use Rattle.hint.specs.Calls.{namedOf, answerOf, hintIn};
+ghost use Rattle.hint.specs.Hint.{namedOf, answerOf, hintIn};
 ghost use Rattle.rules_jump.specs.Names.{named, namedEnd};
-ghost use Rattle.hint.specs.Needs.{Ready, laterEnd, hintedFrom, answerIn};
+ghost use Rattle.hint.specs.Steps.{Ready, laterEnd, hintedFrom, answerIn};
 
 // The upper end through the first of the hints from place i on that is numbered end or more, if at most 64 frames
 // past it; 0 where there is none.

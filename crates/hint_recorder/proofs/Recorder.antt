@@ -33,13 +33,12 @@ use Rattle.tables.specs.Tables.{hintsIn}
 use Rattle.tables.specs.Index.{Tables, refusal}
 use Rattle.index.proofs.Four.{Later, kinded-index}
 use Rattle.tables.specs.HintRecorder.{lastIn, tailIn, lastFrom, tailFrom, recorderIn}
-use Rattle.hint_recorder.specs.Numbers.{tailless, emptied}
+use Rattle.hint_recorder.specs.Steps.{tailless, emptied, Roomy, Steps, refusalOf, flushedRecord, hintSeen}
 use Rattle.rules.specs.declared.Saw.the-variants as saw
 use Rattle.rules.specs.declared.Seen.the-variants as seen
 use Rattle.rules.specs.declared.Taken.the-variants as taken
 use Rattle.rules.specs.declared.Created.the-variants as created
-use Rattle.hint_recorder.specs.Recorder.{out, outOf, sawOut, sawOf, seeIn, flushIn, takenOf, takeIn, createdOf, hintRecorderIn}
-use Rattle.hint_recorder.specs.Needs.{Roomy, Steps, refusalOf, flushedRecord, hintSeen}
+use Rattle.hint_recorder.specs.HintRecorder.{out, outOf, sawOut, sawOf, seeIn, flushIn, takenOf, takeIn, createdOf, hintRecorderIn}
 
 last-back : (l : LastListed) → lastFrom (lastIn l) ≡ l
 unfolding lastFrom lastIn

@@ -1,3 +1,2 @@
-pub mod Needs
-pub mod Numbers
-pub mod Recorder
+pub mod HintRecorder
+pub mod Steps

@@ -27,8 +27,8 @@ ghost use mathlib.Core.Path.{_≡_};
 ghost use Rattle.rules.specs.Hints.{seenRecord};
 ghost use Rattle.tables.specs.Index.{tables};
 ghost use Rattle.tables.specs.HintRecorder.{recorderIn};
-ghost use Rattle.hint_recorder.specs.Recorder.{out, sawOut, seeIn, flushIn, takeIn, hintRecorderIn};
-ghost use Rattle.hint_recorder.specs.Needs.{refusalOf, Roomy, Steps, flushedRecord, hintSeen};
+ghost use Rattle.hint_recorder.specs.HintRecorder.{out, sawOut, seeIn, flushIn, takeIn, hintRecorderIn};
+ghost use Rattle.hint_recorder.specs.Steps.{refusalOf, Roomy, Steps, flushedRecord, hintSeen};
 
 // Questions 3 and 4 of a hint recorder: the number of the first answered no, 0 for none.
 fn refuses(r: HintRecorder, list: &[u8]) -> u32

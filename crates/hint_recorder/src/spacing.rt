@@ -11,7 +11,7 @@ ghost use lib.Dec.{ltb};
 ghost use Rattle.rules.specs.Values.{maxList};
 ghost use Rattle.rules.specs.Hints.{spaced};
 ghost use Rattle.tables.specs.HintRecorder.{lastIn};
-ghost use Rattle.hint_recorder.specs.Numbers.{tailless, emptied};
+ghost use Rattle.hint_recorder.specs.Steps.{tailless, emptied};
 
 // None was ever listed, or it is at least last + spacing, or below last.
 pub fn is_spaced(last: LastListed, spacing: u32, t: u32) -> bool

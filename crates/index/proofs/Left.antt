@@ -4,7 +4,7 @@ use mathlib.Core.List.{List}
 use Prim.Native.Nat.{ℕ}
 use Rattle.rules.specs.declared.AreaIndex.{AreaIndex}
 use Rattle.tables.specs.Index.{Tables, tables, indexIn, tablesFrom}
-use Rattle.index.specs.Needs.{Passes}
+use Rattle.index.specs.Steps.{Passes}
 use Rattle.tables.specs.Lent.{TableBytes}
 use Rattle.index.proofs.Lent.{put-back}
 

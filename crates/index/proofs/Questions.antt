@@ -21,7 +21,8 @@ use Rattle.tables.specs.Tables.{decodeHeader, headersIn, framesIn, decodeKept, 
 use Rattle.tables.proofs.Frames.{frames-length}
 use Rattle.tables.specs.Index.{Tables, roomOf, indexIn, kindsOk, kindsIn, kindedNumber, refusal, three, roomIn, frontierIn, frontierAnswer, endIn, hintRoom}
 use Rattle.rules.specs.declared.FrontierLsn.the-variants as front
-use Rattle.index.specs.Needs.{Roomy, Long, Passes, heldQuestion4, scanSpace, sectionsIn, scanIn, hintingIn, sectionsOk, hintCounts}
+use Rattle.index.specs.Steps.{Roomy, Long, Passes, heldQuestion4, sectionsIn, scanIn, hintingIn, sectionsOk, hintCounts}
+use Rattle.index.specs.Index.{scanSpace}
 use Rattle.index.proofs.Four.{one-bits}
 use Rattle.index.proofs.Numbers.{within24, within8, within4, within16, test, first, second}
 

@@ -1,3 +1,2 @@
-pub mod Calls
-pub mod CreateNeeds
-pub mod Needs
+pub mod Index
+pub mod Steps

@@ -31,7 +31,8 @@ ghost use Rattle.rules.specs.Tests.{isSome};
 ghost use Rattle.rules.specs.Values.{stated, isChecked};
 ghost use Rattle.rules.specs.Questions.{areaOk};
 ghost use Rattle.tables.specs.Index.{tables, roomIn, three, refusal, frontierIn, frontierAnswer, endIn, hintRoom};
-ghost use Rattle.index.specs.Needs.{Long, Roomy, heldQuestion4, scanSpace, sectionsIn, scanIn, hintingIn, hintCounts};
+ghost use Rattle.index.specs.Steps.{Long, Roomy, heldQuestion4, sectionsIn, scanIn, hintingIn, hintCounts};
+ghost use Rattle.index.specs.Index.{scanSpace};
 
 // ---- 3
 // The tables that a recorder has too; count is the number of boundaries.

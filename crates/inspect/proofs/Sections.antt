@@ -35,7 +35,7 @@ use Rattle.inspect.specs.declared.cursor.Headed.the-variants as headed
 use Rattle.inspect.specs.Behind.{behind, headedOf, countedOf}
 use Rattle.inspect.specs.declared.scan.Taken.{Taken}
 use Rattle.inspect.specs.declared.scan.Taken.the-variants as taken
-use Rattle.inspect.specs.Taken.{takenOf, readLsns}
+use Rattle.inspect.specs.Steps.{takenOf, readLsns}
 use Rattle.inspect.proofs.Left.{read-eq, Left, left-all, left-drop, left-more, left-at, each-left, Wide, wide-leaves, read-room}
 use Rattle.inspect.proofs.scan.Frames.{frame-says}
 use Rattle.inspect.proofs.scan.Parts.{wide-part}

@@ -1,7 +1,5 @@
 pub mod Behind
 pub mod Cursors
-pub mod HintSectionsNeeds
 pub mod Inspect
-pub mod Needs
+pub mod Steps
 pub mod Tails
-pub mod Taken

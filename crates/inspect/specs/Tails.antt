@@ -19,7 +19,7 @@ use Rattle.rules.specs.Values.{Frame, used, frontierOf}
 use Rattle.rules.specs.File.{readHeader, magicBytes}
 use Rattle.rules.specs.Load.{Read, hasFingerprint, endingOf, headerNumber, endNumber, readCheckpoints, readFrames, readParts, readHintSection, readConfirmedSection}
 use Rattle.tables.specs.Files.{framesRead}
-use Rattle.inspect.specs.Taken.{readLsns}
+use Rattle.inspect.specs.Steps.{readLsns}
 use Rattle.tables.specs.Index.{endFrom}
 use Rattle.inspect.specs.declared.Found.{Found}
 use Rattle.inspect.specs.declared.Inspected.{Inspected}

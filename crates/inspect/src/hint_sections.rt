@@ -31,7 +31,7 @@ ghost use Rattle.rules.specs.Sections.{hintsOk, confirmationsOk};
 ghost use Rattle.rules.specs.Load.{readHintSection, readConfirmedSection, adds, mostOk, mayConfirm, noHintHeader};
 ghost use Rattle.tables.specs.Tables.{hintsIn, confirmationsIn};
 ghost use Rattle.inspect.specs.Behind.{headedOf, countedOf};
-ghost use Rattle.inspect.specs.HintSectionsNeeds.{hintRest, confirmedRest, hintsFrom, confirmedFrom};
+ghost use Rattle.inspect.specs.Steps.{hintRest, confirmedRest, hintsFrom, confirmedFrom};
 
 // ---- questions of the sections' headers
 // Does version 2 add something? A later version does.

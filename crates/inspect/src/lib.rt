@@ -47,7 +47,7 @@ ghost use Rattle.rules.specs.Questions.{areaOk};
 ghost use Rattle.rules.specs.Load.{hasFingerprint, endNumber};
 ghost use Rattle.tables.specs.Tables.{checkpointsIn, partsIn};
 ghost use Rattle.tables.specs.Files.{framesRead};
-ghost use Rattle.inspect.specs.Needs.{Ready};
+ghost use Rattle.inspect.specs.Steps.{Ready};
 ghost use Rattle.inspect.specs.Inspect.{inspection};
 ghost use Rattle.inspect.specs.Tails.{foundBy, usedBy, answered, fromConfirmed, fromHints, fromMalformed, fromEnd, fromParts, fromFrames, fromCheckpoints, fromBody};
 

@@ -23,8 +23,7 @@ ghost use Rattle.field.specs.Number.{numberAt};
 ghost use Rattle.rules.specs.Load.{readFrame, readPart, readFrames, readParts};
 ghost use Rattle.tables.specs.Tables.{checkpointsIn, filledTo, before};
 ghost use Rattle.tables.specs.Files.{framesRead};
-ghost use Rattle.inspect.specs.Taken.{takenOf, readLsns};
-ghost use Rattle.inspect.specs.Needs.{oneFrame, onePart, placedIf, partRule, Ready, LastAt};
+ghost use Rattle.inspect.specs.Steps.{takenOf, readLsns, oneFrame, onePart, placedIf, partRule, Ready, LastAt};
 
 // The refusal, or the cursor behind a section.
 pub enum Taken {

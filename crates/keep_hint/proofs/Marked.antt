@@ -23,13 +23,14 @@ use Rattle.tables.specs.Tables.{encodeKept, decodeKept, keptIn}
 use Rattle.tables.proofs.Kept.{KeptFits, kept-layout}
 use Rattle.rules.specs.declared.Made.the-variants as made
 use Rattle.tables.specs.Index.{Tables, indexIn, roomOf, kindsIn, kinded, refusal, numbersFrom, outOf, out}
-use Rattle.index.specs.Needs.{Passes}
+use Rattle.index.specs.Steps.{Passes}
 use Rattle.tables.specs.Lent.{TableBytes}
 use Rattle.index.proofs.Four.{Later, kinded-index}
 use Rattle.index.proofs.Questions.{passes, passes-hints}
 use Rattle.index.proofs.Left.{withHintTable, hints-left}
 use Rattle.index.proofs.Back.{numbers-back}
-use Rattle.keep_hint.specs.Keep.{mayKeep, keepHintIn}
+use Rattle.keep_hint.specs.Steps.{mayKeep}
+use Rattle.keep_hint.specs.KeepHint.{keepHintIn}
 
 -- ---- the mark set in a table
 module _ (n i : ℕ) (t : List ℕ) (b : Bytes t) (l : n * 8 ≤ length t) (h : i < n) where

@@ -14,7 +14,7 @@ use Rattle.rules.specs.Values.{noHint}
 use Rattle.rules.specs.Sections.{isKept, keptCount}
 use Rattle.rules.specs.Hints.{placeOf}
 use Rattle.tables.specs.Tables.{decodeKept, keptIn}
-use Rattle.keep_hint.specs.Keep.{mayKeep}
+use Rattle.keep_hint.specs.Steps.{mayKeep}
 
 -- ---- the place
 abbrev pub placeFrom : ℕ → ℕ → List Hint → ℕ

@@ -1,1 +1,2 @@
-pub mod Keep
+pub mod KeepHint
+pub mod Steps

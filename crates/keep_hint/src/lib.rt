@@ -16,7 +16,8 @@ ghost use Rattle.rules.specs.Sections.{isKept, keptCount};
 ghost use Rattle.rules.specs.Hints.{placeOf, keptHint};
 ghost use Rattle.tables.specs.Tables.{encodeKept, decodeKept, keptIn};
 ghost use Rattle.tables.specs.Index.{tables, out};
-ghost use Rattle.keep_hint.specs.Keep.{mayKeep, keepHintIn};
+ghost use Rattle.keep_hint.specs.Steps.{mayKeep};
+ghost use Rattle.keep_hint.specs.KeepHint.{keepHintIn};
 
 // The place of the first of n hints with that LSN; n where there is none.
 fn place_of(hints: &[u8], n: usize, lsn: u64) -> usize

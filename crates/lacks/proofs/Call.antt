@@ -23,10 +23,10 @@ use Rattle.laws.proofs.scans.Parts.{keep, part→}
 use Rattle.tables.specs.Tables.{decodeHeader, headersIn, framesIn, partsIn, lsnsIn, confirmationsIn, keptIn}
 use Rattle.tables.proofs.Frames.{frames-length}
 use Rattle.tables.specs.Index.{Tables, indexIn, endIn, idIn}
-use Rattle.index.specs.Needs.{Passes}
+use Rattle.index.specs.Steps.{Passes}
 use Rattle.index.proofs.Questions.{passes-long, passes-hints, passes-store}
-use Rattle.merge.specs.Join.{mergeRefusal}
-use Rattle.merge.specs.QuestionsNeeds.{Joins}
+use Rattle.merge.specs.Merge.{mergeRefusal}
+use Rattle.merge.specs.Steps.{Joins}
 use Rattle.merge.proofs.questions.Refusal.{asked-after}
 use Rattle.merge.proofs.questions.Ready.{scan-is, hinting-is}
 use Rattle.rules_lacks.specs.declared.Lacks.{Lacks}
@@ -35,7 +35,8 @@ use Rattle.rules_lacks.specs.Lacks.{sameHint, confirmsAlso, lacking, lacks}
 use Rattle.rules_lacks.specs.declared.Lacked.the-variants as lacked
 use Rattle.lacks.specs.Pass.{missed}
 use Rattle.lacks.specs.Parts.{partKey, PartsWithin, standsIn, PartsLent}
-use Rattle.lacks.specs.Lacks.{lacksBy, countsIn, lackedOf, lacksIn}
+use Rattle.lacks.specs.Steps.{lacksBy, countsIn}
+use Rattle.lacks.specs.Lacks.{lackedOf, lacksIn}
 use Rattle.lacks.proofs.Pass.{missed-rising, hint-key, confirmed-key}
 use Rattle.lacks.proofs.Parts.{parts-rise, parts-missed}
 

@@ -12,15 +12,14 @@ use Rattle.laws.proofs.scans.Scans.{malformed-length}
 use Rattle.laws.proofs.hint_lists.Rising.{rising→, rises-from}
 use Rattle.tables.specs.Tables.{decodeKept, confirmationsIn}
 use Rattle.tables.specs.Index.{Tables}
-use Rattle.index.specs.Needs.{Passes}
+use Rattle.index.specs.Steps.{Passes}
 use Rattle.index.proofs.Questions.{space, passes-long, passes-hints}
-use Rattle.confirmations.specs.Kept.{Rising}
-use Rattle.merge.specs.Further.{furtherIn}
-use Rattle.merge.specs.QuestionsNeeds.{Joins}
+use Rattle.confirmations.specs.Steps.{Rising}
+use Rattle.merge.specs.Merge.{furtherIn}
+use Rattle.merge.specs.Steps.{Joins, Appends, Takes, PartsReady, HintsReady}
 use Rattle.merge.proofs.questions.Ready.{scan-is, hinting-is, hint-room, confirmed-room, areas, few-boundaries, few-checkpoints, other-few}
 use Rattle.merge.proofs.questions.Held.{lent, room}
 use Rattle.parts.specs.Parts.{partTables}
-use Rattle.merge.specs.TakeNeeds.{Appends, Takes, PartsReady, HintsReady}
 
 few-malformed : {y : AreaIndex} {u : Tables} → Passes y u → y .malformed ≤ 4096
 few-malformed {y} {u} p =

@@ -24,15 +24,12 @@ use Rattle.laws.proofs.Layouts.{confirmation-layout}
 use Rattle.tables.specs.Tables.{checkpointsIn, partsIn, encodeKept, confirmationsIn}
 use Rattle.tables.specs.Index.{Tables, tables, indexIn, storeOf, numbersFrom, tablesCleared, Out, out, outOf, endIn, endFrom, idFrom}
 use Rattle.rules.specs.declared.Made.the-variants as made
-use Rattle.merge.specs.Join.{mergeRefusal}
-use Rattle.merge.specs.Further.{furtherIn}
+use Rattle.merge.specs.Merge.{mergeRefusal, furtherIn, hintsWritten, mergeIn}
 use Rattle.merge.proofs.questions.Refusal.{further-is, asked-after}
 use Rattle.parts.specs.declared.Counts.{Counts}
 use Rattle.parts.specs.Parts.{partTables, storedIn, Held, held, heldFrom}
-use Rattle.merge.specs.Merge.{hintsWritten, mergeIn}
 use Rattle.merge.specs.Numbers.{numbersBy}
-use Rattle.merge.specs.TakeNeeds.{Appended, Taken, partsTaken, Listed, listed, clearedUpTo, hintsJoined}
-use Rattle.merge.specs.Needs.{outIndex, mergedIn}
+use Rattle.merge.specs.Steps.{Appended, Taken, partsTaken, Listed, listed, clearedUpTo, hintsJoined, outIndex, mergedIn}
 
 -- ---- answer and tables
 ends : {r r' : AreaIndex} {a a' b b' c c' d d' e e' f f' g g' : List ℕ} → r ≡ r' → a ≡ a' → b ≡ b' → c ≡ c' → d ≡ d' → e ≡ e' → f ≡ f' → g ≡ g'

@@ -1,7 +1,3 @@
-pub mod Further
-pub mod Join
 pub mod Merge
-pub mod Needs
 pub mod Numbers
-pub mod QuestionsNeeds
-pub mod TakeNeeds
+pub mod Steps

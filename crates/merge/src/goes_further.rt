@@ -4,7 +4,7 @@ use field::or;
 use index::is_complete;
 use rules::AreaIndex;
 ghost use mathlib.Core.Path.{_≡_};
-ghost use Rattle.merge.specs.Further.{furtherIn};
+ghost use Rattle.merge.specs.Merge.{furtherIn};
 
 // Is the own list not complete and the other is, or has more checkpoints?
 pub fn further(x: AreaIndex, y: AreaIndex) -> bool

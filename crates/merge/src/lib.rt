@@ -19,9 +19,8 @@ use rules::AreaIndex;
 use rules::Made;
 ghost use mathlib.Core.Path.{_≡_};
 ghost use Rattle.tables.specs.Index.{tables, out};
-ghost use Rattle.merge.specs.QuestionsNeeds.{Joins};
+ghost use Rattle.merge.specs.Steps.{Joins, outIndex, mergedIn};
 ghost use Rattle.merge.specs.Merge.{mergeIn};
-ghost use Rattle.merge.specs.Needs.{outIndex, mergedIn};
 
 // ---- the call
 // The merge of y into x, which nothing refuses.

@@ -19,8 +19,8 @@ ghost use lib.ListN.{length};
 ghost use Rattle.rules.specs.Tests.{agree};
 ghost use Rattle.rules.specs.Values.{stated, sameArea, sameEnd};
 ghost use Rattle.tables.specs.Index.{tables, endIn, idIn};
-ghost use Rattle.merge.specs.Join.{mergeRefusal};
-ghost use Rattle.merge.specs.QuestionsNeeds.{areaAgrees, imageAgrees, readingAgrees, joinNumber};
+ghost use Rattle.merge.specs.Merge.{mergeRefusal};
+ghost use Rattle.merge.specs.Steps.{areaAgrees, imageAgrees, readingAgrees, joinNumber};
 
 // ---- 41
 pub fn same_area(a: Area, b: Area) -> bool

@@ -12,7 +12,7 @@ use rules::Area;
 use rules::AreaIndex;
 ghost use mathlib.Core.Path.{_≡_};
 ghost use Rattle.parts.specs.Parts.{partTables, held};
-ghost use Rattle.merge.specs.TakeNeeds.{Appends, Appended, Takes, Taken, PartsReady, partsTaken, HintsReady, hintsJoined, listed};
+ghost use Rattle.merge.specs.Steps.{Appends, Appended, Takes, Taken, PartsReady, partsTaken, HintsReady, hintsJoined, listed};
 
 // The other's checkpoints from number i on behind the n of t. Answers how many there are then.
 pub fn append_checkpoints(t: &mut [u8], n: u32, other: &[u8], m: u32, i: u32) -> u32

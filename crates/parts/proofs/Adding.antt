@@ -35,7 +35,7 @@ use Rattle.index.proofs.Store.{store-part}
 use Rattle.parts.specs.declared.Counts.{Counts}
 use Rattle.parts.specs.declared.Source.{Source}
 use Rattle.parts.specs.Parts.{PartTables, storedIn, countsOf, storedOver, Held, held, heldFrom}
-use Rattle.parts.specs.Needs.{Ready, Room, wanted, InOrder, Lent, offsetTo, heldPiece, addedBy}
+use Rattle.parts.specs.Steps.{Ready, Room, wanted, InOrder, Lent, offsetTo, heldPiece, addedBy}
 use Rattle.parts.proofs.Frames.{count}
 use Rattle.parts.proofs.Stored.{stays}
 use Rattle.parts.proofs.Steps.{Typed, Fits, Step, step-part, stored-again, stands-there, next-room}

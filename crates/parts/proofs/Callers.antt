@@ -24,7 +24,7 @@ use Rattle.tables.specs.Tables.{framesIn, partsIn}
 use Rattle.tables.specs.Index.{kindsOk}
 use Rattle.parts.specs.declared.Counts.{Counts}
 use Rattle.parts.specs.Parts.{PartTables}
-use Rattle.parts.specs.Needs.{Room, wanted, InOrder, Lent}
+use Rattle.parts.specs.Steps.{Room, wanted, InOrder, Lent}
 use Rattle.parts.proofs.Frames.{count}
 
 module _ (a : Area) (k first : ℕ) (cs : List Checkpoint) (fs : List Frame) where

@@ -12,7 +12,7 @@ use Rattle.rules.specs.File.{encodeHeld}
 use Rattle.parts.specs.declared.Counts.{Counts}
 use Rattle.parts.specs.declared.Placed.{Placed}
 use Rattle.parts.specs.Parts.{PartTables, partTables, held}
-use Rattle.parts.specs.Needs.{placedIn, Puts, putIn}
+use Rattle.parts.specs.Steps.{placedIn, Puts, putIn}
 
 -- ---- where a part goes
 module _ (f : ℕ) {new : Bool} (l n : ℕ) where

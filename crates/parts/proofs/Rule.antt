@@ -20,7 +20,7 @@ use Rattle.tables.specs.Tables.{partsIn}
 use Rattle.tables.proofs.Tests.{leb-left}
 use Rattle.parts.specs.declared.Counts.{Counts}
 use Rattle.parts.specs.Parts.{PartTables, storedIn}
-use Rattle.parts.specs.Needs.{Ready, joinsIn}
+use Rattle.parts.specs.Steps.{Ready, joinsIn}
 use Rattle.parts.proofs.Frames.{lastHeader, last-start, last-length, last-used, last-bytes}
 
 -- the last part

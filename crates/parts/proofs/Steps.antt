@@ -28,7 +28,7 @@ use Rattle.index.proofs.Standing.{held-records, kinds-held, over-length}
 use Rattle.index.proofs.Store.{store-length}
 use Rattle.parts.specs.declared.Counts.{Counts}
 use Rattle.parts.specs.Parts.{PartTables, storedIn, countsOf, storedOver, Held}
-use Rattle.parts.specs.Needs.{Room}
+use Rattle.parts.specs.Steps.{Room}
 
 -- ---- what a part adds
 -- its numbers fit their types

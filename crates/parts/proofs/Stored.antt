@@ -32,7 +32,7 @@ use Rattle.index.proofs.Store.{store-snoc}
 use Rattle.parts.specs.declared.Counts.{Counts}
 use Rattle.parts.specs.declared.Placed.{Placed}
 use Rattle.parts.specs.Parts.{PartTables, storedIn, held, heldFrom, countsOf}
-use Rattle.parts.specs.Needs.{Ready, Room, placedIn, Puts, putIn}
+use Rattle.parts.specs.Steps.{Ready, Room, placedIn, Puts, putIn}
 use Rattle.parts.proofs.Frames.{count, lastHeader, last-length, frames-last}
 use Rattle.parts.proofs.Rule.{last-inside, opens-is}
 

@@ -21,7 +21,7 @@ use Rattle.tables.specs.declared.FrameHeader.{FrameHeader}
 use Rattle.tables.specs.Tables.{headerAt, framesOf, partsIn}
 use Rattle.tables.proofs.Frames.{stretch-length, frames-used, weight}
 use Rattle.tables.proofs.Walk.{records-turn}
-use Rattle.plan.specs.Needs.{storedOf}
+use Rattle.plan.specs.Steps.{storedOf}
 
 -- ---- the bytes of the frames before one
 take-frames : (g : ℕ) (hs : List FrameHeader) (store : List ℕ) → take g (framesOf hs store) ≡ framesOf (take g hs) store

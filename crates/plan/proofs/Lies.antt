@@ -8,7 +8,7 @@ use borrow.Author.Tests.{le-leb, lt-leb, leb-true, not-true, not-false}
 use lib.Dec.{leb}
 use lib.ListN.{length, take, drop}
 use Rattle.rules.specs.Plan.{bytesAt}
-use Rattle.plan.specs.Part.{liesIn}
+use Rattle.plan.specs.Plan.{liesIn}
 
 module _ (store : List ℕ) (offset len : ℕ) where
   pub lies-not : length store < offset + len → false ≡ liesIn store offset len

@@ -24,11 +24,11 @@ use Rattle.rules.proofs.Tests.{test, all→, after→, accepted→}
 use Rattle.laws.proofs.scans.Parts.{part→}
 use Rattle.rules.proofs.Walk.{walk-at}
 use Rattle.tables.specs.Index.{Tables, indexIn, refusal}
-use Rattle.index.specs.Needs.{Passes}
+use Rattle.index.specs.Steps.{Passes}
 use Rattle.index.proofs.Questions.{passes, passes-parts}
 use Rattle.index.proofs.Store.{store-part}
 use Rattle.index.proofs.Lent.{store-is}
-use Rattle.plan.specs.Needs.{storedOf}
+use Rattle.plan.specs.Steps.{storedOf}
 use Rattle.plan.specs.Part.{Names, PlanNames}
 use Rattle.plan.proofs.Steps.{answer-is}
 

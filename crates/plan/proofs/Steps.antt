@@ -20,10 +20,10 @@ use Rattle.rules.specs.Plan.{lastNotAbove, assemblyOf, planFrom, planOr, planne
 use Rattle.tables.specs.Tables.{checkpointsIn, framesIn, partsIn}
 use Rattle.rules.specs.declared.Planned.the-variants as variants
 use Rattle.tables.specs.Index.{Tables, indexIn, refusal, endIn}
-use Rattle.plan.specs.Calls.{plannedOf, planIn}
-use Rattle.index.specs.Needs.{Passes}
+use Rattle.plan.specs.Plan.{plannedOf, planIn}
+use Rattle.index.specs.Steps.{Passes}
 use Rattle.plan.specs.Search.{lastIn}
-use Rattle.plan.specs.Needs.{Ready, resumeIn, withinOf, planOf}
+use Rattle.plan.specs.Steps.{Ready, resumeIn, withinOf, planOf}
 use Rattle.index.proofs.Four.{kinded-index}
 use Rattle.index.proofs.Questions.{range, passes-long, checkpoints-hold}
 use Rattle.plan.proofs.Rising.{rising}

@@ -1,4 +1,4 @@
-pub mod Calls
-pub mod Needs
 pub mod Part
+pub mod Plan
 pub mod Search
+pub mod Steps

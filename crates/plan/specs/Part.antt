@@ -1,10 +1,7 @@
 -- The bytes of the part that a plan names.
 use mathlib.Core.Path.{_≡_}
-use mathlib.Core.Bool.{Bool}
-use mathlib.Core.List.{List}
-use Prim.Native.Nat.{ℕ, _+_, _<_}
-use lib.Dec.{leb}
-use lib.ListN.{length, getD}
+use Prim.Native.Nat.{ℕ, _<_}
+use lib.ListN.{getD}
 use Rattle.rules.specs.declared.AreaIndex.{AreaIndex}
 use Rattle.rules.specs.declared.Assembly.the-variants.{Stored}
 use Rattle.rules.specs.declared.Held.{Held}
@@ -15,11 +12,7 @@ use Rattle.rules.specs.Tests.{Accepted}
 use Rattle.rules.specs.Values.{noHeld, partBytes}
 use Rattle.rules.specs.Plan.{bytesAt}
 use Rattle.tables.specs.Index.{Tables, indexIn}
-use Rattle.plan.specs.Calls.{planIn}
-
--- do len bytes from offset on lie in a store?
-unfoldable pub liesIn : List ℕ → ℕ → ℕ → Bool
-liesIn store offset len = leb (offset + len) (length store)
+use Rattle.plan.specs.Plan.{planIn}
 
 -- part number i of an index in its tables
 abbrev pub partAt : AreaIndex → Tables → ℕ → Held

@@ -24,9 +24,8 @@ ghost use lib.ListN.{length};
 ghost use Rattle.rules.specs.Plan.{offsetOf, assemblyOf, bytesAt};
 ghost use Rattle.tables.specs.Tables.{framesIn, partsIn};
 ghost use Rattle.tables.specs.Index.{tables};
-ghost use Rattle.plan.specs.Calls.{plannedOf, planIn};
-ghost use Rattle.plan.specs.Part.{liesIn};
-ghost use Rattle.plan.specs.Needs.{Ready, storedOf, resumeIn, withinOf, planOf};
+ghost use Rattle.plan.specs.Plan.{plannedOf, planIn, liesIn};
+ghost use Rattle.plan.specs.Steps.{Ready, storedOf, resumeIn, withinOf, planOf};
 
 // Where the bytes of frame number g begin in the store.
 fn offset_of(frames: &[u8], f: usize, g: u32) -> u64

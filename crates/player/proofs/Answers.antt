@@ -9,25 +9,24 @@ use Rattle.rules.specs.declared.AreaIndex.{AreaIndex}
 use Rattle.rules.specs.declared.First.{First}
 use Rattle.rules.specs.FirstRecord.{firstRecord}
 use Rattle.rules.specs.Tests.{Accepted}
-use Rattle.blocks.specs.Head.{indexWords}
-use Rattle.blocks.specs.IsHead.{isIndex}
+use Rattle.blocks.specs.Blocks.{indexWords, isIndex}
 use Rattle.tables.specs.Index.{Tables, out}
 use Rattle.rules.specs.declared.Made.{Made}
-use Rattle.index.specs.Calls.{madeOf, newIn, boundIn}
-use Rattle.plan.specs.Calls.{plannedOf, planIn}
+use Rattle.index.specs.Index.{madeOf, newIn, boundIn}
+use Rattle.plan.specs.Plan.{plannedOf, planIn}
 use Rattle.rules.specs.declared.Planned.{Planned}
 use Rattle.load.specs.Load.{loadIn}
 use Rattle.merge.specs.Merge.{mergeIn}
-use Rattle.adds.specs.Brings.{addsOf, addsIn}
+use Rattle.adds.specs.Adds.{addsOf, addsIn}
 use Rattle.rules.specs.declared.Added.{Added}
-use Rattle.add_hints.specs.Added.{addHintsIn}
+use Rattle.add_hints.specs.AddHints.{addHintsIn}
 use Rattle.save.specs.Save.{made, saveIn}
 use Rattle.rules.specs.declared.Saved.{Saved}
 use Rattle.rules.specs.declared.FileArea.{FileArea}
 use Rattle.rules.specs.declared.Sized.{Sized}
 use Rattle.sizes.specs.Sizes.{sizedOf, newSizes, fileSizes, fileAreaOf, fileArea, fileLength}
 use Rattle.player.specs.Block.{called, into, headIndex, planWords, firstWords, sizeWords, areaWords, bringsWords, savedNumber}
-use Rattle.player.specs.Calls.{calledOver, firstCall, sizesCall, fileAreaCall, fileSizesCall, newCall, loadCall, fingerprintCall, planCall, lengthCall, saveCall, mergeCall, addsCall, addHintsCall}
+use Rattle.player.specs.Player.{calledOver, firstCall, sizesCall, fileAreaCall, fileSizesCall, newCall, loadCall, fingerprintCall, planCall, lengthCall, saveCall, mergeCall, addsCall, addHintsCall}
 use Rattle.player.proofs.block.Blocks.{long-enough, is-head}
 
 -- ---- the block is the answer's

@@ -17,10 +17,8 @@ use Rattle.rules.specs.Tests.{Answer, Refused, Accepted}
 use Rattle.rules_jump.specs.Names.{planRule, planRuleNumber}
 use Rattle.rules_view.specs.View.{workshop}
 use Rattle.rules.specs.declared.Brings.{Brings}
-use Rattle.blocks.specs.From.{indexFrom, recorderFrom, hintRecorderFrom}
+use Rattle.blocks.specs.Blocks.{indexFrom, recorderFrom, hintRecorderFrom, wordsIn, blockOf, firstTold, isBlock}
 use Rattle.blocks.specs.declared.Told.{Told}
-use Rattle.blocks.specs.Head.{wordsIn, blockOf, firstTold}
-use Rattle.blocks.specs.IsHead.{isBlock}
 use Rattle.rules.specs.declared.Saved.{Saved}
 use Rattle.rules.specs.declared.Saved.the-variants as saved
 use Rattle.save.specs.Save.{SaveOut}

@@ -32,13 +32,13 @@ ghost use Prim.Native.Nat.{_≤_};
 ghost use lib.ListN.{length};
 ghost use Rattle.rules.specs.File.{bit};
 ghost use Rattle.rules.specs.Tests.{Accepted};
-ghost use Rattle.blocks.specs.Head.{indexWords};
-ghost use Rattle.index.specs.Calls.{madeOf};
-ghost use Rattle.plan.specs.Calls.{plannedOf};
-ghost use Rattle.adds.specs.Brings.{addsOf};
+ghost use Rattle.blocks.specs.Blocks.{indexWords};
+ghost use Rattle.index.specs.Index.{madeOf};
+ghost use Rattle.plan.specs.Plan.{plannedOf};
+ghost use Rattle.adds.specs.Adds.{addsOf};
 ghost use Rattle.sizes.specs.Sizes.{sizedOf, fileAreaOf};
 ghost use Rattle.player.specs.Block.{called, into, planArray, ruleWord, headIndex, headRecorder, headHintRecorder, areaFrom, assemblyWords, planWords, firstWords, sizeWords, areaWords, bringsWords, oneWord, savedNumber};
-ghost use Rattle.player.specs.Needs.{resumeWords};
+ghost use Rattle.player.specs.Steps.{resumeWords};
 
 // ---- from blocks
 pub fn index_in(head: &[u8]) -> AreaIndex

@@ -5,8 +5,7 @@ use blocks::HEAD_BYTES;
 use blocks::read::is_index;
 ghost use mathlib.Core.Path.{_≡_};
 ghost use Rattle.tables.specs.Index.{tables};
-ghost use Rattle.player.specs.Calls.{calledOver};
-ghost use Rattle.player.specs.CoarseCalls.{coarseCall};
+ghost use Rattle.player.specs.Player.{calledOver, coarseCall};
 
 // The list of a head, which is only read, at a wider interval.
 #[no_mangle]

@@ -5,8 +5,7 @@ use blocks::read::is_index;
 use drawer::merge_all;
 ghost use mathlib.Core.Path.{_≡_};
 ghost use Rattle.tables.specs.Index.{tables};
-ghost use Rattle.player.specs.Calls.{calledOver};
-ghost use Rattle.player.specs.DrawerCalls.{mergeAllCallAs};
+ghost use Rattle.player.specs.Player.{calledOver, mergeAllCallAs};
 
 // The files, end to end in one buffer, merged into the list of a head, all of them or none.
 #[no_mangle]

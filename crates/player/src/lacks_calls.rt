@@ -12,7 +12,7 @@ ghost use lib.ListN.{length};
 ghost use Rattle.tables.specs.Index.{tables};
 ghost use Rattle.lacks.specs.Lacks.{lackedOf};
 ghost use Rattle.player.specs.Block.{called, into};
-ghost use Rattle.player.specs.LacksCalls.{lacksWords, lacksCall};
+ghost use Rattle.player.specs.Player.{lacksWords, lacksCall};
 
 fn lacks_words(l: Lacks) -> [u64; 24]
     ensures { λ r. ⌜ r ≡ lacksWords l ⌝ }

@@ -21,7 +21,7 @@ ghost use mathlib.Core.Path.{_≡_};
 ghost use Rattle.fnv.specs.Fnv.{fnv64};
 ghost use Rattle.tables.specs.Index.{tables};
 ghost use Rattle.player.specs.Block.{called, areaFrom};
-ghost use Rattle.player.specs.Calls.{calledOver, mergeCallAs, addsCall, addHintsCall, newCall, loadCallAs, fingerprintCall, planCall, saveCallAs, lengthCall, sizesCall, fileSizesCall, fileAreaCall, firstCall};
+ghost use Rattle.player.specs.Player.{calledOver, mergeCallAs, addsCall, addHintsCall, newCall, loadCallAs, fingerprintCall, planCall, saveCallAs, lengthCall, sizesCall, fileSizesCall, fileAreaCall, firstCall};
 
 // ---- sums, sectors and sizes
 // The sum of bytes.

@@ -6,9 +6,9 @@ use short_sum::Folded;
 ghost use mathlib.Core.Path.{_≡_};
 ghost use Prim.Native.Nat.{_≤_};
 ghost use lib.ListN.{length};
-ghost use Rattle.short_sum.specs.Short.{fnv32};
+ghost use Rattle.short_sum.specs.ShortSum.{fnv32};
 ghost use Rattle.player.specs.Block.{called, into, oneWord};
-ghost use Rattle.player.specs.Sums.{foldedOf, foldCall};
+ghost use Rattle.player.specs.Player.{foldedOf, foldCall};
 
 // The short sum of bytes.
 #[no_mangle]

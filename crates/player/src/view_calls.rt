@@ -5,7 +5,7 @@ use view::block_refuses;
 ghost use mathlib.Core.Path.{_≡_};
 ghost use Rattle.tables.specs.Index.{tables};
 ghost use Rattle.player.specs.Block.{called};
-ghost use Rattle.player.specs.ViewCalls.{viewedNumber, viewLengthCall, viewCall};
+ghost use Rattle.player.specs.Player.{viewedNumber, viewLengthCall, viewCall};
 
 // The length, or the refusal number.
 fn viewed_number(viewed: Viewed) -> u64

@@ -6,22 +6,19 @@ use Prim.Native.Nat.{ℕ, _≤_}
 use lib.ListN.{length}
 use Rattle.rules.specs.declared.Area.{Area}
 use Rattle.rules.specs.declared.AreaIndex.{AreaIndex}
-use Rattle.blocks.specs.IsHead.{isIndex}
+use Rattle.blocks.specs.Blocks.{isIndex}
 use Rattle.tables.specs.Index.{Tables}
 use Rattle.save.specs.Save.{made}
 use Rattle.rules.specs.declared.Saved.{Saved}
 use Rattle.player.specs.Block.{called, into, headIndex, savedNumber}
 use Rattle.player.proofs.block.Blocks.{long-enough, is-head}
 use Rattle.rules_disc.specs.declared.Contents.{Contents}
-use Rattle.disc_load.specs.Contents.{contentsIn}
+use Rattle.disc_load.specs.DiscLoad.{contentsIn, discOut, loadDiscIn, discSizes, discSizedOf}
 use Rattle.rules_disc.specs.declared.Loaded.{Loaded}
-use Rattle.disc_load.specs.Calls.{discOut, loadDiscIn}
-use Rattle.disc_save.specs.Calls.{saveOneIn, saveBothIn}
+use Rattle.disc_save.specs.DiscSave.{saveOneIn, saveBothIn, oneLength, bothLength}
 use Rattle.rules_disc.specs.declared.DiscSized.{DiscSized}
-use Rattle.disc_load.specs.Sizes.{discSizes, discSizedOf}
-use Rattle.disc_save.specs.Length.{oneLength, bothLength}
 use Rattle.player_disc.specs.Block.{calledLists, contentsInto, discSizeWords, loadedInto}
-use Rattle.player_disc.specs.Calls.{discContentsCall, discSizesCall, discLengthCall, discLengthBothCall, discSaveCall, discSaveBothCall, calledDisc, discLoadCall}
+use Rattle.player_disc.specs.PlayerDisc.{discContentsCall, discSizesCall, discLengthCall, discLengthBothCall, discSaveCall, discSaveBothCall, calledDisc, discLoadCall}
 
 -- ---- the block is the answer's
 module _ (b b' : List ℕ) (n : ℕ) (l : 192 ≤ length b) where

@@ -3,7 +3,7 @@ use Prim.Native.Nat.{ℕ}
 use mathlib.Core.List.{List, [], _∷_}
 use mathlib.Core.Option.{Option, none, some}
 use Rattle.rules.specs.File.{over}
-use Rattle.blocks.specs.Head.{blockOf, indexWords}
+use Rattle.blocks.specs.Blocks.{blockOf, indexWords}
 use Rattle.player.specs.Block.{Called, called, two}
 use Rattle.rules.specs.declared.TableSizes.{TableSizes}
 use Rattle.rules_disc.specs.declared.Contents.{Contents}
@@ -14,7 +14,7 @@ use Rattle.rules_disc.specs.declared.Listed.{Listed}
 use Rattle.rules_disc.specs.declared.Listed.the-variants as listed
 use Rattle.rules_disc.specs.declared.Loaded.{Loaded}
 use Rattle.rules_disc.specs.declared.Loaded.the-variants as loaded
-use Rattle.disc_load.specs.Sizes.{DiscSizes}
+use Rattle.disc_load.specs.DiscLoad.{DiscSizes}
 use Rattle.player_disc.specs.declared.block.PlaceWords.{PlaceWords}
 
 -- ---- the contents table

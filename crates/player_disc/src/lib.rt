@@ -13,7 +13,7 @@ ghost use mathlib.Core.Path.{_≡_};
 ghost use Rattle.tables.specs.Index.{tables};
 ghost use Rattle.player.specs.Block.{called, areaFrom};
 ghost use Rattle.player_disc.specs.Block.{calledLists};
-ghost use Rattle.player_disc.specs.Calls.{discContentsCall, discSizesCall, discLengthCall, discLengthBothCall, discSaveCallAs, discSaveBothCallAs, calledDisc, discLoadCallAs};
+ghost use Rattle.player_disc.specs.PlayerDisc.{discContentsCall, discSizesCall, discLengthCall, discLengthBothCall, discSaveCallAs, discSaveBothCallAs, calledDisc, discLoadCallAs};
 
 // ---- what a disc file holds
 // Whether there is a list of each slot, and where its file lies.

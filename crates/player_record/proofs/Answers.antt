@@ -9,20 +9,18 @@ use Rattle.rules.specs.declared.EndState.{EndState}
 use Rattle.rules.specs.declared.ImageId.{ImageId}
 use Rattle.rules.specs.declared.Recorder.{Recorder}
 use Rattle.rules.specs.declared.UnderAssembly.{UnderAssembly}
-use Rattle.blocks.specs.IsHead.{isIndex, isRecorder}
+use Rattle.blocks.specs.Blocks.{isIndex, isRecorder}
 use Rattle.tables.specs.Index.{Tables}
 use Rattle.rules.specs.declared.Recorded.{Recorded}
 use Rattle.tables.specs.Recorder.{RecorderTables}
-use Rattle.recorder.specs.Recorder.{startedIn, finishedIn}
-use Rattle.recorder.specs.Record.{recorderOut, recordIn}
+use Rattle.recorder.specs.Recorder.{startedIn, finishedIn, recorderOut, recordIn, dueAt, checkpointAt}
 use Rattle.rules.specs.declared.Boundary.{Boundary}
-use Rattle.recorder.specs.Boundary.{dueAt, checkpointAt}
 use Rattle.rules.specs.declared.Absorbed.{Absorbed}
 use Rattle.absorb.specs.Absorb.{out, absorbIn}
 use Rattle.player_record.specs.Block.{calledBoth, absorbedInto, boundaryOf, boundaryWords}
 use Rattle.player.specs.Block.{called, into, headIndex, headRecorder}
 use Rattle.player.proofs.block.Blocks.{long-enough, is-head}
-use Rattle.player_record.specs.Calls.{calledFour, recordedInto, recorderCall, recordCall, finishCall, dueCall, boundaryCall, calledAbsorbed, absorbCall}
+use Rattle.player_record.specs.PlayerRecord.{calledFour, recordedInto, recorderCall, recordCall, finishCall, dueCall, boundaryCall, calledAbsorbed, absorbCall}
 
 module _ (b b' : List ℕ) (n : ℕ) (q : Recorded) (p : called n b' ≡ recordedInto b q) where
   pub recorder-done : 192 ≤ length b → (h : List ℕ) → isIndex h ≡ true → (x : AreaIndex) (t : Tables) (from : ℕ) → q ≡ startedIn x t from → x ≡ headIndex h

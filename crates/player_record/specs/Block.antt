@@ -16,7 +16,7 @@ use Rattle.rules.specs.Tests.{Answer, Refused, Accepted}
 use Rattle.rules.specs.Values.{lim}
 use Rattle.rules_jump.specs.Names.{NamedHint, startRuleNumber, endRuleNumber}
 use Rattle.rules.specs.declared.Absorbed.{Absorbed}
-use Rattle.blocks.specs.Head.{blockOf, indexWords, recorderWords, hintRecorderWords, seenWords}
+use Rattle.blocks.specs.Blocks.{blockOf, indexWords, recorderWords, hintRecorderWords, seenWords}
 use Rattle.rules.specs.declared.Created.{Created}
 use Rattle.rules.specs.declared.Created.the-variants as created
 use Rattle.rules.specs.declared.Saw.{Saw}

@@ -27,11 +27,10 @@ use rules_jump::start_rule_number;
 ghost use mathlib.Core.Path.{_≡_};
 ghost use Prim.Native.Nat.{_≤_};
 ghost use lib.ListN.{length};
-ghost use Rattle.blocks.specs.From.{imageFrom};
-ghost use Rattle.blocks.specs.Head.{recorderWords, hintRecorderWords};
+ghost use Rattle.blocks.specs.Blocks.{imageFrom, recorderWords, hintRecorderWords};
 ghost use Rattle.rules.specs.Tests.{numberOf};
-ghost use Rattle.index.specs.Calls.{madeOf};
-ghost use Rattle.hint.specs.Calls.{namedOf, answerOf};
+ghost use Rattle.index.specs.Index.{madeOf};
+ghost use Rattle.hint.specs.Hint.{namedOf, answerOf};
 ghost use Rattle.player.specs.Block.{called, into};
 ghost use Rattle.player_record.specs.Block.{kindFrom, numberFrom, frameFrom, recordedOf, seenOf, sawOf, sectorWords, createdOf, createdWords, hintWords, foundWords, calledBoth, takenInto, keptInto, absorbedInto, boundaryOf, lsnWords, boundaryWords};
 

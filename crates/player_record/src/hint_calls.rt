@@ -13,10 +13,10 @@ use player::block::hint_recorder_in;
 use player::block::index_in;
 ghost use mathlib.Core.Path.{_≡_};
 ghost use Rattle.tables.specs.Index.{tables};
-ghost use Rattle.confirmations.specs.Keeping.{given};
+ghost use Rattle.confirmations.specs.Confirmations.{given};
 ghost use Rattle.player.specs.Block.{called};
 ghost use Rattle.player_record.specs.Block.{calledBoth};
-ghost use Rattle.player_record.specs.HintCallsCalls.{calledList, calledKept, calledTables, hintRecorderCall, seeCall, flushCall, takeCall, keepCall, keepHintCall, hintCall};
+ghost use Rattle.player_record.specs.PlayerRecord.{calledList, calledKept, calledTables, hintRecorderCall, seeCall, flushCall, takeCall, keepCall, keepHintCall, hintCall};
 
 // The hint recorder of a list, into its block; 24 words of 0 where there is none.
 #[no_mangle]

@@ -14,12 +14,12 @@ use player::block::index_in;
 use player::block::recorder_in;
 use rules::EndState;
 ghost use mathlib.Core.Path.{_≡_};
-ghost use Rattle.blocks.specs.From.{imageFrom};
+ghost use Rattle.blocks.specs.Blocks.{imageFrom};
 ghost use Rattle.tables.specs.Index.{tables};
 ghost use Rattle.tables.specs.Recorder.{recorderTables};
 ghost use Rattle.player.specs.Block.{called};
 ghost use Rattle.player_record.specs.Block.{frameFrom};
-ghost use Rattle.player_record.specs.Calls.{calledFour, endState, recorderCall, recordCall, finishCall, dueCall, boundaryCall, calledAbsorbed, absorbCall};
+ghost use Rattle.player_record.specs.PlayerRecord.{calledFour, endState, recorderCall, recordCall, finishCall, dueCall, boundaryCall, calledAbsorbed, absorbCall};
 
 // The recorder of a list, from an LSN on, into its block.
 #[no_mangle]

@@ -13,7 +13,7 @@ use Rattle.laws.proofs.Ranges.{boundaries-small}
 use Rattle.laws.proofs.scans.Record.{interval-pos}
 use Rattle.index.proofs.Questions.{range}
 use Rattle.rules.specs.declared.Boundary.the-variants.{Refused, Nothing, Lsn}
-use Rattle.recorder.specs.Boundary.{boundaryAt}
+use Rattle.recorder.specs.Recorder.{boundaryAt}
 
 module _ (a : Area) (k budget j : ℕ) (w : Bool) {p : Bool} (e : p ≡ areaOk a) where
   pub bound-1 : not p ≡ true → Refused 1 ≡ boundaryAt a k budget j w

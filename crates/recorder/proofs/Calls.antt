@@ -27,8 +27,8 @@ use Rattle.parts.proofs.Frames.{count}
 use Rattle.rules.specs.declared.Recorded.{Recorded}
 use Rattle.rules.specs.declared.Recorded.the-variants as recorded
 use Rattle.tables.specs.Recorder.{RecorderTables, recorderRoom, recorderIn, recorderKinds, recorderRefusal, recorderFrom}
-use Rattle.recorder.specs.Recorder.{recorderOf, startedIn, finishedIn}
-use Rattle.recorder.specs.Needs.{recorderHeld, Roomy, Long, emptyOf, modeOf}
+use Rattle.recorder.specs.Recorder.{recorderOf, startedIn, finishedIn, modeOf}
+use Rattle.recorder.specs.Steps.{recorderHeld, Roomy, Long, emptyOf}
 use Rattle.recorder.proofs.Questions.{refusal-is, held-is, long-by}
 
 -- an answer after a number

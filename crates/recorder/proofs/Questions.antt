@@ -17,13 +17,13 @@ use Rattle.rules.specs.Questions.{areaOk, numbersOk, scanRoom, heldOk, endOf, r
 use Rattle.rules.specs.File.{decodeCheckpoint, decodeHeld}
 use Rattle.laws.proofs.Ranges.{boundaries-small}
 use Rattle.laws.proofs.scans.Record.{interval-pos}
-use Rattle.index.specs.Needs.{scanSpace}
+use Rattle.index.specs.Index.{scanSpace}
 use Rattle.index.proofs.Four.{one-bits}
 use Rattle.index.proofs.Numbers.{within24, within8, test}
 use Rattle.index.proofs.Questions.{range}
 use Rattle.parts.proofs.Frames.{count}
 use Rattle.tables.specs.Recorder.{RecorderTables, recorderIn, recorderKinds, recorderRefusal}
-use Rattle.recorder.specs.Needs.{recorderHeld, stretchCounts, stretchIn, Roomy, Long}
+use Rattle.recorder.specs.Steps.{recorderHeld, stretchCounts, stretchIn, Roomy, Long}
 
 -- ---- counts
 module _ {b : ℕ} {r : Recorder} {t : RecorderTables} (s : Roomy b r t) where

@@ -1,5 +1,2 @@
-pub mod Needs
-pub mod Record
-pub mod RecordNeeds
 pub mod Recorder
-pub mod Boundary
+pub mod Steps

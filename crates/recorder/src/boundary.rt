@@ -10,7 +10,7 @@ use rules::Recorder;
 use sections::area_boundaries;
 use sections::lsn_at;
 ghost use mathlib.Core.Path.{_≡_};
-ghost use Rattle.recorder.specs.Boundary.{boundaryAt, checkpointAt, dueAt};
+ghost use Rattle.recorder.specs.Recorder.{boundaryAt, checkpointAt, dueAt};
 
 // Boundary number j, where it is wanted.
 fn boundary_at(area: Area, interval: u32, budget: u64, j: u64, wanted: bool) -> Boundary

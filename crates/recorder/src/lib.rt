@@ -32,8 +32,8 @@ ghost use Rattle.rules.specs.Tests.{isSome};
 ghost use Rattle.rules.specs.Questions.{endOf};
 ghost use Rattle.tables.specs.Index.{tables, endIn};
 ghost use Rattle.tables.specs.Recorder.{recorderTables, recorderRefusal};
-ghost use Rattle.recorder.specs.Recorder.{startedIn, finishedIn};
-ghost use Rattle.recorder.specs.Needs.{recorderHeld, stretchCounts, stretchIn, Roomy, Long, emptyOf, modeOf};
+ghost use Rattle.recorder.specs.Recorder.{startedIn, finishedIn, modeOf};
+ghost use Rattle.recorder.specs.Steps.{recorderHeld, stretchCounts, stretchIn, Roomy, Long, emptyOf};
 
 // ---- the end state
 // The end state that a recorder has.

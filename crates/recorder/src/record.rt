@@ -28,10 +28,10 @@ ghost use lib.Seq.{sets};
 ghost use Rattle.rules.specs.Record.{backOf};
 ghost use Rattle.rules.specs.File.{encodeCheckpoint};
 ghost use Rattle.parts.specs.Parts.{partTables, storedIn, held, heldFrom};
-ghost use Rattle.parts.specs.Needs.{Room};
+ghost use Rattle.parts.specs.Steps.{Room};
 ghost use Rattle.tables.specs.Recorder.{recorderTables, assemblingIn};
-ghost use Rattle.recorder.specs.Record.{recorderOut, recordIn};
-ghost use Rattle.recorder.specs.RecordNeeds.{dueIn, risesIn, startsIn, assembledIn, recordNumber, advancedOf};
+ghost use Rattle.recorder.specs.Recorder.{recorderOut, recordIn};
+ghost use Rattle.recorder.specs.Steps.{dueIn, risesIn, startsIn, assembledIn, recordNumber, advancedOf};
 
 // ---- 5 to 7
 // 5: is it the due LSN, inside the area, not finished or stopped, with a sector of 2,048 bytes?

@@ -18,7 +18,7 @@ use Rattle.laws.proofs.scans.Parts.{frames-used}
 use Rattle.rules.proofs.Tests.{and-left, and-right, all→}
 use Rattle.laws.proofs.Facts.{numbersOk→, scanOk→}
 use Rattle.laws.proofs.Length.{savedLength-is}
-use Rattle.index.specs.Needs.{Passes, scanIn, hintingIn, hintCounts}
+use Rattle.index.specs.Steps.{Passes, scanIn, hintingIn, hintCounts}
 use Rattle.index.proofs.Four.{kinded-index}
 use Rattle.index.proofs.Questions.{passes, passes-long, held-is, hinting-is, hints-long, hint-space}
 use Rattle.tables.specs.Index.{Tables, indexIn, kindsOk, refusal, roomIn}

@@ -13,7 +13,7 @@ use Rattle.rules.specs.Values.{Index, used}
 use Rattle.rules.specs.File.{encodeCheckpoint, encodeFrame, encodeHeld, encodeLsn, encodeHint, encodeConfirmation, versionOf}
 use Rattle.tables.specs.Tables.{checkpointsIn, partsIn, lsnsIn, keptIn, confirmationsIn, framesIn}
 use Rattle.tables.specs.Index.{indexIn, kindsOk, tables}
-use Rattle.index.specs.Needs.{Long}
+use Rattle.index.specs.Steps.{Long}
 use Rattle.save.specs.Layout.{Framed}
 use Rattle.save.specs.Output.{hintHeader}
 

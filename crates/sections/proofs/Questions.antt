@@ -12,7 +12,7 @@ use Rattle.rules.specs.Tests.{Ask, all, firstNo}
 use Rattle.rules.specs.Questions.{areaOk}
 use Rattle.rules.specs.Values.{boundaries}
 use Rattle.tables.proofs.Tests.{product-most}
-use Rattle.sections.specs.Asked.{asked}
+use Rattle.sections.specs.Sections.{asked}
 
 -- an area has no more boundaries than sectors
 pub few : (d k : ℕ) → 1 ≤ k → (d + k - 1) / k ≤ d

@@ -28,7 +28,7 @@ ghost use Rattle.rules.specs.Questions.{areaOk, heldOk};
 ghost use Rattle.rules.specs.declared.Checkpoint.{Checkpoint};
 ghost use Rattle.tables.specs.Tables.{checkpointsIn, framesIn, partsIn, lsnsIn};
 ghost use Rattle.tables.specs.Index.{endIn};
-ghost use Rattle.sections.specs.Asked.{asked, stretch};
+ghost use Rattle.sections.specs.Sections.{asked, stretch};
 
 // ---- questions
 // The refusal number after one more question, whose refusal is number.

@@ -16,14 +16,12 @@ use Rattle.rules.specs.Questions.{areaOk}
 use Rattle.rules.proofs.Tests.{test}
 use Rattle.rules_shelf.specs.declared.Shelf.{Shelf}
 use Rattle.rules_shelf.specs.declared.ShelfRecord.{ShelfRecord}
-use Rattle.rules_shelf.specs.Shelf.{noRecord, areaOf, present, dropAt, shelfOk, questions, entering, jumping, over}
-use Rattle.rules_shelf.specs.Shelf.{holding, enter, heldBy, jump}
+use Rattle.rules_shelf.specs.Shelf.{noRecord, areaOf, present, dropAt, shelfOk, questions, entering, jumping, over, holding, enter, heldBy, jump}
 use Rattle.shelf.specs.declared.Change.{Change}
 use Rattle.shelf.specs.declared.Kept.{Kept}
 use Rattle.shelf.specs.declared.ShelfAnswer.{ShelfAnswer}
-use Rattle.shelf.specs.Change.{answer, told, newOf, someOf, Changes, clamp}
-use Rattle.shelf.specs.Kept.{Sound, Stands, listOf}
-use Rattle.shelf.specs.Table.{written, Out, out, outOf, enterCall, jumpCall}
+use Rattle.shelf.specs.Shelf.{answer, someOf, clamp, Out, out, outOf, enterCall, jumpCall}
+use Rattle.shelf.specs.Steps.{told, newOf, Changes, Sound, Stands, listOf, written}
 use Rattle.shelf.proofs.Laws.{list-length}
 
 -- ---- records written over the start of a table

@@ -47,9 +47,8 @@ use Rattle.rules_shelf.proofs.ShelfRecord.Laws as T′
 use Rattle.shelf.specs.declared.Change.{Change}
 use Rattle.shelf.specs.declared.Kept.{Kept}
 use Rattle.shelf.specs.declared.ShelfAnswer.{ShelfAnswer}
-use Rattle.shelf.specs.Change.{Changes, clamp as clampOf}
-use Rattle.shelf.specs.Kept.{Sound, listOf}
-use Rattle.shelf.specs.Table.{Out, out}
+use Rattle.shelf.specs.Steps.{Changes, Sound, listOf}
+use Rattle.shelf.specs.Shelf.{clamp as clampOf, Out, out}
 use Rattle.shelf.proofs.Kept as U
 use Rattle.shelf.proofs.Kept.Laws as U′
 use Rattle.shelf.proofs.Change as Ch

@@ -16,19 +16,17 @@ use Rattle.rules.specs.Values.{max64, sameArea}
 use Rattle.rules.specs.Tests.{all, Ask, ask, firstNo, Answer, Refused, Accepted, after}
 use Rattle.rules.proofs.Tests.{test, never, all→, asked as asked-yes}
 use Rattle.rules_shelf.specs.declared.ShelfRecord.{ShelfRecord}
-use Rattle.rules_shelf.specs.Shelf.{noRecord, areaOf, recordOf, sum, placeOf, among, noTwo, dropAt, without, older}
-use Rattle.rules_shelf.specs.Shelf.{oldestOf, oldest, roomy, makeRoom, staying, entered, restamped, jumped, questions}
-use Rattle.rules_shelf.specs.Shelf.{entering, jumpedIn, jumping}
+use Rattle.rules_shelf.specs.Shelf.{noRecord, areaOf, recordOf, sum, placeOf, among, noTwo, dropAt, without, older, oldestOf, oldest, roomy, makeRoom, staying, entered, restamped, jumped, questions, entering, jumpedIn, jumping}
 use Rattle.rules_shelf.proofs.Laws.{place-later, place-here, no-two-step, sum-at, sum-take-suc, drop-length, drop-none}
 use Rattle.rules_shelf.proofs.Laws.{take-drop, take-before, drop-next, oldest-le, oldest-lt, oldest-take, made}
 use Rattle.rules_shelf.proofs.Laws.{made-more, roomy-none}
-use Rattle.sections.specs.Asked.{asked}
+use Rattle.sections.specs.Sections.{asked}
 use Rattle.sections.proofs.Questions.{numbered as in-order, first-refuses, first-passes}
 use Rattle.rules_shelf.specs.declared.Shelf.{Shelf}
 use Rattle.shelf.specs.declared.Change.{Change}
 use Rattle.shelf.specs.declared.Kept.{Kept}
-use Rattle.shelf.specs.Change.{answer, told, newOf, someOf, Changes}
-use Rattle.shelf.specs.Kept.{Sound, Stands, listOf}
+use Rattle.shelf.specs.Shelf.{answer, someOf}
+use Rattle.shelf.specs.Steps.{told, newOf, Changes, Sound, Stands, listOf}
 
 -- ---- one record more
 -- what `pushed` ensures

@@ -33,8 +33,7 @@ use denote.Triple.Statement.{Contract, Triple}
 use denote.Triple.Walked.{says}
 use Rattle.rules_shelf.specs.declared.ShelfRecord.{ShelfRecord}
 use Rattle.shelf.specs.declared.Kept.{Kept}
-use Rattle.shelf.specs.Kept.{Stands}
-use Rattle.shelf.specs.Table.{written}
+use Rattle.shelf.specs.Steps.{Stands, written}
 use Rattle.shelf.proofs.Rows.{R, B, makesB}
 use Rattle.shelf.proofs.Again.{LentAgain, lends-again, comes-back}
 use Rattle.shelf.proofs.table.take_records as take-records

@@ -1,3 +1,2 @@
-pub mod Change
-pub mod Kept
-pub mod Table
+pub mod Shelf
+pub mod Steps

@@ -18,10 +18,9 @@ ghost use lib.ListN.{getD, drop, set, replicate};
 ghost use Rattle.rules.specs.Questions.{areaOk};
 ghost use Rattle.rules.specs.Tests.{ask, firstNo};
 ghost use Rattle.rules.specs.Values.{sameArea, max64};
-ghost use Rattle.rules_shelf.specs.Shelf.{noRecord, areaOf, recordOf, sum, placeOf, noTwo, dropAt, oldestOf, roomy};
-ghost use Rattle.rules_shelf.specs.Shelf.{makeRoom, without, entered, restamped, shelfOk, questions, entering, jumping};
-ghost use Rattle.shelf.specs.Kept.{Sound, Stands, listOf};
-ghost use Rattle.shelf.specs.Change.{Changes, answer, someOf, clamp};
+ghost use Rattle.rules_shelf.specs.Shelf.{noRecord, areaOf, recordOf, sum, placeOf, noTwo, dropAt, oldestOf, roomy, makeRoom, without, entered, restamped, shelfOk, questions, entering, jumping};
+ghost use Rattle.shelf.specs.Steps.{Sound, Stands, listOf, Changes};
+ghost use Rattle.shelf.specs.Shelf.{answer, someOf, clamp};
 
 // At most 64 records by value: the first n of all.
 pub struct Kept {

@@ -19,8 +19,8 @@ ghost use mathlib.Core.List.{_++_};
 ghost use Prim.Native.Nat.{_+_, _<_, _≤_};
 ghost use lib.ListN.{length, take, drop, set};
 ghost use Rattle.rules_shelf.specs.Shelf.{areaOf, placeOf, dropAt};
-ghost use Rattle.shelf.specs.Kept.{Stands};
-ghost use Rattle.shelf.specs.Table.{written, out, enterCall, jumpCall};
+ghost use Rattle.shelf.specs.Steps.{Stands, written};
+ghost use Rattle.shelf.specs.Shelf.{out, enterCall, jumpCall};
 
 // Record number i replaced by r.
 pub fn replace(s: &mut [ShelfRecord], i: usize, r: ShelfRecord)

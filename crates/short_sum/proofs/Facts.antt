@@ -6,8 +6,7 @@ use lib.Bits.{xor-lt}
 use lib.Pow.{pow-pos, pow-mono, shr-lt}
 use Rattle.fnv.specs.Fnv.{basis64, prime64}
 use Rattle.fnv.proofs.Hash.{joined, step-last, below}
-use Rattle.short_sum.specs.Short.{basis32, prime32}
-use Rattle.short_sum.specs.Fold.{folded}
+use Rattle.short_sum.specs.ShortSum.{basis32, prime32, folded}
 use Rattle.short_sum.specs.Statements.{AtEveryWidth, AtBoth}
 use Rattle.short_sum.proofs.Folding.{half}
 

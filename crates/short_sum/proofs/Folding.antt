@@ -8,8 +8,7 @@ use lib.Bits.{bitXor}
 use lib.Pow.{shl-exact}
 use lib.Dec.{leb, ltb}
 use borrow.Author.Tests.{le-ltb, lt-ltb, leb-true, ltb-true}
-use Rattle.short_sum.specs.Fold.{folded, question49}
-use Rattle.short_sum.specs.Calls.{fold}
+use Rattle.short_sum.specs.ShortSum.{folded, question49, fold}
 use Rattle.short_sum.specs.declared.Folded.the-variants.{Refused, Sum}
 
 -- ---- 49 is a yes

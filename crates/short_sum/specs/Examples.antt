@@ -1,8 +1,7 @@
 -- Change request 8: folds as they should be, in one table.
 use mathlib.Core.Path.{_≡_}
 use mathlib.Core.List.{List, [], _∷_, map}
-use Rattle.short_sum.specs.Short.{fnv32}
-use Rattle.short_sum.specs.Calls.{fold}
+use Rattle.short_sum.specs.ShortSum.{fnv32, fold}
 use Rattle.short_sum.specs.declared.Folded.{Folded}
 use Rattle.short_sum.specs.declared.Folded.the-variants.{Refused, Sum}
 

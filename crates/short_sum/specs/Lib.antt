@@ -1,5 +1,3 @@
-pub mod Short
-pub mod Fold
-pub mod Calls
-pub mod Statements
 pub mod Examples
+pub mod ShortSum
+pub mod Statements

@@ -4,8 +4,7 @@ use mathlib.Core.Bool.{true}
 use mathlib.Core.List.{List, [], _∷_, _++_}
 use Prim.Native.Nat.{ℕ, _^_, _<_}
 use Rattle.fnv.specs.Fnv.{fnvStep, fnvFrom, fnv64, prime64}
-use Rattle.short_sum.specs.Short.{fnv32, prime32}
-use Rattle.short_sum.specs.Fold.{folded, question49}
+use Rattle.short_sum.specs.ShortSum.{fnv32, prime32, folded, question49}
 
 -- at a width of w bits with the prime p
 pub record Facts (w p : ℕ) : Type 0 where

@@ -24,10 +24,10 @@ use Rattle.inspect.specs.declared.Found.{Found}
 use Rattle.inspect.specs.declared.Inspected.the-variants as inspected
 use Rattle.inspect.specs.Inspect.{foundIn, inspectionOf, inspection}
 use Rattle.rules.specs.declared.TableSizes.{TableSizes}
-use Rattle.sizes.specs.LengthsSizes.{limitedSizes, rangeOf}
+use Rattle.sizes.specs.Steps.{limitedSizes}
+use Rattle.sizes.specs.Sizes.{rangeOf, sizedOf, fileSizes, fileLength, beforeSum, fileArea, fileAreaOf}
 use Rattle.rules.specs.declared.FileArea.the-variants as found
 use Rattle.rules.specs.declared.Sized.the-variants as sized
-use Rattle.sizes.specs.Sizes.{sizedOf, fileSizes, fileLength, beforeSum, fileArea, fileAreaOf}
 
 -- ---- what inspecting says of the file
 passed-is : (b : List ℕ) (found : Found) (r : Answer Index) → inspected.Passed found ≡ inspectionOf b r

@@ -1,5 +1,5 @@
 -- How many bytes the tables of a list and its file take, and the area that a file is of.
-use Prim.Native.Nat.{ℕ, min}
+use Prim.Native.Nat.{ℕ, min, _+_, _*_, max}
 use mathlib.Core.Bool.{Bool, cond}
 use mathlib.Core.List.{List, [], _∷_}
 use lib.Dec.{eqb, leb}
@@ -7,17 +7,30 @@ use lib.ListN.{length}
 use Rattle.rules.specs.declared.Area.{Area}
 use Rattle.rules.specs.declared.AreaIndex.{AreaIndex}
 use Rattle.rules.specs.Tests.{all, ask, firstNo, Answer, Refused, Accepted, after, bind}
-use Rattle.rules.specs.Values.{Index, maxHints}
+use Rattle.rules.specs.Values.{Index, maxHints, boundaries, maxMalformed, mergeRoom}
 use Rattle.rules.specs.Questions.{areaOk, numbersOk}
 use Rattle.rules.specs.File.{readHeader, savedLength}
 use Rattle.rules.specs.Load.{keyOf, bodyIn, fileNumber, fromBytes, limited}
 use Rattle.tables.specs.Index.{Tables, indexIn, refusal}
 use Rattle.rules.specs.declared.TableSizes.{TableSizes}
-use Rattle.sizes.specs.LengthsSizes.{sizesOf, rangeOf}
 use Rattle.rules.specs.declared.Sized.{Sized}
 use Rattle.rules.specs.declared.Sized.the-variants as sized
 use Rattle.rules.specs.declared.FileArea.{FileArea}
 use Rattle.rules.specs.declared.FileArea.the-variants as found
+use Rattle.rules.specs.declared.AreaKey.{AreaKey}
+
+-- for area, interval, budget and M
+unfoldable pub sizesOf : Area → ℕ → ℕ → ℕ → TableSizes
+sizesOf a k budget most =
+    record {
+      checkpoints = boundaries a k * 24;
+      frames = boundaries a k * 8;
+      store = budget;
+      parts = boundaries a k * 24;
+      malformed = maxMalformed * 4;
+      hints = (most + mergeRoom) * 8;
+      confirmed = (most + 1) * 16;
+    }
 
 -- ---- sizes
 abbrev pub sizesFor : Index → TableSizes
@@ -52,6 +65,10 @@ fileLength x t = cond (eqb (refusal x t) 0) (savedLength (indexIn x t)) (refusal
 -- loading's number where it is that of a question before 22
 unfoldable pub beforeSum : ℕ → ℕ
 beforeSum n = cond (eqb n 22) 0 n
+
+-- the range that the source's audio_sector_range gives for a key
+unfoldable pub rangeOf : AreaKey → Area
+rangeOf k = record { key = k; start = k .start; end = max (k .start) (min (k .end + 1) (k .sectors)) }
 
 -- 20 and 21
 unfoldable pub fileArea : List ℕ → Answer Area

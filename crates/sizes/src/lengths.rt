@@ -13,7 +13,8 @@ ghost use mathlib.Core.Bool.{true};
 ghost use Prim.Native.Nat.{max, _/_};
 ghost use Rattle.rules.specs.Questions.{areaOk};
 ghost use Rattle.rules.specs.Load.{keyOf};
-ghost use Rattle.sizes.specs.LengthsSizes.{sizesOf, limitedSizes, rangeOf};
+ghost use Rattle.sizes.specs.Sizes.{sizesOf, rangeOf};
+ghost use Rattle.sizes.specs.Steps.{limitedSizes};
 
 // ---- sizes
 pub fn table_sizes(area: Area, interval: u32, budget: u64, most: u32) -> TableSizes

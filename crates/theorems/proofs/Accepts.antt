@@ -20,7 +20,7 @@ use Rattle.rules.specs.Plan.{plan}
 use Rattle.rules.proofs.Tests.{both, or-left, or-right, Asked, asks, →after, →asked, →bind, numberOf-accepted}
 use Rattle.theorems.specs.Terms.{Valid, ValidRecorder, ValidHintRecorder}
 use Rattle.theorems.specs.Useful.{RefusesNothing}
-use Rattle.adds.specs.Brings.{brings}
+use Rattle.adds.specs.Adds.{brings}
 use Rattle.rules_lacks.specs.Lacks.{lacks}
 use Rattle.rules_drawer.specs.Drawer.{question44, mergeLists, mergeAll}
 use Rattle.rules_coarsen.specs.Coarse.{coarser, question47, question48, coarseNumber, coarse}

@@ -38,36 +38,33 @@ use Rattle.rules_disc.specs.Disc.{slotArea, contentsOk, bodiesLength, discLengt
 use Rattle.laws.proofs.Length.{savedLength-is}
 use Rattle.tables.specs.Index.{Tables, roomOf, indexIn, kindsIn, kindedNumber, refusal, idIn, numbersFrom, tablesFrom, frontierIn, outOf, lowest}
 use Rattle.tables.specs.Lent.{TableBytes}
-use Rattle.index.specs.Calls.{numbersOf, newIn, boundIn}
+use Rattle.index.specs.Index.{numbersOf, newIn, boundIn}
 use Rattle.index.proofs.Back.{numbers-back}
 use Rattle.index.proofs.Lent.{put-back}
 use Rattle.index.proofs.Questions.{passes}
-use Rattle.plan.specs.Calls.{planIn}
+use Rattle.plan.specs.Plan.{planIn}
 use Rattle.rules.specs.declared.Recorded.the-variants as recordedAs
 use Rattle.tables.specs.Recorder.{RecorderTables, recorderRoom, recorderIn, recorderKinds, recorderFrom, recorderOver, assemblingIn}
-use Rattle.recorder.specs.Recorder.{recorderOf, startedIn, finishedIn}
-use Rattle.recorder.specs.Record.{recorderOut, recordOut, recordIn}
+use Rattle.recorder.specs.Recorder.{recorderOf, startedIn, finishedIn, recorderOut, recordOut, recordIn, boundaryAt}
 use Rattle.absorb.specs.Absorb.{absorbed, kindedBoth, absorbIn}
 use Rattle.absorb.specs.Absorb as absorbing
 use Rattle.tables.specs.Tables.{givenIn, hintsOf}
 use Rattle.rules.specs.declared.Saw.the-variants as sawAs
-use Rattle.hint_recorder.specs.Recorder.{hintRecorderIn, seeIn, flushIn, takeIn}
-use Rattle.hint_recorder.specs.Recorder as hinting
+use Rattle.hint_recorder.specs.HintRecorder.{hintRecorderIn, seeIn, flushIn, takeIn}
+use Rattle.hint_recorder.specs.HintRecorder as hinting
 use Rattle.tables.specs.HintRecorder as hintRecorderTable
-use Rattle.add_hints.specs.Added.{addHintsIn}
-use Rattle.keep_hint.specs.Keep.{keepHintIn}
-use Rattle.confirmations.specs.Keeping.{keepIn}
-use Rattle.confirmations.specs.Keeping as keeping
-use Rattle.adds.specs.Brings.{brings}
+use Rattle.add_hints.specs.AddHints.{addHintsIn}
+use Rattle.keep_hint.specs.KeepHint.{keepHintIn}
+use Rattle.confirmations.specs.Confirmations.{keepIn}
+use Rattle.confirmations.specs.Confirmations as keeping
+use Rattle.adds.specs.Adds.{brings}
 use Rattle.drawer.specs.Drawer.{listsOf}
-use Rattle.hint.specs.Calls.{hintIn}
+use Rattle.hint.specs.Hint.{hintIn}
 use Rattle.save.specs.Save.{saveOut, saveIn}
-use Rattle.recorder.specs.Boundary.{boundaryAt}
 use Rattle.sizes.specs.Sizes.{newSizes, fileSizes, fileLength, fileArea}
-use Rattle.short_sum.specs.Calls.{fold}
-use Rattle.disc_load.specs.Contents.{contentsFrom, contentsIn}
-use Rattle.disc_load.specs.Sizes.{bothSizes, discSizes}
-use Rattle.disc_save.specs.Length.{lengthOf, lengthAfter, oneLength, bothLength}
+use Rattle.short_sum.specs.ShortSum.{fold}
+use Rattle.disc_load.specs.DiscLoad.{contentsFrom, contentsIn, bothSizes, discSizes}
+use Rattle.disc_save.specs.DiscSave.{lengthOf, lengthAfter, oneLength, bothLength}
 use Rattle.theorems.specs.Terms.{ValidIn}
 use Rattle.theorems.specs.TableRun.{isAccepted}
 use Rattle.theorems.specs.Recorders.{ValidRecorderIn, ValidHintRecorderIn}

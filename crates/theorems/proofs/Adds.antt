@@ -16,15 +16,14 @@ use Rattle.rules.proofs.Tests.{test, both, and-left, and-right, all→, →all,
 use Rattle.rules.proofs.Same.{eqb-self, sameCheckpoint-self, sameCheckpoint-eq, sameEnd-self, sameEnd-eq}
 use Rattle.rules_lacks.specs.Lacks.{equalHint}
 use Rattle.rules_lacks.proofs.Laws.{equalHint-self, equalHint-eq}
-use Rattle.adds.specs.Same.{sameList, sameConfirmation}
+use Rattle.adds.specs.Adds.{sameList, sameConfirmation, sameFrame, sameHeld, bringsOf, brings}
 use Rattle.adds.proofs.compare.Same.{sameList-self, sameList-eq, sameConfirmation-self, sameConfirmation-eq}
 use Rattle.tables.specs.Index.{Tables, roomOf, roomIn, indexIn, kindsIn, kinded, storeOf}
-use Rattle.index.specs.Needs.{Passes, heldQuestion4}
+use Rattle.index.specs.Steps.{Passes, heldQuestion4}
 use Rattle.index.proofs.Lent.{put-back}
-use Rattle.plan.specs.Calls.{planIn}
-use Rattle.hint.specs.Calls.{hintIn}
+use Rattle.plan.specs.Plan.{planIn}
+use Rattle.hint.specs.Hint.{hintIn}
 use Rattle.rules.specs.declared.Brings.{Brings}
-use Rattle.adds.specs.Brings.{sameFrame, sameHeld, bringsOf, brings}
 use Rattle.theorems.specs.Adds.{noneButImage, noneNamed, NothingNamed, OnlyImageNamed, NothingNamedInTables, OnlyImageNamedInTables}
 use Rattle.theorems.proofs.MergeInTables.{kinded→, Left, merge-left}
 use Rattle.theorems.proofs.TableRun.{kinds-pass}

@@ -28,16 +28,15 @@ use Rattle.laws.proofs.hint_lists.Closure.{keptHinting, add-hints-sized, keep-h
 use Rattle.tables.specs.Tables.{hintsIn, framesOf, hintsOf}
 use Rattle.tables.specs.Index.{kindsOk, Tables, roomOf, indexIn, kindsIn, kinded, endIn, endFrom, idIn, idFrom, numbersFrom, tablesFrom, tablesCleared, Out, out, outOf}
 use Rattle.rules.specs.declared.Made.the-variants as made
-use Rattle.index.specs.Calls.{numbersOf, newIn, boundIn}
+use Rattle.index.specs.Index.{numbersOf, newIn, boundIn}
 use Rattle.index.proofs.Back.{withPrint, numbers-with}
 use Rattle.index.proofs.Lent.{sized-in}
 use Rattle.index.proofs.Standing.{stands, stands-cleared, kinds-from}
-use Rattle.add_hints.specs.JoinedMerged.{touched}
-use Rattle.add_hints.specs.Added.{addHintsIn}
-use Rattle.keep_hint.specs.Keep.{keepHintIn}
+use Rattle.add_hints.specs.AddHints.{touched, addHintsIn}
+use Rattle.keep_hint.specs.KeepHint.{keepHintIn}
 use Rattle.rules.specs.declared.Kept.the-variants as kept
-use Rattle.confirmations.specs.Keeping.{keepIn}
-use Rattle.confirmations.specs.Keeping as keeping
+use Rattle.confirmations.specs.Confirmations.{keepIn}
+use Rattle.confirmations.specs.Confirmations as keeping
 use Rattle.load.specs.Load.{loadIn}
 use Rattle.absorb.specs.Absorb.{absorbIn}
 use Rattle.theorems.specs.Terms.{Valid}

@@ -27,8 +27,8 @@ use Rattle.rules.proofs.Tests.{test, asked, both, accepted→, and-left}
 use Rattle.laws.proofs.scans.Parts.{part-at}
 use Rattle.laws.proofs.scans.Scans.{scan-of, scan→}
 use Rattle.tables.specs.Index.{roomOf, roomIn, indexIn, kindsIn}
-use Rattle.index.specs.Needs.{Passes, heldQuestion4}
-use Rattle.plan.specs.Calls.{planIn}
+use Rattle.index.specs.Steps.{Passes, heldQuestion4}
+use Rattle.plan.specs.Plan.{planIn}
 use Rattle.index.proofs.Questions.{passes-store}
 use Rattle.tables.specs.declared.FrameHeader.{FrameHeader}
 use Rattle.tables.specs.Tables.{headersIn, stretch, framesOf}

@@ -14,8 +14,7 @@ use Rattle.rules.specs.File.{readHeader}
 use Rattle.rules.specs.Load.{keyOf, bodyIn, fileNumber, headerNumber, fromBytes}
 use Rattle.rules.proofs.Same.{eqb-self}
 use Rattle.rules.proofs.Tests.{test, never, →all, asked, after→, accepted→}
-use Rattle.sizes.specs.LengthsSizes.{rangeOf}
-use Rattle.sizes.specs.Sizes.{beforeSum, fileArea}
+use Rattle.sizes.specs.Sizes.{rangeOf, beforeSum, fileArea}
 use Rattle.theorems.specs.Demand1.{among}
 use Rattle.theorems.specs.Player.{FileAreaIsLoadings}
 use Rattle.theorems.proofs.Demand1.{Only, only-after, only-wider, ofSections, only-sections}

@@ -18,11 +18,10 @@ use Rattle.rules.proofs.Tests.{test, never}
 use Rattle.laws.proofs.Length.{savedLength-is}
 use Rattle.tables.specs.Index.{indexIn, orFour, kindedNumber, kinded, refusal}
 use Rattle.rules.specs.declared.Created.the-variants as created
-use Rattle.hint_recorder.specs.Recorder.{createdOf, hintRecorderIn}
+use Rattle.hint_recorder.specs.HintRecorder.{createdOf, hintRecorderIn}
 use Rattle.rules.specs.declared.Saved.the-variants as told
 use Rattle.save.specs.Save.{saveOut, saveIn}
-use Rattle.sizes.specs.LengthsSizes.{sizesOf}
-use Rattle.sizes.specs.Sizes.{fileLength}
+use Rattle.sizes.specs.Sizes.{sizesOf, fileLength}
 use Rattle.player.specs.Block.{savedNumber}
 use Rattle.theorems.specs.Player.{Told, SaveNumber, LengthIsSaved, hasFour, RecorderRoomIsSizes, HintListIsSize, MadeHasSpacing}
 use Rattle.theorems.proofs.Sizes.{fits24, fits8}

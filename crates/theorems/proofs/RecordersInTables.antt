@@ -54,16 +54,15 @@ use Rattle.index.proofs.Lent.{sized-in}
 use Rattle.index.proofs.Standing.{held-records, kinds-held}
 use Rattle.rules.specs.declared.Recorded.the-variants as recordedAs
 use Rattle.tables.specs.Recorder.{RecorderTables, recorderRoom, recorderIn, recorderKinds, recorderFrom, recorderOver, assemblingIn}
-use Rattle.recorder.specs.Recorder.{recorderOf, startedIn, finishedIn}
-use Rattle.recorder.specs.Record.{RecorderOut, recorderOut, recordOut, recordIn}
+use Rattle.recorder.specs.Recorder.{recorderOf, startedIn, finishedIn, RecorderOut, recorderOut, recordOut, recordIn}
 use Rattle.rules.specs.declared.Created.the-variants as createdAs
 use Rattle.rules.specs.declared.Saw.the-variants as sawAs
 use Rattle.rules.specs.declared.Seen.the-variants as seenAs
 use Rattle.rules.specs.declared.SeenSector.{SeenSector}
 use Rattle.rules.specs.declared.Taken.the-variants as takenAs
 use Rattle.rules.specs.declared.TakenList.{TakenList}
-use Rattle.hint_recorder.specs.Recorder.{hintRecorderIn, seeIn, flushIn, takeIn}
-use Rattle.hint_recorder.specs.Recorder as hinting
+use Rattle.hint_recorder.specs.HintRecorder.{hintRecorderIn, seeIn, flushIn, takeIn}
+use Rattle.hint_recorder.specs.HintRecorder as hinting
 use Rattle.tables.specs.HintRecorder as hintRecorderTable
 use Rattle.theorems.specs.Recorders.{StandsRecorder, RecorderBytes, SignedIn, StandsHintRecorder}
 use Rattle.theorems.proofs.Closure.{closure}

@@ -20,9 +20,9 @@ use Rattle.laws.proofs.Question4.{saved-bytes}
 use Rattle.tables.specs.Index.{roomOf, indexIn, kindsIn, kinded, endIn, idIn, numbersFrom, outOf}
 use Rattle.index.proofs.Lent.{sized-in}
 use Rattle.index.proofs.Standing.{stands}
-use Rattle.plan.specs.Calls.{planIn}
+use Rattle.plan.specs.Plan.{planIn}
 use Rattle.tables.specs.Recorder.{recorderRoom, recorderIn}
-use Rattle.hint.specs.Calls.{hintIn}
+use Rattle.hint.specs.Hint.{hintIn}
 use Rattle.rules.specs.declared.Saved.the-variants as told
 use Rattle.save.specs.Save.{SaveOut, saveOut, saveIn, made}
 use Rattle.theorems.specs.Useful.{LoadOf, MergedOf, AbsorbedOf}

@@ -15,10 +15,8 @@ use Rattle.rules.specs.declared.Viewed.the-variants as viewed
 use Rattle.view.specs.View.{ViewOut, viewOut, inRole, viewIn, viewSizeIn}
 use Rattle.view.proofs.Layouts.{view-length}
 use Rattle.player.specs.Block.{headIndex, inHead, asWorkshop}
-use Rattle.player.specs.Calls.{loadCallAs, saveCallAs, mergeCallAs}
-use Rattle.player.specs.DrawerCalls.{mergeAllCallAs}
-use Rattle.player.specs.ViewCalls.{viewInto, lengthNumber, viewCall, viewLengthCall}
-use Rattle.player_disc.specs.Calls.{discLoadCallAs, discSaveCallAs, discSaveBothCallAs}
+use Rattle.player.specs.Player.{loadCallAs, saveCallAs, mergeCallAs, mergeAllCallAs, viewInto, lengthNumber, viewCall, viewLengthCall}
+use Rattle.player_disc.specs.PlayerDisc.{discLoadCallAs, discSaveCallAs, discSaveBothCallAs}
 use Rattle.theorems.specs.Terms.{ValidIn}
 use Rattle.theorems.specs.View.{ViewLeaves, ListenerSeesInTables, ListenerSeesInC, WorkshopInC, ListenerRefusedInC}
 use Rattle.theorems.proofs.Accepts.{refuses-nothing}

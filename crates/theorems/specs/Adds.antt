@@ -14,10 +14,10 @@ use Rattle.rules.specs.File.{saved}
 use Rattle.rules_jump.specs.Names.{namedHint}
 use Rattle.rules.specs.declared.Made.the-variants as made
 use Rattle.tables.specs.Index.{Tables, indexIn, out}
-use Rattle.plan.specs.Calls.{planIn}
-use Rattle.hint.specs.Calls.{hintIn}
+use Rattle.plan.specs.Plan.{planIn}
+use Rattle.hint.specs.Hint.{hintIn}
 use Rattle.rules.specs.declared.Brings.{Brings}
-use Rattle.adds.specs.Brings.{brings, addsIn}
+use Rattle.adds.specs.Adds.{brings, addsIn}
 use Rattle.merge.specs.Merge.{mergeIn}
 use Rattle.theorems.specs.TableRun.{LentIn}
 

@@ -17,18 +17,17 @@ use Rattle.rules.specs.Values.{max64}
 use Rattle.rules.specs.Questions.{question1, question2, question4}
 use Rattle.rules.specs.declared.Made.the-variants as made
 use Rattle.tables.specs.Index.{Tables, indexIn, kindsIn, out}
-use Rattle.index.specs.Calls.{newIn, boundIn}
-use Rattle.add_hints.specs.Added.{addHintsIn}
-use Rattle.keep_hint.specs.Keep.{keepHintIn}
+use Rattle.index.specs.Index.{newIn, boundIn}
+use Rattle.add_hints.specs.AddHints.{addHintsIn}
+use Rattle.keep_hint.specs.KeepHint.{keepHintIn}
 use Rattle.rules.specs.declared.Kept.the-variants as kept
-use Rattle.confirmations.specs.Keeping.{keepIn}
-use Rattle.confirmations.specs.Keeping as keeping
+use Rattle.confirmations.specs.Confirmations.{keepIn}
+use Rattle.confirmations.specs.Confirmations as keeping
 use Rattle.load.specs.Load.{loadIn}
 use Rattle.merge.specs.Merge.{mergeIn}
 use Rattle.rules.specs.declared.Recorded.the-variants as recordedAs
 use Rattle.tables.specs.Recorder.{RecorderTables}
-use Rattle.recorder.specs.Recorder.{startedIn, finishedIn}
-use Rattle.recorder.specs.Record.{recorderOut, recordIn}
+use Rattle.recorder.specs.Recorder.{startedIn, finishedIn, recorderOut, recordIn}
 use Rattle.absorb.specs.Absorb.{absorbIn}
 use Rattle.rules.specs.declared.Created.the-variants as createdAs
 use Rattle.rules.specs.declared.Saw.the-variants as sawAs
@@ -36,8 +35,8 @@ use Rattle.rules.specs.declared.Seen.the-variants as seenAs
 use Rattle.rules.specs.declared.SeenSector.{SeenSector}
 use Rattle.rules.specs.declared.Taken.the-variants as takenAs
 use Rattle.rules.specs.declared.TakenList.{TakenList}
-use Rattle.hint_recorder.specs.Recorder.{hintRecorderIn, seeIn, flushIn, takeIn}
-use Rattle.hint_recorder.specs.Recorder as hinting
+use Rattle.hint_recorder.specs.HintRecorder.{hintRecorderIn, seeIn, flushIn, takeIn}
+use Rattle.hint_recorder.specs.HintRecorder as hinting
 use Rattle.theorems.specs.TableRun.{LentIn}
 use Rattle.theorems.specs.Recorders.{StandsRecorder, RecorderBytes, SignedIn, StandsHintRecorder}
 

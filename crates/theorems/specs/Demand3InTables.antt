@@ -17,7 +17,7 @@ use Rattle.rules.specs.Plan.{assemblyOf, startOf, bytesAt}
 use Rattle.rules.specs.Run.{Reading}
 use Rattle.rules.specs.declared.Made.the-variants as made
 use Rattle.tables.specs.Index.{Tables, out}
-use Rattle.plan.specs.Calls.{planIn}
+use Rattle.plan.specs.Plan.{planIn}
 use Rattle.merge.specs.Merge.{mergeIn}
 use Rattle.theorems.specs.Demand3.{Outcome, PartsLeft}
 use Rattle.theorems.specs.TableRun.{TablePlace, TableCall, tableStep, LentIn, AllCutIn, afterTableCalls, placeIn, callOf, stateIn, merging, isAccepted}

@@ -16,12 +16,12 @@ use Rattle.load.specs.Load.{loadIn}
 use Rattle.rules_disc.specs.declared.Listed.{Listed}
 use Rattle.rules_disc.specs.declared.Listed.the-variants as listed
 use Rattle.rules_disc.specs.declared.Loaded.the-variants as loaded
-use Rattle.disc_load.specs.Calls.{discOut, loadDiscIn}
-use Rattle.disc_save.specs.Calls.{saveOneIn, saveBothIn}
+use Rattle.disc_load.specs.DiscLoad.{discOut, loadDiscIn}
+use Rattle.disc_save.specs.DiscSave.{saveOneIn, saveBothIn}
 use Rattle.player.specs.Block.{called, headIndex}
-use Rattle.player.specs.Calls.{calledOver, saveCall, loadCall}
+use Rattle.player.specs.Player.{calledOver, saveCall, loadCall}
 use Rattle.player_disc.specs.Block.{calledLists}
-use Rattle.player_disc.specs.Calls.{calledDisc, discSaveCall, discSaveBothCall, discLoadCall}
+use Rattle.player_disc.specs.PlayerDisc.{calledDisc, discSaveCall, discSaveBothCall, discLoadCall}
 use Rattle.theorems.specs.DiscFile.{bodyIn}
 
 -- ---- what is saved

@@ -12,11 +12,10 @@ use Rattle.rules.specs.Values.{Index, max32}
 use Rattle.rules.specs.File.{over, saved}
 use Rattle.rules.specs.Load.{load}
 use Rattle.rules_disc.specs.Disc.{slotArea, contentsOk, discBytes}
-use Rattle.blocks.specs.Head.{blockOf}
-use Rattle.blocks.specs.IsHead.{isIndex}
+use Rattle.blocks.specs.Blocks.{blockOf, isIndex}
 use Rattle.tables.specs.Index.{Tables, roomOf, indexIn}
 use Rattle.player.specs.Block.{called, headIndex, two}
-use Rattle.player_disc.specs.Calls.{CalledDisc, discSaveCall, discSaveBothCall, discLoadCall}
+use Rattle.player_disc.specs.PlayerDisc.{CalledDisc, discSaveCall, discSaveBothCall, discLoadCall}
 use Rattle.theorems.specs.Terms.{ValidIn}
 use Rattle.theorems.specs.DiscFile.{bodyIn}
 use Rattle.theorems.specs.Demand1InC.{long}

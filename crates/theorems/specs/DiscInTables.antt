@@ -22,8 +22,8 @@ use Rattle.laws.specs.Statements.{stripped}
 use Rattle.theorems.specs.Terms.{ValidIn, Ample}
 use Rattle.rules_disc.specs.declared.Listed.the-variants as listed
 use Rattle.rules_disc.specs.declared.Loaded.the-variants as loaded
-use Rattle.disc_load.specs.Calls.{DiscOut, discOut, loadDiscIn}
-use Rattle.disc_save.specs.Calls.{saveOneIn, saveBothIn}
+use Rattle.disc_load.specs.DiscLoad.{DiscOut, discOut, loadDiscIn}
+use Rattle.disc_save.specs.DiscSave.{saveOneIn, saveBothIn}
 use Rattle.theorems.specs.TableRun.{LentIn}
 use Rattle.theorems.specs.DiscFile.{bodyIn, WholeDisc}
 

@@ -15,9 +15,8 @@ use Rattle.rules.specs.declared.Saved.the-variants as saved
 use Rattle.rules.specs.declared.TableSizes.{TableSizes}
 use Rattle.sizes.specs.Sizes.{hasSizes}
 use Rattle.player.specs.Block.{savedNumber}
-use Rattle.disc_save.specs.Calls.{saveOneIn, saveBothIn}
-use Rattle.disc_save.specs.Length.{oneLength, bothLength}
-use Rattle.disc_load.specs.Sizes.{DiscSizes, bodySizes, discSizes}
+use Rattle.disc_save.specs.DiscSave.{saveOneIn, saveBothIn, oneLength, bothLength}
+use Rattle.disc_load.specs.DiscLoad.{DiscSizes, bodySizes, discSizes}
 
 -- ---- saving
 -- a refusal number is 1 to 54, a length at least 104: one number tells both

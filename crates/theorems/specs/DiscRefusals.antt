@@ -12,17 +12,17 @@ use Rattle.rules.specs.Tests.{Refused, Accepted}
 use Rattle.rules.specs.Values.{Index, Lengths, max32}
 use Rattle.rules.specs.File.{saved}
 use Rattle.rules.specs.Load.{load}
-use Rattle.blocks.specs.IsHead.{isIndex}
+use Rattle.blocks.specs.Blocks.{isIndex}
 use Rattle.rules_disc.specs.Disc.{slotOf, slotArea, contentsOk, loadBody, saveOne, saveBoth, loadDisc}
 use Rattle.tables.specs.Index.{Tables, roomOf, indexIn}
 use Rattle.rules.specs.declared.Saved.the-variants as told
 use Rattle.save.specs.Save as saving
 use Rattle.rules_disc.specs.declared.Loaded.the-variants as loaded
-use Rattle.disc_load.specs.Calls.{discOut, loadDiscIn}
-use Rattle.disc_save.specs.Calls.{saveOneIn, saveBothIn}
+use Rattle.disc_load.specs.DiscLoad.{discOut, loadDiscIn}
+use Rattle.disc_save.specs.DiscSave.{saveOneIn, saveBothIn}
 use Rattle.player.specs.Block.{called, headIndex}
 use Rattle.player_disc.specs.Block.{calledLists}
-use Rattle.player_disc.specs.Calls.{calledDisc, discSaveCall, discSaveBothCall, discLoadCall}
+use Rattle.player_disc.specs.PlayerDisc.{calledDisc, discSaveCall, discSaveBothCall, discLoadCall}
 use Rattle.theorems.specs.Terms.{Valid, ValidIn}
 use Rattle.theorems.specs.Demand1InC.{long}
 use Rattle.theorems.specs.DiscFile.{bodyIn}

@@ -10,12 +10,11 @@ use Rattle.rules.specs.Questions.{question3}
 use Rattle.rules.specs.File.{over, saved}
 use Rattle.rules_disc.specs.Disc.{slotArea}
 use Rattle.laws.specs.Statements.{stripped}
-use Rattle.blocks.specs.Head.{blockOf}
-use Rattle.blocks.specs.IsHead.{isIndex}
+use Rattle.blocks.specs.Blocks.{blockOf, isIndex}
 use Rattle.tables.specs.Index.{Tables, roomOf, indexIn}
 use Rattle.player.specs.Block.{called, headIndex, two}
 use Rattle.player_disc.specs.Block.{calledLists}
-use Rattle.player_disc.specs.Calls.{calledDisc, discSaveCall, discSaveBothCall, discLoadCall}
+use Rattle.player_disc.specs.PlayerDisc.{calledDisc, discSaveCall, discSaveBothCall, discLoadCall}
 use Rattle.theorems.specs.Terms.{ValidIn, Ample}
 use Rattle.theorems.specs.BlockRun.{LentBlock}
 use Rattle.theorems.specs.Demand1InC.{long}

@@ -26,7 +26,7 @@ use Rattle.rules.specs.PartRule.{stores, piece, addParts}
 use Rattle.rules.specs.Merge.{merge}
 use Rattle.laws.specs.Order.{Rises}
 use Rattle.rules.specs.declared.Brings.{Brings}
-use Rattle.adds.specs.Brings.{brings}
+use Rattle.adds.specs.Adds.{brings}
 use Rattle.rules_lacks.specs.declared.Lacks.{Lacks}
 use Rattle.rules_lacks.specs.Lacks.{covers, missing, lacking, holdsAll, lacks}
 use Rattle.theorems.specs.Terms.{Holds, storedIn}

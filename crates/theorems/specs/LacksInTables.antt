@@ -18,8 +18,8 @@ use Rattle.rules.specs.Sections.{ownLsn}
 use Rattle.laws.specs.Order.{Rises}
 use Rattle.rules.specs.declared.Made.the-variants as made
 use Rattle.tables.specs.Index.{Tables, indexIn, out}
-use Rattle.plan.specs.Calls.{planIn}
-use Rattle.hint.specs.Calls.{hintIn}
+use Rattle.plan.specs.Plan.{planIn}
+use Rattle.hint.specs.Hint.{hintIn}
 use Rattle.merge.specs.Merge.{mergeIn}
 use Rattle.rules_jump.specs.Names.{NamedHint}
 use Rattle.rules_lacks.specs.declared.Lacks.{Lacks}

@@ -9,9 +9,9 @@ use Rattle.rules.specs.Tests.{all, Accepted}
 use Rattle.rules_lacks.specs.declared.Lacks.{Lacks}
 use Rattle.tables.specs.Index.{Tables}
 use Rattle.lacks.specs.Lacks.{lacksIn}
-use Rattle.blocks.specs.Head.{wordsIn}
+use Rattle.blocks.specs.Blocks.{wordsIn}
 use Rattle.player.specs.Block.{called, headIndex}
-use Rattle.player.specs.LacksCalls.{lacksWords, lacksCall}
+use Rattle.player.specs.Player.{lacksWords, lacksCall}
 use Rattle.theorems.specs.LacksInTables.{ServesIn}
 
 -- the words of a block are those of what lacks accepts over the same tables

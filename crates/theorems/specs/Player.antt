@@ -17,13 +17,12 @@ use Rattle.rules.specs.Load.{fromBytes, limited, load}
 use Rattle.tables.specs.Index.{Tables, roomOf}
 use Rattle.tables.specs.Recorder.{RecorderTables, recorderRoom}
 use Rattle.rules.specs.declared.Created.the-variants as created
-use Rattle.hint_recorder.specs.Recorder.{hintRecorderIn}
+use Rattle.hint_recorder.specs.HintRecorder.{hintRecorderIn}
 use Rattle.rules.specs.declared.Saved.{Saved}
 use Rattle.rules.specs.declared.Saved.the-variants as saved
 use Rattle.save.specs.Save.{saveIn}
 use Rattle.rules.specs.declared.TableSizes.{TableSizes}
-use Rattle.sizes.specs.LengthsSizes.{sizesOf}
-use Rattle.sizes.specs.Sizes.{sizesFor, hasSizes, fileSizes, fileLength, fileArea}
+use Rattle.sizes.specs.Sizes.{sizesOf, sizesFor, hasSizes, fileSizes, fileLength, fileArea}
 use Rattle.player.specs.Block.{savedNumber}
 
 -- ---- saving

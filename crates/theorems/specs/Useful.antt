@@ -30,7 +30,7 @@ use Rattle.rules.specs.Load.{fromBytes, limited, load}
 use Rattle.rules.specs.Plan.{planned, plan}
 use Rattle.rules.specs.Sizes.{sized}
 use Rattle.theorems.specs.Terms.{Valid, ValidRecorder, ValidHintRecorder, storedIn, SameRead}
-use Rattle.adds.specs.Brings.{bringsOf, brings}
+use Rattle.adds.specs.Adds.{bringsOf, brings}
 use Rattle.rules_lacks.specs.Lacks as lacking
 use Rattle.rules_drawer.specs.Drawer.{question44, loadFiles, pairsNumber, mergeEach, mergeAll}
 use Rattle.rules_coarsen.specs.Coarse.{coarser, question47, question48, coarse}

@@ -43,13 +43,11 @@ use Rattle.rules_coverage.specs.Coverage.{areaIn, rangeOk, rowFrom, rowOf, maxF
 use Rattle.rules_coarsen.specs.Coarse.{coarser, question47, question48}
 use Rattle.tables.specs.Index.{Tables, roomOf, indexIn, endIn, idIn, numbersFrom, tablesFrom, tablesCleared, frontierIn, Out, out}
 use Rattle.tables.specs.Lent.{TableBytes}
-use Rattle.index.specs.Calls.{newIn, boundIn}
+use Rattle.index.specs.Index.{newIn, boundIn}
 use Rattle.rules.specs.declared.Recorded.the-variants as recordedAs
 use Rattle.tables.specs.Recorder.{RecorderTables, recorderIn, recorderFrom, recorderOver, assemblingIn}
-use Rattle.recorder.specs.Recorder.{startedIn, finishedIn}
-use Rattle.recorder.specs.Record.{recorderOut, recordIn}
+use Rattle.recorder.specs.Recorder.{startedIn, finishedIn, recorderOut, recordIn, checkpointAt, dueAt}
 use Rattle.rules.specs.declared.Boundary.the-variants as boundaryAs
-use Rattle.recorder.specs.Boundary.{checkpointAt, dueAt}
 use Rattle.absorb.specs.Absorb.{absorbed, absorbIn}
 use Rattle.absorb.specs.Absorb as absorbing
 use Rattle.tables.specs.Tables.{givenIn, hintsOf}
@@ -57,33 +55,29 @@ use Rattle.rules.specs.declared.Created.the-variants as createdAs
 use Rattle.rules.specs.declared.Saw.the-variants as sawAs
 use Rattle.rules.specs.declared.Seen.the-variants as seenAs
 use Rattle.rules.specs.declared.Taken.the-variants as takenAs
-use Rattle.hint_recorder.specs.Recorder.{hintRecorderIn, seeIn, flushIn, takeIn}
-use Rattle.hint_recorder.specs.Recorder as hinting
+use Rattle.hint_recorder.specs.HintRecorder.{hintRecorderIn, seeIn, flushIn, takeIn}
+use Rattle.hint_recorder.specs.HintRecorder as hinting
 use Rattle.tables.specs.HintRecorder as hintRecorder
-use Rattle.add_hints.specs.JoinedMerged.{touched}
-use Rattle.add_hints.specs.Added.{addHintsIn}
-use Rattle.keep_hint.specs.Keep.{keepHintIn}
+use Rattle.add_hints.specs.AddHints.{touched, addHintsIn}
+use Rattle.keep_hint.specs.KeepHint.{keepHintIn}
 use Rattle.rules.specs.declared.Kept.the-variants as keptAs
-use Rattle.confirmations.specs.Keeping.{keepIn}
-use Rattle.confirmations.specs.Keeping as keeping
-use Rattle.adds.specs.Brings.{bringsOf, addsIn}
+use Rattle.confirmations.specs.Confirmations.{keepIn}
+use Rattle.confirmations.specs.Confirmations as keeping
+use Rattle.adds.specs.Adds.{bringsOf, addsIn}
 use Rattle.lacks.specs.Lacks.{lacksIn}
-use Rattle.plan.specs.Calls.{planIn}
-use Rattle.hint.specs.Calls.{hintIn}
+use Rattle.plan.specs.Plan.{planIn}
+use Rattle.hint.specs.Hint.{hintIn}
 use Rattle.rules.specs.declared.Saved.the-variants.{Length}
 use Rattle.save.specs.Save as saving
 use Rattle.load.specs.Load.{loadIn}
 use Rattle.rules.specs.declared.TableSizes.{TableSizes}
-use Rattle.sizes.specs.LengthsSizes.{sizesOf, rangeOf}
-use Rattle.sizes.specs.Sizes.{sizesFor, newSizes, fileSizes, fileLength, beforeSum, fileArea}
+use Rattle.sizes.specs.Sizes.{sizesOf, rangeOf, sizesFor, newSizes, fileSizes, fileLength, beforeSum, fileArea}
 use Rattle.short_sum.specs.declared.Folded.the-variants as foldedAs
-use Rattle.short_sum.specs.Fold.{folded, question49}
-use Rattle.short_sum.specs.Calls.{fold}
+use Rattle.short_sum.specs.ShortSum.{folded, question49, fold}
 use Rattle.rules_disc.specs.Disc.{slotArea, entriesIn, entryOf, contentsOk}
 use Rattle.rules_disc.specs.declared.Contents.the-variants.{Lists}
-use Rattle.disc_load.specs.Contents.{placeFrom, contentsIn}
-use Rattle.disc_load.specs.Sizes.{bodySizes, discSizes}
-use Rattle.disc_save.specs.Length.{oneLength, bothLength}
+use Rattle.disc_load.specs.DiscLoad.{placeFrom, contentsIn, bodySizes, discSizes}
+use Rattle.disc_save.specs.DiscSave.{oneLength, bothLength}
 use Rattle.merge.specs.Merge.{mergeIn}
 use Rattle.drawer.specs.Drawer.{mergedTables, mergeAllIn}
 use Rattle.coarsen.specs.Coarsen.{coarseIn}

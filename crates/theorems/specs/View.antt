@@ -14,16 +14,14 @@ use Rattle.rules.specs.Sizes.{sized}
 use Rattle.rules.specs.File.{over}
 use Rattle.rules_view.specs.View.{listener, workshop, listenerOf, workshopOf, listenerBytes, workshopBytes, readListener, readWorkshop, isRole, viewBytes, viewLength, view, viewSize}
 use Rattle.rules_view.specs.Roles.{asWorkshop}
-use Rattle.blocks.specs.IsHead.{isIndex}
+use Rattle.blocks.specs.Blocks.{isIndex}
 use Rattle.tables.specs.Index.{Tables, indexIn}
 use Rattle.rules.specs.declared.Viewed.the-variants as viewed
 use Rattle.view.specs.View.{viewIn, viewSizeIn}
 use Rattle.player.specs.Block.{called, headIndex}
-use Rattle.player.specs.Calls.{calledOver, loadCall, saveCall, mergeCall, loadCallAs, saveCallAs, mergeCallAs}
-use Rattle.player.specs.DrawerCalls.{mergeAllCall, mergeAllCallAs}
-use Rattle.player.specs.ViewCalls.{viewCall, viewLengthCall}
+use Rattle.player.specs.Player.{calledOver, loadCall, saveCall, mergeCall, loadCallAs, saveCallAs, mergeCallAs, mergeAllCall, mergeAllCallAs, viewCall, viewLengthCall}
 use Rattle.player_disc.specs.Block.{calledLists}
-use Rattle.player_disc.specs.Calls.{calledDisc, discLoadCall, discSaveCall, discSaveBothCall, discLoadCallAs, discSaveCallAs, discSaveBothCallAs}
+use Rattle.player_disc.specs.PlayerDisc.{calledDisc, discLoadCall, discSaveCall, discSaveBothCall, discLoadCallAs, discSaveCallAs, discSaveBothCallAs}
 use Rattle.theorems.specs.Terms.{Valid, ValidIn}
 
 -- "the bytes of a view determine every field it gives": read, they give the listener's fields back

@@ -16,7 +16,7 @@ use Rattle.rules.specs.Questions.{four}
 use Rattle.rules.specs.File.{over, decodeLsn, decodeConfirmation, decodeCheckpoint, decodeHeld}
 use Rattle.rules.proofs.Tests.{test, never}
 use Rattle.tables.specs.Tables.{checkpointsIn, partsIn, decodeKept}
-use Rattle.index.specs.Needs.{Passes}
+use Rattle.index.specs.Steps.{Passes}
 use Rattle.tables.specs.Index.{Tables, tables, indexIn, roomOf, refusal}
 use Rattle.index.proofs.Four.{kinded-index}
 use Rattle.index.proofs.Questions.{passes, passes-long, passes-hints, range}
@@ -25,7 +25,8 @@ use Rattle.save.proofs.output.Stretches.{put-both, put-over}
 use Rattle.rules_view.specs.View.{isRole, listenerOf, workshopOf, headOf, encodeSeen, totalsOf, seenBytes, listenerBytes, workshopBytes, workshopSize, wordBytes, headWords, viewBytes, viewLength, view, viewSize}
 use Rattle.rules.specs.declared.Viewed.the-variants as answer
 use Rattle.view.specs.Sections.{headIn, seenOf, listenerIn, behindBytes, behindSize, Shown}
-use Rattle.view.specs.View.{viewed, viewOut, viewedOf, inRole, asked, viewIn, viewSizeIn}
+use Rattle.view.specs.View.{viewed, viewOut, viewedOf, inRole, viewIn, viewSizeIn}
+use Rattle.view.specs.Steps.{asked}
 use Rattle.view.proofs.write.Words.{sets-over}
 use Rattle.view.proofs.Layouts.{head-length, seen-count, lengths-count, view-length}
 

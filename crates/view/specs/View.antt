@@ -1,14 +1,13 @@
 -- A view of an index in its tables, written into a lent output.
 use Prim.Native.Nat.{ℕ}
-use mathlib.Core.Bool.{cond}
 use mathlib.Core.List.{List, [], _∷_}
 use lib.ListN.{length}
 use Rattle.rules.specs.declared.AreaIndex.{AreaIndex}
 use Rattle.rules.specs.Tests.{Answer, Refused, Accepted, after, ask, firstNo}
 use Rattle.rules.specs.File.{over}
 use Rattle.rules_view.specs.View.{isRole, view, viewSize}
-use Rattle.blocks.specs.IsHead.{isIndex}
-use Rattle.tables.specs.Index.{Tables, roomOf, indexIn, kindsIn, kinded, refusal}
+use Rattle.blocks.specs.Blocks.{isIndex}
+use Rattle.tables.specs.Index.{Tables, roomOf, indexIn, kindsIn, kinded}
 use Rattle.rules.specs.declared.Viewed.{Viewed}
 use Rattle.rules.specs.declared.Viewed.the-variants as answer
 
@@ -35,10 +34,6 @@ inRole role r = after (firstNo (ask (isRole role) 52 ∷ [])) r
 -- 52, then 3 where the block with the list's numbers is no head: the number of the first answered no, 0 for none
 unfoldable pub blockRefusal : ℕ → List ℕ → ℕ
 blockRefusal role head = firstNo (ask (isRole role) 52 ∷ ask (isIndex head) 3 ∷ [])
-
--- 52, then 1 to 4: the number of the first answered no, 0 for none
-unfoldable pub asked : ℕ → AreaIndex → Tables → ℕ
-asked role x t = cond (isRole role) (refusal x t) 52
 
 -- 52, 1 to 4, 40: is the output long enough? What lies past the length stays.
 unfoldable pub viewIn : ℕ → AreaIndex → Tables → List ℕ → ViewOut

@@ -19,7 +19,8 @@ ghost use Rattle.rules.specs.File.{over};
 ghost use Rattle.rules_view.specs.View.{isRole, viewBytes, viewLength};
 ghost use Rattle.tables.specs.Index.{Tables, indexIn, tables};
 ghost use Rattle.view.specs.Sections.{Shown};
-ghost use Rattle.view.specs.View.{viewed, viewIn, viewSizeIn, viewedOf, asked, blockRefusal};
+ghost use Rattle.view.specs.View.{viewed, viewIn, viewSizeIn, viewedOf, blockRefusal};
+ghost use Rattle.view.specs.Steps.{asked};
 
 // ---- questions and lengths
 // 52: is the role 1 (listener) or 2 (workshop)?

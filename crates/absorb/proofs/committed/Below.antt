@@ -20,9 +20,9 @@ use Rattle.rules.specs.File.{decodeLsn}
 use Rattle.rules.proofs.Tests.{test}
 use Rattle.rules.proofs.Walk.{walk-tail}
 use Rattle.tables.specs.Tables.{lsnsIn, givenIn}
-use Rattle.merge.specs.TakeNeeds.{Takes, Taken}
+use Rattle.merge.specs.Steps.{Takes, Taken}
 use Rattle.absorb.proofs.questions.Lists.{below-past, below-few}
-use Rattle.absorb.specs.CommittedNeeds.{frontOf, frontAt, TakesBelow, TakenBelow}
+use Rattle.absorb.specs.Steps.{frontOf, frontAt, TakesBelow, TakenBelow}
 
 -- the first m of the first n
 take-min : (m n : ℕ) (ls : List ℕ) → take m (take n ls) ≡ take (min m n) ls

@@ -22,17 +22,13 @@ use Rattle.laws.proofs.scans.Absorb.{unstopped}
 use Rattle.laws.proofs.Layouts.{confirmation-layout}
 use Rattle.tables.proofs.Kept.{kept-layout}
 use Rattle.tables.specs.Index.{idIn, Tables, roomOf, indexIn, kindsIn, orFour, kindedNumber}
-use Rattle.index.specs.Needs.{Passes}
+use Rattle.index.specs.Steps.{Passes}
 use Rattle.index.proofs.Lent.{over-same}
 use Rattle.index.proofs.Questions.{passes, passes-hints}
 use Rattle.tables.specs.Recorder.{RecorderTables, recorderRoom, recorderIn, recorderKinds}
 use Rattle.tables.specs.Tables.{givenIn}
-use Rattle.absorb.specs.QuestionsNeeds.{nineIn}
-use Rattle.absorb.specs.RefusalAbsorb.{absorbRefusal}
-use Rattle.absorb.specs.RefusalNeeds.{Absorbs}
+use Rattle.absorb.specs.Steps.{nineIn, absorbRefusal, Absorbs, Kept, Ready}
 use Rattle.absorb.proofs.refusal.Refusal.{passed}
-use Rattle.absorb.specs.Commit.{Kept}
-use Rattle.absorb.specs.CommittedNeeds.{Ready}
 
 -- no number with the kind bytes is no number of the rules
 kinded-zero : (ok : Bool) (n : ℕ) → kindedNumber ok n ≡ 0 → n ≡ 0

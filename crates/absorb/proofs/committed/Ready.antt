@@ -18,19 +18,18 @@ use Rattle.rules.proofs.Tests.{test, and-left, all→}
 use Rattle.rules.proofs.Same.{sameArea-eq}
 use Rattle.laws.proofs.scans.Scans.{RecorderIs, recorder→}
 use Rattle.tables.specs.Tables.{partsIn}
-use Rattle.index.specs.Needs.{scanSpace}
+use Rattle.index.specs.Index.{scanSpace}
 use Rattle.index.proofs.Questions.{space, passes-long, passes-kinds}
 use Rattle.merge.proofs.questions.Ready.{scan-is, store-room, few-boundaries, few-checkpoints}
 use Rattle.parts.specs.Parts.{PartTables, partTables}
-use Rattle.parts.specs.Needs.{wanted}
+use Rattle.parts.specs.Steps.{wanted}
 use Rattle.parts.proofs.Callers.{lent-from, wanted-from, room-from}
 use Rattle.tables.specs.Recorder.{RecorderTables, recorderIn, recorderKinds}
-use Rattle.recorder.specs.Needs.{recorderHeld}
-use Rattle.recorder.specs.Needs as recorder
+use Rattle.recorder.specs.Steps.{recorderHeld}
+use Rattle.recorder.specs.Steps as recorder
 use Rattle.recorder.proofs.Calls.{passes-roomy, passes-held, passes-long as recorder-long}
-use Rattle.absorb.specs.QuestionsNeeds.{nineIn}
-use Rattle.merge.specs.TakeNeeds.{Appends, PartsReady}
-use Rattle.absorb.specs.CommittedNeeds.{Ready}
+use Rattle.absorb.specs.Steps.{nineIn, Ready}
+use Rattle.merge.specs.Steps.{Appends, PartsReady}
 
 -- fewer parts are for later checkpoints
 wanted-fewer : (a b : ℕ) (ps : List Held) → a ≤ b → wanted b ps ≤ wanted a ps

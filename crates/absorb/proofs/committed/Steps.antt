@@ -26,9 +26,8 @@ use Rattle.tables.specs.Index.{Tables, tables, indexIn, storeOf, numbersFrom, e
 use Rattle.parts.specs.declared.Counts.{Counts}
 use Rattle.parts.specs.Parts.{partTables, storedIn, Held, held, heldFrom}
 use Rattle.tables.specs.Recorder.{RecorderTables, recorderIn}
-use Rattle.merge.specs.TakeNeeds.{Appended, partsTaken}
-use Rattle.absorb.specs.Commit.{written, absorbed, absorbedIn, Kept}
-use Rattle.absorb.specs.CommittedNeeds.{Ready, frontOf, frontAt, TakesBelow, TakenBelow, numbersBy}
+use Rattle.merge.specs.Steps.{Appended, partsTaken}
+use Rattle.absorb.specs.Steps.{written, absorbed, absorbedIn, Kept, Ready, frontOf, frontAt, TakesBelow, TakenBelow, numbersBy}
 use Rattle.absorb.proofs.committed.Ready.{own-malformed}
 
 -- ---- numbers and tables

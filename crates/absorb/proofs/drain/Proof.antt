@@ -1,4 +1,4 @@
-use Rattle.absorb.specs.Needs.{drainedOf}
+use Rattle.absorb.specs.Steps.{drainedOf}
 use borrow.Author.Needs.{needs}
 use Rattle.absorb.proofs.drain.Statement.{statement}
 use Rattle.absorb.proofs.drain.Tie as tie

@@ -14,7 +14,7 @@ use Rattle.rules.specs.Sections.{risingOk, risen, rising, ownLsn, anyLsn}
 use Rattle.rules.specs.Record.{below}
 use Rattle.rules.proofs.Tests.{test}
 use Rattle.rules.proofs.Walk.{walk-head, walk-tail, risen→}
-use Rattle.absorb.specs.QuestionsNeeds.{listIn}
+use Rattle.absorb.specs.Steps.{listIn}
 
 -- none of a list that rises from the bound on lies below it
 pub below-past : (b end s : ℕ) (ls : List ℕ) → walk (risingOk ownLsn anyLsn end) (risen ownLsn) s ls ≡ true → b ≤ s → below b ls ≡ []

@@ -23,7 +23,7 @@ use Rattle.rules.proofs.Tests.{all→}
 use Rattle.tables.specs.Tables.{checkpointsIn, lsnsIn, givenIn}
 use Rattle.tables.specs.Index.{endIn}
 use Rattle.laws.specs.Twelve.{continues, listOk, joinedOk}
-use Rattle.absorb.specs.QuestionsNeeds.{listIn, movedIn, twelveIn}
+use Rattle.absorb.specs.Steps.{listIn, movedIn, twelveIn}
 
 module _ (x : AreaIndex) (cs held : List ℕ) (r : Recorder) (ds ms : List ℕ) where
   abbrev own : List Checkpoint

@@ -16,8 +16,7 @@ use Rattle.rules.specs.Questions.{areaOk}
 use Rattle.rules.proofs.Tests.{and-right}
 use Rattle.tables.specs.Index.{endIn, idIn}
 use Rattle.index.proofs.Questions.{range}
-use Rattle.absorb.specs.QuestionsNeeds.{nineIn, elevenIn, twelveIn, Joinable}
-use Rattle.absorb.specs.RefusalNeeds.{tenIn, laterNumber, Readable}
+use Rattle.absorb.specs.Steps.{nineIn, elevenIn, twelveIn, Joinable, tenIn, laterNumber, Readable}
 
 -- the start of an area that passes 1
 pub started : (a : Area) → areaOk a ≡ true → a .start ≤ 4294967295

@@ -19,17 +19,15 @@ use Rattle.laws.proofs.scans.Scans.{recorder→}
 use Rattle.laws.specs.Twelve.{listOk, joinedOk}
 use Rattle.laws.proofs.absorbing.Twelve.{twelve-is}
 use Rattle.tables.specs.Index.{idIn, Tables, roomOf, indexIn, kindsIn, kindedNumber, refusal, lowest}
-use Rattle.index.specs.Needs.{heldQuestion4}
+use Rattle.index.specs.Steps.{heldQuestion4}
 use Rattle.index.proofs.Four.{Later, number-more, lowest-both}
 use Rattle.index.proofs.Questions.{passes, passes-long}
 use Rattle.merge.proofs.questions.Refusal.{lowest-zero}
 use Rattle.tables.specs.Recorder.{RecorderTables, recorderRoom, recorderIn, recorderKinds, recorderRefusal}
-use Rattle.recorder.specs.Needs.{recorderHeld}
+use Rattle.recorder.specs.Steps.{recorderHeld}
 use Rattle.recorder.proofs.Calls.{passes-held, passes-long as recorder-long}
 use Rattle.tables.specs.Tables.{givenIn}
-use Rattle.absorb.specs.QuestionsNeeds.{nineIn, elevenIn, twelveIn}
-use Rattle.absorb.specs.RefusalAbsorb.{absorbRefusal}
-use Rattle.absorb.specs.RefusalNeeds.{tenIn, laterNumber, Readable}
+use Rattle.absorb.specs.Steps.{nineIn, elevenIn, twelveIn, absorbRefusal, tenIn, laterNumber, Readable}
 
 -- a fifth answer that matters only where the second and third are yes
 under : (a b c d e f : Bool) → (b ≡ true → c ≡ true → e ≡ f)

@@ -20,7 +20,7 @@ use Rattle.laws.proofs.hint_lists.Merging.{nil-with, with-nil, with-left, with-
 use Rattle.laws.proofs.hint_lists.Confirmations.{met-lsn, keepAll-none}
 use Rattle.laws.proofs.hint_lists.Keeping.{last-few, last-past, keepAll-merged}
 use Rattle.adds.specs.Keys.{fromKey}
-use Rattle.adds.specs.Same.{sameList, sameConfirmation}
+use Rattle.adds.specs.Adds.{sameList, sameConfirmation}
 use Rattle.adds.specs.Confirmed.{absorbed, arriving, confirmedChange}
 use Rattle.adds.proofs.keys.Laws.{from-rises}
 use Rattle.adds.proofs.compare.Same.{differ, sameList-self, sameList-eq, sameConfirmation-self, sameConfirmation-eq}

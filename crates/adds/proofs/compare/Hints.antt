@@ -24,7 +24,7 @@ use Rattle.laws.proofs.hint_lists.Thinning.{kept-length, kept-every, thin-lengt
 use Rattle.rules_lacks.specs.Lacks.{equalHint}
 use Rattle.rules_lacks.proofs.Laws.{equalHint-self, equalHint-eq}
 use Rattle.adds.specs.declared.compare.Weighed.{Weighed}
-use Rattle.adds.specs.Same.{sameList}
+use Rattle.adds.specs.Adds.{sameList}
 use Rattle.adds.specs.Marks.{marked, lower, unweighed, weighed, changedBy}
 use Rattle.adds.proofs.compare.Same.{differ, sameList-self, sameList-eq}
 use Rattle.adds.proofs.compare.Counts.{count-full}

@@ -6,7 +6,7 @@ use borrow.Author.Tests.{eqb-true}
 use Rattle.rules.specs.declared.Confirmation.{Confirmation}
 use Rattle.rules.proofs.Tests.{never, test, and-left, and-right, both, all→, →all}
 use Rattle.rules.proofs.Same.{eqb-self}
-use Rattle.adds.specs.Same.{sameList, sameConfirmation}
+use Rattle.adds.specs.Adds.{sameList, sameConfirmation}
 
 -- a test that fails where two values differ
 pub differ : {A : Type 0} (same : A → A → Bool) → ((a b : A) → same a b ≡ true → a ≡ b) → (a b : A) → (a ≡ b → ⊥)

@@ -1,5 +1,5 @@
 use Rattle.adds.proofs.Seeking.{Seeking, seek-start, seek-end, source-ready, part-inside, seek-found, seek-on}
-use Rattle.adds.specs.Needs.{someStored}
+use Rattle.adds.specs.Steps.{someStored}
 use Rattle.parts.specs.Parts.{partTables, storedIn}
 use Rattle.tables.specs.Tables.{framesIn, partsIn}
 use native.Mathlib.Omega.{arith}

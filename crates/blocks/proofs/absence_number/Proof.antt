@@ -1,4 +1,4 @@
-use Rattle.blocks.specs.Head.{absenceNumber}
+use Rattle.blocks.specs.Blocks.{absenceNumber}
 use borrow.Author.Needs.{needs}
 use Rattle.blocks.proofs.absence_number.Statement.{statement}
 use Rattle.blocks.proofs.absence_number.Tie as tie

@@ -1,4 +1,4 @@
-use Rattle.blocks.specs.Head.{endWords}
+use Rattle.blocks.specs.Blocks.{endWords}
 use borrow.Author.Needs.{needs}
 use Rattle.blocks.proofs.end_words.Statement.{statement}
 use Rattle.blocks.proofs.end_words.Tie as tie

@@ -1,4 +1,4 @@
-use Rattle.blocks.specs.Head.{fingerprintWords}
+use Rattle.blocks.specs.Blocks.{fingerprintWords}
 use borrow.Author.Needs.{needs}
 use Rattle.blocks.proofs.fingerprint_words.Statement.{statement}
 use Rattle.blocks.proofs.fingerprint_words.Tie as tie

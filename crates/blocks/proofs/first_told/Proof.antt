@@ -1,4 +1,4 @@
-use Rattle.blocks.specs.Head.{firstTold}
+use Rattle.blocks.specs.Blocks.{firstTold}
 use borrow.Author.Needs.{needs}
 use Rattle.blocks.proofs.first_told.Statement.{statement}
 use Rattle.blocks.proofs.first_told.Tie as tie

@@ -1,4 +1,4 @@
-use Rattle.blocks.specs.Head.{hintRecorderArray}
+use Rattle.blocks.specs.Blocks.{hintRecorderArray}
 use borrow.Author.Needs.{needs}
 use Rattle.blocks.proofs.hint_recorder_array.Statement.{statement}
 use Rattle.blocks.proofs.hint_recorder_array.Tie as tie

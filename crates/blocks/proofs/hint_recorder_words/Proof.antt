@@ -1,4 +1,4 @@
-use Rattle.blocks.specs.Head.{hintRecorderWords}
+use Rattle.blocks.specs.Blocks.{hintRecorderWords}
 use borrow.Author.Needs.{needs}
 use Rattle.blocks.proofs.hint_recorder_words.Statement.{statement}
 use Rattle.blocks.proofs.hint_recorder_words.Tie as tie

@@ -1,4 +1,4 @@
-use Rattle.blocks.specs.Head.{imageWords}
+use Rattle.blocks.specs.Blocks.{imageWords}
 use borrow.Author.Needs.{needs}
 use Rattle.blocks.proofs.image_words.Statement.{statement}
 use Rattle.blocks.proofs.image_words.Tie as tie

@@ -1,4 +1,4 @@
-use Rattle.blocks.specs.Head.{indexWords}
+use Rattle.blocks.specs.Blocks.{indexWords}
 use borrow.Author.Needs.{needs}
 use Rattle.blocks.proofs.index_words.Statement.{statement}
 use Rattle.blocks.proofs.index_words.Tie as tie

@@ -1,4 +1,4 @@
-use Rattle.blocks.specs.Head.{lastWords}
+use Rattle.blocks.specs.Blocks.{lastWords}
 use borrow.Author.Needs.{needs}
 use Rattle.blocks.proofs.last_words.Statement.{statement}
 use Rattle.blocks.proofs.last_words.Tie as tie

@@ -1,4 +1,4 @@
-use Rattle.blocks.specs.Head.{modeWords}
+use Rattle.blocks.specs.Blocks.{modeWords}
 use borrow.Author.Needs.{needs}
 use Rattle.blocks.proofs.mode_words.Statement.{statement}
 use Rattle.blocks.proofs.mode_words.Tie as tie

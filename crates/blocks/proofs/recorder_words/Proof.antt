@@ -1,4 +1,4 @@
-use Rattle.blocks.specs.Head.{recorderWords}
+use Rattle.blocks.specs.Blocks.{recorderWords}
 use borrow.Author.Needs.{needs}
 use Rattle.blocks.proofs.recorder_words.Statement.{statement}
 use Rattle.blocks.proofs.recorder_words.Tie as tie

@@ -1,4 +1,4 @@
-use Rattle.blocks.specs.Head.{seenWords}
+use Rattle.blocks.specs.Blocks.{seenWords}
 use borrow.Author.Needs.{needs}
 use Rattle.blocks.proofs.seen_words.Statement.{statement}
 use Rattle.blocks.proofs.seen_words.Tie as tie

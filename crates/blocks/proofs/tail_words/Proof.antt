@@ -1,4 +1,4 @@
-use Rattle.blocks.specs.Head.{tailWords}
+use Rattle.blocks.specs.Blocks.{tailWords}
 use borrow.Author.Needs.{needs}
 use Rattle.blocks.proofs.tail_words.Statement.{statement}
 use Rattle.blocks.proofs.tail_words.Tie as tie

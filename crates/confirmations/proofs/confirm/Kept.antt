@@ -28,7 +28,7 @@ use Rattle.laws.proofs.hint_lists.Splitting.{splitting-whole, splitting-least}
 use Rattle.laws.proofs.hint_lists.Keeping.{keepAll-merged}
 use Rattle.laws.proofs.hint_lists.Confirmations.{keepAll-none}
 use Rattle.tables.specs.Tables.{confirmationsIn}
-use Rattle.confirmations.specs.Kept.{confirmationsMerged, lastLsn, Rising, Splits, Keeps}
+use Rattle.confirmations.specs.Steps.{confirmationsMerged, lastLsn, Rising, Splits, Keeps}
 
 -- ---- one confirmation
 pub met-lower : (x y : Confirmation) {m : ℕ} → x .digest ≡ y .digest → m ≡ min (x .threshold) (y .threshold)

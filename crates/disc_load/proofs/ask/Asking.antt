@@ -12,8 +12,7 @@ use Rattle.rules_disc.specs.Disc.{bodyOf, loadBody}
 use Rattle.rules.proofs.Tests.{→bind}
 use Rattle.rules_disc.specs.declared.Place.{Place}
 use Rattle.rules_disc.specs.declared.Place.the-variants as place
-use Rattle.disc_load.specs.Contents.{entryIn}
-use Rattle.disc_load.specs.Inside.{Inside}
+use Rattle.disc_load.specs.Steps.{entryIn, Inside, placeOf, Holds, heldIn, BodyDecision}
 use Rattle.tables.specs.Index.{Tables, roomOf}
 use Rattle.inspect.specs.declared.Found.{Found}
 use Rattle.load.specs.declared.Decided.{Decided}
@@ -23,7 +22,6 @@ use Rattle.load.proofs.Answers.{ready-loads}
 use Rattle.disc_load.specs.declared.ask.Body.{Body}
 use Rattle.disc_load.specs.declared.ask.Body.the-variants as body
 use Rattle.disc_load.specs.declared.ask.Asked.the-variants as asked
-use Rattle.disc_load.specs.Ask.{placeOf, Holds, heldIn, BodyDecision}
 
 pub inside-at : (b : List ℕ) {p : Place} {e : Entry} → p ≡ place.At e → Inside b p → e .offset + e .len ≤ length b
 inside-at b h i = rw h at i

@@ -9,14 +9,14 @@ use Rattle.rules.specs.Tests.{Refused, Accepted, firstNo, after, bind}
 use Rattle.rules_disc.specs.Disc.{bodyOf, slotArea, loadBody, loadBodies, loadDisc}
 use Rattle.rules_disc.specs.declared.Contents.the-variants.{Broken, Lists}
 use Rattle.rules_disc.specs.declared.Place.{Place}
-use Rattle.disc_load.specs.Contents.{entryIn, contentsIn}
+use Rattle.disc_load.specs.Steps.{entryIn, BodyDecision, decidedBy, Located, Decision}
+use Rattle.disc_load.specs.DiscLoad.{contentsIn}
 use Rattle.disc_load.proofs.contents.Inside.{locates, breaks}
 use Rattle.tables.specs.Index.{Tables, roomOf}
 use Rattle.disc_load.specs.declared.ask.Asked.{Asked}
 use Rattle.disc_load.specs.declared.ask.Asked.the-variants as asked
 use Rattle.disc_load.specs.declared.ask.Decided.{Decided}
 use Rattle.disc_load.specs.declared.ask.Decided.the-variants as decided
-use Rattle.disc_load.specs.Ask.{BodyDecision, decidedBy, Located, Decision}
 use Rattle.disc_load.proofs.ask.Asking.{held-loads}
 
 pub located : {a0 a1 : Area} {b : List ℕ} {r : Bool} {p q : Place} → r ≡ (slotArea 0 a0 && slotArea 1 a1) → r ≡ true → Lists p q ≡ contentsIn b → Located a0 a1 b p q

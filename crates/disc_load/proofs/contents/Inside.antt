@@ -13,8 +13,8 @@ use Rattle.rules_disc.specs.declared.Entry.{Entry}
 use Rattle.rules_disc.specs.Disc.{laid, contentsOk, entriesIn, entryOf, countIn, tableSize}
 use Rattle.rules_disc.specs.declared.Contents.the-variants.{Broken, Lists}
 use Rattle.rules_disc.specs.declared.Place.{Place}
-use Rattle.disc_load.specs.Contents.{placeFrom, entryIn, contentsFrom, contentsIn}
-use Rattle.disc_load.specs.Inside.{Inside, Locates}
+use Rattle.disc_load.specs.DiscLoad.{placeFrom, contentsFrom, contentsIn}
+use Rattle.disc_load.specs.Steps.{entryIn, Inside, Locates}
 
 -- what the rule says of the first entry
 pub record Laid (size s at : ℕ) (e : Entry) (es : List Entry) : Type 0 where

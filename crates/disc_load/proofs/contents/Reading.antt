@@ -21,7 +21,7 @@ use Rattle.save.proofs.output.Stretches.{put-both, put-one}
 use Rattle.rules_disc.specs.declared.Contents.the-variants.{Broken, Lists}
 use Rattle.rules_disc.specs.declared.Place.{Place}
 use Rattle.rules_disc.specs.declared.Place.the-variants.{Absent, At}
-use Rattle.disc_load.specs.Contents.{placeFrom, contentsFrom, contentsIn}
+use Rattle.disc_load.specs.DiscLoad.{placeFrom, contentsFrom, contentsIn}
 
 -- an entry by its three numbers
 pub entry-here : (b : List ℕ) (at : ℕ) → entry (numberAt 4 b at) (numberAt 4 b (at + 4)) (numberAt 4 b (at + 8)) ≡ decodeEntry (take 12 (drop at b))

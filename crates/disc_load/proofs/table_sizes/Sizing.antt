@@ -13,7 +13,8 @@ use Rattle.rules_disc.specs.Disc.{bodyOf, slotArea}
 use Rattle.rules_disc.specs.declared.Contents.the-variants.{Broken, Lists}
 use Rattle.rules_disc.specs.declared.Place.{Place}
 use Rattle.rules_disc.specs.declared.Place.the-variants.{Absent, At}
-use Rattle.disc_load.specs.Contents.{entryIn, contentsIn}
+use Rattle.disc_load.specs.Steps.{entryIn, bodySizedOf}
+use Rattle.disc_load.specs.DiscLoad.{contentsIn, bodySizes, bothSizes, discSizes, slotSizesOf, discSizedOf}
 use Rattle.disc_load.proofs.contents.Inside.{locates, breaks}
 use Rattle.rules.specs.declared.Sized.{Sized}
 use Rattle.sizes.specs.Sizes.{sizedOf, fileSizes}
@@ -22,7 +23,6 @@ use Rattle.rules_disc.specs.declared.BodySized.{BodySized}
 use Rattle.rules_disc.specs.declared.BodySized.the-variants as body
 use Rattle.rules_disc.specs.declared.DiscSized.{DiscSized}
 use Rattle.rules_disc.specs.declared.DiscSized.the-variants as disc
-use Rattle.disc_load.specs.Sizes.{bodySizes, bothSizes, discSizes, slotSizesOf, bodySizedOf, discSizedOf}
 
 -- ---- one slot
 module _ (a : Area) (limit : ℕ) (b : List ℕ) where

@@ -13,8 +13,8 @@ use Rattle.rules_disc.specs.Disc.{entry, slotOf, listed, bySlot}
 use Rattle.tables.specs.Index.{Tables, indexIn, refusal, lowest}
 use Rattle.merge.proofs.questions.Refusal.{lowest-zero}
 use Rattle.disc_save.proofs.Answers.{one-length, two-length, one-contents, two-contents, one-small}
-use Rattle.disc_save.specs.Length.{lengthOf, lengthAfter, oneLength, bothLength}
-use Rattle.disc_save.specs.LengthNeeds.{lengthOfTwo, lengthBySlot}
+use Rattle.disc_save.specs.DiscSave.{lengthOf, lengthAfter, oneLength, bothLength}
+use Rattle.disc_save.specs.Steps.{lengthOfTwo, lengthBySlot}
 
 -- ---- one list
 module _ (x : AreaIndex) (t : Tables) {n : ℕ} (e : n ≡ refusal x t) where

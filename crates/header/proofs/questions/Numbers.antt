@@ -6,7 +6,7 @@ use Rattle.rules.specs.declared.Header.{Header}
 use Rattle.rules.specs.Tests.{firstNo}
 use Rattle.rules.specs.Load.{headerNumber}
 use Rattle.sections.proofs.Questions.{first-refuses, first-passes}
-use Rattle.header.specs.Needs.{keyQuestions, sizeQuestions}
+use Rattle.header.specs.Steps.{keyQuestions, sizeQuestions}
 
 module _ (a : Area) (h : Header) (left : ℕ) {n : ℕ} (e : n ≡ firstNo (keyQuestions a h)) where
   pub number-no : (n ≡ 0 → ⊥) → n ≡ headerNumber a h left

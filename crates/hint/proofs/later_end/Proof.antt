@@ -5,7 +5,7 @@ use native.Mathlib.Omega.{arith}
 use Rattle.rules.specs.Hints.{firstFrom}
 use Rattle.tables.specs.Tables.{decodeKept, keptIn}
 use Rattle.tables.proofs.Rest.{Rest, rest-start, rest-on, rest-stop, rest-end}
-use Rattle.hint.specs.Needs.{laterEnd}
+use Rattle.hint.specs.Steps.{laterEnd}
 use Rattle.hint.proofs.Later.{later-on, later-near, later-far, later-none}
 use borrow.Author.Needs.{needs}
 use Rattle.hint.proofs.later_end.Statement.{statement}

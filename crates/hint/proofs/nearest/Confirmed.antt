@@ -18,7 +18,7 @@ use Rattle.rules.proofs.Tests.{test}
 use Rattle.laws.specs.Order.{Rises}
 use Rattle.tables.specs.Tables.{confirmationsIn}
 use Rattle.plan.proofs.Halves.{Halves, halves-up, halves-down}
-use Rattle.hint.specs.Place.{Ordered}
+use Rattle.hint.specs.Steps.{Ordered}
 
 or-false : (b : Bool) → (b || false) ≡ b
 or-false true = refl

@@ -23,7 +23,7 @@ use Rattle.rules_jump.specs.declared.HintStart.the-variants.{Confirmed, Nearest
 use Rattle.tables.specs.Tables.{decodeKept, keptIn}
 use Rattle.plan.specs.Search.{lastIn}
 use Rattle.plan.proofs.Steps.{last-some}
-use Rattle.hint.specs.Place.{candidate, largestIn}
+use Rattle.hint.specs.Steps.{candidate, largestIn}
 
 -- ---- near
 -- by how far the number is above the lower bound, modulo 2^32

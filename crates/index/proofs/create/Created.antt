@@ -16,8 +16,8 @@ use Rattle.rules.specs.Create.{new, bound, bindFingerprint}
 use Rattle.rules.proofs.Tests.{test}
 use Rattle.rules.specs.declared.Made.the-variants as made
 use Rattle.tables.specs.Index.{Tables, indexIn, numbersFrom, three, refusal}
-use Rattle.index.specs.Calls.{numbersOf, madeOf, newIn, boundIn}
-use Rattle.index.specs.CreateNeeds.{freshOf, checkedOf}
+use Rattle.index.specs.Index.{numbersOf, madeOf, newIn, boundIn}
+use Rattle.index.specs.Steps.{freshOf, checkedOf}
 use Rattle.index.proofs.Four.{kinded-index}
 use Rattle.index.proofs.Back.{numbers-with}
 

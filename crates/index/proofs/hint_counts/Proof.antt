@@ -1,4 +1,4 @@
-use Rattle.index.specs.Needs.{hintCounts}
+use Rattle.index.specs.Steps.{hintCounts}
 use Rattle.rules.specs.Tests.{all}
 use mathlib.Core.Bool.{and-true}
 use borrow.Author.Needs.{needs}

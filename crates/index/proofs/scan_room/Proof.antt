@@ -1,4 +1,4 @@
-use Rattle.index.specs.Needs.{scanSpace}
+use Rattle.index.specs.Index.{scanSpace}
 use Rattle.rules.specs.Questions.{scanRoom}
 use Rattle.rules.specs.Tests.{all}
 use mathlib.Core.Bool.{and-true}

@@ -28,7 +28,7 @@ use Rattle.inspect.proofs.Left.{read-eq, left-drop, left-more, left-at,
 use Rattle.inspect.proofs.cursor.Words.{GotPair}
 use Rattle.inspect.specs.declared.scan.OneFrame.{OneFrame}
 use Rattle.inspect.specs.declared.scan.OneFrame.the-variants as frame
-use Rattle.inspect.specs.Needs.{oneFrame}
+use Rattle.inspect.specs.Steps.{oneFrame}
 
 -- ---- one frame, of the body s from at on
 module _ (a : Area) (budget : ℕ) (i : Filled) (s : List ℕ) (at : ℕ) where

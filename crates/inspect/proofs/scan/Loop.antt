@@ -10,7 +10,7 @@ use Rattle.rules.specs.Load.{Read, read, readEach}
 use Rattle.inspect.specs.Cursors.{to}
 use Rattle.inspect.specs.declared.scan.Taken.{Taken}
 use Rattle.inspect.specs.declared.scan.Taken.the-variants as taken
-use Rattle.inspect.specs.Taken.{takenOf}
+use Rattle.inspect.specs.Steps.{takenOf}
 
 -- the loop has read j of n things, is at the place at of the body b and in state s; the answer is to be x
 pub record Reading {S A : Type 0} (r : S → List ℕ → Answer (Read A)) (next : S → A → S) (n : ℕ) (b : List ℕ) (x : Taken) (j at : ℕ) (s : S) : Type 0 where

@@ -15,7 +15,7 @@ use Rattle.inspect.specs.declared.cursor.Cursor.{Cursor}
 use Rattle.inspect.specs.declared.scan.Taken.the-variants as taken
 use Rattle.inspect.specs.Cursors.{to}
 use Rattle.inspect.specs.Behind.{behind}
-use Rattle.inspect.specs.Taken.{takenOf}
+use Rattle.inspect.specs.Steps.{takenOf}
 use Rattle.inspect.proofs.Left.{behind-is}
 use native.Mathlib.Nat.{eq-or-lt-of-le}
 use mathlib.Core.Logic.{⊎-elim}

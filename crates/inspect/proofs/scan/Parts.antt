@@ -39,7 +39,7 @@ use Rattle.inspect.proofs.cursor.Words.{held-got}
 use Rattle.inspect.specs.declared.scan.OnePart.{OnePart}
 use Rattle.inspect.specs.declared.scan.OnePart.the-variants as part
 use Rattle.inspect.specs.declared.scan.Placed.{Placed}
-use Rattle.inspect.specs.Needs.{placed, onePart, placedIf, partRule, Ready, LastAt}
+use Rattle.inspect.specs.Steps.{placed, onePart, placedIf, partRule, Ready, LastAt}
 
 -- ---- the frame of a part
 -- a part that passed the first half of its rule is of the frame of the part before it, or of the next

@@ -16,10 +16,10 @@ use Rattle.tables.specs.Index.{Tables}
 use Rattle.index.proofs.Questions.{space, passes-long, passes-kinds, passes-store}
 use Rattle.parts.specs.declared.Counts.{Counts}
 use Rattle.parts.specs.Parts.{PartTables, partTables}
-use Rattle.parts.specs.Needs.{Lent, Room, wanted}
+use Rattle.parts.specs.Steps.{Lent, Room, wanted}
 use Rattle.parts.proofs.Callers.{lent-from, wanted-from, room-from}
-use Rattle.merge.specs.Further.{furtherIn}
-use Rattle.merge.specs.QuestionsNeeds.{Joins}
+use Rattle.merge.specs.Merge.{furtherIn}
+use Rattle.merge.specs.Steps.{Joins}
 use Rattle.merge.proofs.questions.Ready.{scan-is, store-room, few-boundaries, few-checkpoints, other-few, further-fewer}
 
 -- no parts of another list

@@ -7,7 +7,7 @@ use borrow.Author.Tests.{not-true, not-false}
 use Rattle.rules.specs.declared.AreaIndex.{AreaIndex}
 use Rattle.rules.specs.Tests.{firstNo}
 use Rattle.rules.specs.Merge.{question41, question42}
-use Rattle.merge.specs.QuestionsNeeds.{areaAgrees, imageAgrees, readingAgrees, joinNumber}
+use Rattle.merge.specs.Steps.{areaAgrees, imageAgrees, readingAgrees, joinNumber}
 
 module _ (x : AreaIndex) (cs : List ℕ) (y : AreaIndex) (ds : List ℕ) {a : Bool} (p : a ≡ areaAgrees x y) where
   pub no-41 : not a ≡ true → 41 ≡ joinNumber x cs y ds

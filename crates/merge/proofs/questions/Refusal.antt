@@ -17,9 +17,8 @@ use Rattle.rules.proofs.Tests.{test, asked}
 use Rattle.tables.specs.Index.{Tables, roomOf, indexIn, kindsIn, kindedNumber, kinded, refusal, lowest}
 use Rattle.index.proofs.Four.{Later, number-more, kinded-more, lowest-both}
 use Rattle.index.proofs.Questions.{passes, passes-long}
-use Rattle.merge.specs.Join.{mergeRefusal}
-use Rattle.merge.specs.Further.{furtherIn}
-use Rattle.merge.specs.QuestionsNeeds.{joinNumber, Joins}
+use Rattle.merge.specs.Merge.{mergeRefusal, furtherIn}
+use Rattle.merge.specs.Steps.{joinNumber, Joins}
 
 pub lowest-zero : (m n : ℕ) → lowest m n ≡ 0 → (m ≡ 0) × (n ≡ 0)
 unfolding lowest

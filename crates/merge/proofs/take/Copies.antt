@@ -16,7 +16,7 @@ use Rattle.field.proofs.Records.{records-length, drop-records}
 use Rattle.rules.proofs.Tests.{test}
 use Rattle.laws.proofs.Layouts.{checkpoint-layout, lsn-layout}
 use Rattle.rules.specs.File.{over}
-use Rattle.merge.specs.TakeNeeds.{Put, Appends, Appended, Takes, Taken}
+use Rattle.merge.specs.Steps.{Put, Appends, Appended, Takes, Taken}
 
 -- the first bytes of a table over it
 over-first : (k : ℕ) (t : List ℕ) → k ≤ length t → t ≡ over (take k t) t

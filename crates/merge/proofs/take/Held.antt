@@ -5,8 +5,8 @@ use Rattle.rules.specs.declared.AreaIndex.{AreaIndex}
 use Rattle.rules.specs.Values.{used}
 use Rattle.tables.specs.Tables.{framesIn, partsIn}
 use Rattle.parts.specs.Parts.{PartTables}
-use Rattle.parts.specs.Needs.{Lent, Room, wanted}
-use Rattle.merge.specs.TakeNeeds.{PartsReady}
+use Rattle.parts.specs.Steps.{Lent, Room, wanted}
+use Rattle.merge.specs.Steps.{PartsReady}
 
 module _ {x : AreaIndex} {f h : ℕ} {t u : PartTables} (p : PartsReady x f h t u) where
   pub parts-asked : {n : ℕ} → n ≡ used (framesIn (x .frames) (t .frames) (t .store))

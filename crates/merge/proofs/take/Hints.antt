@@ -23,8 +23,9 @@ use Rattle.laws.proofs.Marks.{unkept-length}
 use Rattle.tables.specs.Tables.{encodeKept, decodeKept, keptIn, decodeUnkept}
 use Rattle.tables.proofs.Kept.{kept-layout}
 use Rattle.add_hints.proofs.Arriving.{unkept-in}
-use Rattle.add_hints.specs.JoinedMerged.{joinedIn, touched, clearedTo}
-use Rattle.merge.specs.TakeNeeds.{HintsReady, listed, writtenTo, hintsJoined}
+use Rattle.add_hints.specs.Steps.{joinedIn, clearedTo}
+use Rattle.add_hints.specs.AddHints.{touched}
+use Rattle.merge.specs.Steps.{HintsReady, listed, writtenTo, hintsJoined}
 
 joined-most : (a : Area) (most : ℕ) (hs xs : List Hint) → length (joinedHints a most hs xs) ≤ writtenTo most (length hs) (length xs)
 joined-most a most hs xs =

@@ -1,4 +1,4 @@
-use Rattle.parts.specs.Needs.{joinsIn}
+use Rattle.parts.specs.Steps.{joinsIn}
 use Rattle.parts.proofs.Rule.{last-part}
 use borrow.Author.Needs.{needs}
 use Rattle.parts.proofs.joins.Statement.{statement}

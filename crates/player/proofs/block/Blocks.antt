@@ -6,7 +6,7 @@ use Prim.Native.Nat.{ℕ, _≤_, _<_}
 use borrow.Author.Tests.{le-leb, lt-leb, eq-eqb, ne-eqb}
 use lib.ListN.{length}
 use Rattle.rules.proofs.Tests.{never}
-use Rattle.blocks.specs.IsHead.{isHead}
+use Rattle.blocks.specs.Blocks.{isHead}
 use Rattle.blocks.proofs.Words.{head-long}
 use Rattle.player.specs.Block.{inBlock, inHead, asWorkshop}
 

@@ -5,15 +5,13 @@ use mathlib.Core.List.{List}
 use Prim.Native.Nat.{ℕ, _≤_}
 use lib.ListN.{length}
 use Rattle.rules.specs.declared.AreaIndex.{AreaIndex}
-use Rattle.blocks.specs.Head.{indexWords}
-use Rattle.blocks.specs.IsHead.{isIndex}
+use Rattle.blocks.specs.Blocks.{indexWords, isIndex}
 use Rattle.tables.specs.Index.{Tables, out}
 use Rattle.rules.specs.declared.Made.{Made}
-use Rattle.index.specs.Calls.{madeOf}
+use Rattle.index.specs.Index.{madeOf}
 use Rattle.coarsen.specs.Coarsen.{coarseIn}
 use Rattle.player.specs.Block.{called, into, headIndex}
-use Rattle.player.specs.Calls.{calledOver}
-use Rattle.player.specs.CoarseCalls.{coarseCall}
+use Rattle.player.specs.Player.{calledOver, coarseCall}
 use Rattle.player.proofs.block.Blocks.{long-enough, is-head}
 
 pub coarse-done : (b b' : List ℕ) (n : ℕ) → 192 ≤ length b → (h : List ℕ) → isIndex h ≡ true → (x : AreaIndex) (k : ℕ) (t u u' : Tables) (r : Made)

@@ -4,15 +4,13 @@ use mathlib.Core.Bool.{true}
 use mathlib.Core.List.{List}
 use Prim.Native.Nat.{ℕ}
 use Rattle.rules.specs.declared.AreaIndex.{AreaIndex}
-use Rattle.blocks.specs.Head.{indexWords}
-use Rattle.blocks.specs.IsHead.{isIndex}
+use Rattle.blocks.specs.Blocks.{indexWords, isIndex}
 use Rattle.tables.specs.Index.{Tables, out}
 use Rattle.rules.specs.declared.Made.{Made}
-use Rattle.index.specs.Calls.{madeOf}
+use Rattle.index.specs.Index.{madeOf}
 use Rattle.drawer.specs.Drawer.{mergeAllIn}
 use Rattle.player.specs.Block.{called, into, headIndex}
-use Rattle.player.specs.Calls.{withTables, calledOver, outInto}
-use Rattle.player.specs.DrawerCalls.{mergeAllCall}
+use Rattle.player.specs.Player.{withTables, calledOver, outInto, mergeAllCall}
 use Rattle.player.proofs.block.Blocks.{is-head}
 
 pub merge-all-done : (b b' : List ℕ) (n : ℕ) → isIndex b ≡ true → (x : AreaIndex) (ls files : List ℕ) (limit : ℕ) (t u t' : Tables) (r : Made)

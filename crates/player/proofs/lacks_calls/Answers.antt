@@ -5,12 +5,12 @@ use mathlib.Core.List.{List}
 use Prim.Native.Nat.{ℕ, _≤_}
 use lib.ListN.{length}
 use Rattle.rules.specs.declared.AreaIndex.{AreaIndex}
-use Rattle.blocks.specs.IsHead.{isIndex}
+use Rattle.blocks.specs.Blocks.{isIndex}
 use Rattle.tables.specs.Index.{Tables}
 use Rattle.lacks.specs.Lacks.{lackedOf, lacksIn}
 use Rattle.rules_lacks.specs.declared.Lacked.{Lacked}
 use Rattle.player.specs.Block.{called, into, headIndex}
-use Rattle.player.specs.LacksCalls.{lacksWords, lacksCall}
+use Rattle.player.specs.Player.{lacksWords, lacksCall}
 use Rattle.player.proofs.block.Blocks.{long-enough, is-head}
 
 pub lacks-done : (b b' : List ℕ) (n : ℕ) → 192 ≤ length b → (g : List ℕ) → isIndex g ≡ true → (x y : AreaIndex) → y ≡ headIndex g → (t u : Tables) (h : List ℕ) → isIndex h ≡ true

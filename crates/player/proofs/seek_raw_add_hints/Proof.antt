@@ -1,5 +1,5 @@
 use mathlib.Core.Path.{refl}
-use Rattle.player.specs.Calls.{addHintsCall}
+use Rattle.player.specs.Player.{addHintsCall}
 use Rattle.player.proofs.block.Blocks.{no-head, known, known-long}
 use Rattle.player.proofs.Answers.{add-hints-done}
 use borrow.Author.Needs.{needs}

@@ -1,4 +1,4 @@
-use Rattle.player.specs.Calls.{addsCall}
+use Rattle.player.specs.Player.{addsCall}
 use Rattle.player.proofs.block.Blocks.{too-short, no-head, is-head, known, known-long}
 use Rattle.player.proofs.Answers.{adds-done}
 use borrow.Author.Needs.{needs}

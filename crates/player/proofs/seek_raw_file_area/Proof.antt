@@ -1,4 +1,4 @@
-use Rattle.player.specs.Calls.{fileAreaCall}
+use Rattle.player.specs.Player.{fileAreaCall}
 use Rattle.player.proofs.block.Blocks.{too-short}
 use Rattle.player.proofs.Answers.{file-area-done}
 use borrow.Author.Needs.{needs}

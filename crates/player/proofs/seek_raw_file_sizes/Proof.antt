@@ -1,4 +1,4 @@
-use Rattle.player.specs.Calls.{fileSizesCall}
+use Rattle.player.specs.Player.{fileSizesCall}
 use Rattle.player.proofs.block.Blocks.{too-short}
 use Rattle.player.proofs.Answers.{file-sizes-done}
 use borrow.Author.Needs.{needs}

@@ -1,5 +1,5 @@
 use mathlib.Core.Path.{refl}
-use Rattle.player.specs.Calls.{fingerprintCall}
+use Rattle.player.specs.Player.{fingerprintCall}
 use Rattle.player.proofs.block.Blocks.{no-head, known, known-long}
 use Rattle.player.proofs.Answers.{fingerprint-done}
 use borrow.Author.Needs.{needs}

@@ -1,4 +1,4 @@
-use Rattle.player.specs.Calls.{firstCall}
+use Rattle.player.specs.Player.{firstCall}
 use Rattle.player.proofs.block.Blocks.{too-short}
 use Rattle.player.proofs.Answers.{first-done}
 use borrow.Author.Needs.{needs}

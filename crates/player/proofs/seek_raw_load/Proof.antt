@@ -1,4 +1,4 @@
-use Rattle.player.specs.Calls.{loadCall, loadCallAs}
+use Rattle.player.specs.Player.{loadCall, loadCallAs}
 use Rattle.player.proofs.block.Blocks.{no-workshop, is-workshop, too-short}
 use Rattle.player.proofs.Answers.{load-done}
 use borrow.Author.Needs.{needs}

@@ -1,6 +1,6 @@
 use mathlib.Core.Path.{refl}
 use Rattle.tables.specs.Index.{Tables, tables}
-use Rattle.player.specs.Calls.{mergeCall, mergeCallAs}
+use Rattle.player.specs.Player.{mergeCall, mergeCallAs}
 use Rattle.player.proofs.block.Blocks.{no-workshop, is-workshop, no-head, is-head, known, known-long}
 use Rattle.player.proofs.Answers.{merge-done}
 use borrow.Author.Needs.{needs}

@@ -1,4 +1,4 @@
-use Rattle.player.specs.Calls.{newCall}
+use Rattle.player.specs.Player.{newCall}
 use Rattle.player.proofs.block.Blocks.{too-short}
 use Rattle.player.proofs.Answers.{new-done}
 use borrow.Author.Needs.{needs}

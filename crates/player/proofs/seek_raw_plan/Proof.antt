@@ -1,4 +1,4 @@
-use Rattle.player.specs.Calls.{planCall}
+use Rattle.player.specs.Player.{planCall}
 use Rattle.player.proofs.block.Blocks.{too-short, no-head, is-head, known, known-long}
 use Rattle.player.proofs.Answers.{plan-done}
 use borrow.Author.Needs.{needs}

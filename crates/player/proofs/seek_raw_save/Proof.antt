@@ -1,4 +1,4 @@
-use Rattle.player.specs.Calls.{saveCall, saveCallAs}
+use Rattle.player.specs.Player.{saveCall, saveCallAs}
 use Rattle.player.proofs.block.Blocks.{no-workshop, is-workshop, no-head, known, known-long}
 use Rattle.player.proofs.Answers.{save-done}
 use borrow.Author.Needs.{needs}

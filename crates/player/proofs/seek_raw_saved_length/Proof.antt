@@ -1,4 +1,4 @@
-use Rattle.player.specs.Calls.{lengthCall}
+use Rattle.player.specs.Player.{lengthCall}
 use Rattle.player.proofs.block.Blocks.{no-head, known, known-long}
 use Rattle.player.proofs.Answers.{length-done}
 use borrow.Author.Needs.{needs}

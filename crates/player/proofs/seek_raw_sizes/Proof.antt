@@ -1,4 +1,4 @@
-use Rattle.player.specs.Calls.{sizesCall}
+use Rattle.player.specs.Player.{sizesCall}
 use Rattle.player.proofs.block.Blocks.{too-short}
 use Rattle.player.proofs.Answers.{sizes-done}
 use borrow.Author.Needs.{needs}

@@ -4,9 +4,9 @@ use mathlib.Core.List.{List}
 use Prim.Native.Nat.{ℕ, _≤_}
 use lib.ListN.{length}
 use Rattle.short_sum.specs.declared.Folded.{Folded}
-use Rattle.short_sum.specs.Calls.{fold}
+use Rattle.short_sum.specs.ShortSum.{fold}
 use Rattle.player.specs.Block.{called, into, oneWord}
-use Rattle.player.specs.Sums.{foldedOf, foldCall}
+use Rattle.player.specs.Player.{foldedOf, foldCall}
 use Rattle.player.proofs.block.Blocks.{long-enough}
 
 pub fold-done : (b b' : List ℕ) (n : ℕ) → 192 ≤ length b → (w k s : ℕ) (r : Folded) → called n b' ≡ into oneWord b (foldedOf r) → r ≡ fold w k s

@@ -7,13 +7,13 @@ use native.Mathlib.Omega.{arith}
 use Rattle.rules.specs.declared.AreaIndex.{AreaIndex}
 use Rattle.rules.specs.Tests.{ask, firstNo}
 use Rattle.rules_view.specs.View.{isRole}
-use Rattle.blocks.specs.IsHead.{isIndex}
+use Rattle.blocks.specs.Blocks.{isIndex}
 use Rattle.tables.specs.Index.{Tables}
 use Rattle.rules.specs.declared.Viewed.{Viewed}
 use Rattle.rules.specs.declared.Viewed.the-variants as answer
 use Rattle.view.specs.View.{viewed, viewedOf, viewIn, viewSizeIn, blockRefusal}
 use Rattle.player.specs.Block.{called, headIndex, inHead}
-use Rattle.player.specs.ViewCalls.{viewedNumber, lengthNumber, viewLengthCall, viewCall}
+use Rattle.player.specs.Player.{viewedNumber, lengthNumber, viewLengthCall, viewCall}
 use Rattle.player.proofs.block.Blocks.{is-head}
 
 number-is : (r : Viewed) → viewedNumber r ≡ lengthNumber (viewedOf r)

@@ -3,7 +3,7 @@ use mathlib.Core.Path.{_≡_}
 use mathlib.Core.List.{List}
 use Prim.Native.Nat.{ℕ}
 use Rattle.rules.specs.File.{over}
-use Rattle.blocks.specs.Head.{blockOf}
+use Rattle.blocks.specs.Blocks.{blockOf}
 use Rattle.player.specs.Block.{called, two}
 use Rattle.rules_disc.specs.declared.Listed.{Listed}
 use Rattle.rules_disc.specs.declared.Loaded.{Loaded}

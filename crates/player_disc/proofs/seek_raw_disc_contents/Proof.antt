@@ -1,4 +1,4 @@
-use Rattle.player_disc.specs.Calls.{discContentsCall}
+use Rattle.player_disc.specs.PlayerDisc.{discContentsCall}
 use Rattle.player.proofs.block.Blocks.{too-short}
 use Rattle.player_disc.proofs.Answers.{contents-done}
 use borrow.Author.Needs.{needs}

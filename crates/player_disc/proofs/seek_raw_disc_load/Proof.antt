@@ -1,7 +1,7 @@
 use Rattle.rules.specs.declared.Area.{Area}
 use Rattle.tables.specs.Index.{Tables, tables}
 use Rattle.player.specs.Block.{areaFrom}
-use Rattle.player_disc.specs.Calls.{discLoadCall, discLoadCallAs}
+use Rattle.player_disc.specs.PlayerDisc.{discLoadCall, discLoadCallAs}
 use Rattle.player.proofs.block.Blocks.{no-workshop, is-workshop, too-short, long-enough}
 use Rattle.player_disc.proofs.Answers.{load-done}
 use borrow.Author.Needs.{needs}

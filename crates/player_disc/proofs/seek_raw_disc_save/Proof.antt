@@ -1,4 +1,4 @@
-use Rattle.player_disc.specs.Calls.{discSaveCall, discSaveCallAs}
+use Rattle.player_disc.specs.PlayerDisc.{discSaveCall, discSaveCallAs}
 use Rattle.player.proofs.block.Blocks.{no-workshop, is-workshop, no-head, known, known-long}
 use Rattle.player_disc.proofs.Answers.{save-done}
 use borrow.Author.Needs.{needs}

@@ -1,4 +1,4 @@
-use Rattle.player_disc.specs.Calls.{discSaveBothCall, discSaveBothCallAs}
+use Rattle.player_disc.specs.PlayerDisc.{discSaveBothCall, discSaveBothCallAs}
 use Rattle.player.proofs.block.Blocks.{no-workshop, is-workshop, no-head, is-head, known, known-long}
 use Rattle.player_disc.proofs.Answers.{both-done}
 use borrow.Author.Needs.{needs}

@@ -1,4 +1,4 @@
-use Rattle.player_disc.specs.Calls.{discLengthCall}
+use Rattle.player_disc.specs.PlayerDisc.{discLengthCall}
 use Rattle.player.proofs.block.Blocks.{no-head, known, known-long}
 use Rattle.player_disc.proofs.Answers.{length-done}
 use borrow.Author.Needs.{needs}

@@ -1,4 +1,4 @@
-use Rattle.player_disc.specs.Calls.{discLengthBothCall}
+use Rattle.player_disc.specs.PlayerDisc.{discLengthBothCall}
 use Rattle.player.proofs.block.Blocks.{no-head, is-head, known, known-long}
 use Rattle.player_disc.proofs.Answers.{length-both-done}
 use borrow.Author.Needs.{needs}

@@ -1,4 +1,4 @@
-use Rattle.player_disc.specs.Calls.{discSizesCall}
+use Rattle.player_disc.specs.PlayerDisc.{discSizesCall}
 use Rattle.player.proofs.block.Blocks.{too-short}
 use Rattle.player_disc.proofs.Answers.{sizes-done}
 use borrow.Author.Needs.{needs}

@@ -7,28 +7,27 @@ use lib.ListN.{length}
 use Rattle.rules.specs.declared.AreaIndex.{AreaIndex}
 use Rattle.rules.specs.declared.Confirmation.{Confirmation}
 use Rattle.rules.specs.declared.HintRecorder.{HintRecorder}
-use Rattle.blocks.specs.Head.{hintRecorderWords}
-use Rattle.blocks.specs.IsHead.{isIndex, isHintRecorder}
+use Rattle.blocks.specs.Blocks.{hintRecorderWords, isIndex, isHintRecorder}
 use Rattle.rules.specs.Tests.{numberOf}
 use Rattle.tables.specs.Index.{Tables, out}
 use Rattle.rules.specs.declared.Made.{Made}
-use Rattle.index.specs.Calls.{madeOf}
-use Rattle.keep_hint.specs.Keep.{keepHintIn}
+use Rattle.index.specs.Index.{madeOf}
+use Rattle.keep_hint.specs.KeepHint.{keepHintIn}
 use Rattle.rules_jump.specs.declared.HintAnswer.{HintAnswer}
-use Rattle.hint.specs.Calls.{answerOf, hintIn}
+use Rattle.hint.specs.Hint.{answerOf, hintIn}
 use Rattle.rules.specs.declared.Created.{Created}
 use Rattle.rules.specs.declared.Saw.{Saw}
 use Rattle.rules.specs.declared.Seen.{Seen}
 use Rattle.rules.specs.declared.Taken.{Taken}
-use Rattle.hint_recorder.specs.Recorder.{hintRecorderIn, seeIn, flushIn, takeIn}
-use Rattle.hint_recorder.specs.Recorder as hinting
+use Rattle.hint_recorder.specs.HintRecorder.{hintRecorderIn, seeIn, flushIn, takeIn}
+use Rattle.hint_recorder.specs.HintRecorder as hinting
 use Rattle.rules.specs.declared.Kept.{Kept}
-use Rattle.confirmations.specs.Keeping.{keepIn}
-use Rattle.confirmations.specs.Keeping as keeping
+use Rattle.confirmations.specs.Confirmations.{keepIn}
+use Rattle.confirmations.specs.Confirmations as keeping
 use Rattle.player.specs.Block.{called, into, headIndex, headHintRecorder}
 use Rattle.player.proofs.block.Blocks.{long-enough, is-head}
 use Rattle.player_record.specs.Block.{calledBoth, seenOf, sawOf, sectorWords, createdOf, createdWords, hintWords, takenInto, keptInto}
-use Rattle.player_record.specs.HintCallsCalls.{calledList, calledKept, calledTables, hintRecorderCall, seeCall, flushCall, takeCall, keepCall, keepHintCall, hintCall}
+use Rattle.player_record.specs.PlayerRecord.{calledList, calledKept, calledTables, hintRecorderCall, seeCall, flushCall, takeCall, keepCall, keepHintCall, hintCall}
 
 -- ---- a block that is only written, and a list's head
 module _ (b b' : List ℕ) (n : ℕ) (l : 192 ≤ length b) (h : List ℕ) (g : isIndex h ≡ true) (x : AreaIndex) (t : Tables) where

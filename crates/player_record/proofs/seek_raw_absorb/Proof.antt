@@ -1,5 +1,5 @@
 use mathlib.Core.Path.{refl}
-use Rattle.player_record.specs.Calls.{absorbCall}
+use Rattle.player_record.specs.PlayerRecord.{absorbCall}
 use Rattle.player.proofs.block.Blocks.{no-head, is-head, known, known-long}
 use Rattle.player_record.proofs.Answers.{absorb-done}
 use borrow.Author.Needs.{needs}

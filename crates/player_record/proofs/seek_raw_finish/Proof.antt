@@ -1,5 +1,5 @@
 use mathlib.Core.Path.{refl}
-use Rattle.player_record.specs.Calls.{finishCall}
+use Rattle.player_record.specs.PlayerRecord.{finishCall}
 use Rattle.player.proofs.block.Blocks.{no-head, known, known-long}
 use Rattle.player_record.proofs.Answers.{finish-done}
 use borrow.Author.Needs.{needs}

@@ -1,7 +1,7 @@
 use mathlib.Core.Path.{refl}
 use mir.Syntax.{w32}
 use mir.ValLaws.{toZ-ofZ}
-use Rattle.player_record.specs.Calls.{recordCall}
+use Rattle.player_record.specs.PlayerRecord.{recordCall}
 use Rattle.player.proofs.block.Blocks.{no-head, known, known-long}
 use Rattle.player_record.proofs.Answers.{record-done}
 use borrow.Author.Needs.{needs}

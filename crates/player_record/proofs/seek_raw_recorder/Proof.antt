@@ -1,4 +1,4 @@
-use Rattle.player_record.specs.Calls.{recorderCall}
+use Rattle.player_record.specs.PlayerRecord.{recorderCall}
 use Rattle.player.proofs.block.Blocks.{too-short, no-head, is-head, known, known-long}
 use Rattle.player_record.proofs.Answers.{recorder-done}
 use borrow.Author.Needs.{needs}

@@ -1,6 +1,6 @@
 use mathlib.Core.Bool.{and-true}
 use Rattle.rules.specs.Tests.{all}
-use Rattle.recorder.specs.Needs.{stretchCounts}
+use Rattle.recorder.specs.Steps.{stretchCounts}
 use borrow.Author.Needs.{needs}
 use Rattle.recorder.proofs.counts_fit.Statement.{statement}
 use Rattle.recorder.proofs.counts_fit.Tie as tie

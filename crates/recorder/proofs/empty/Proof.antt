@@ -1,4 +1,4 @@
-use Rattle.recorder.specs.Needs.{emptyOf}
+use Rattle.recorder.specs.Steps.{emptyOf}
 use borrow.Author.Needs.{needs}
 use Rattle.recorder.proofs.empty.Statement.{statement}
 use Rattle.recorder.proofs.empty.Tie as tie

@@ -29,21 +29,20 @@ use Rattle.laws.proofs.scans.Scans.{boundary-in, recorder→}
 use Rattle.laws.proofs.scans.Record.{interval-pos}
 use Rattle.laws.proofs.Layouts.{checkpoint-layout}
 use Rattle.laws.proofs.Ranges.{boundaries-small}
-use Rattle.index.specs.Needs.{scanSpace}
+use Rattle.index.specs.Index.{scanSpace}
 use Rattle.index.proofs.Four.{kinded-more}
 use Rattle.index.proofs.Numbers.{test as indexed}
 use Rattle.index.proofs.Questions.{range}
 use Rattle.parts.specs.declared.Counts.{Counts}
 use Rattle.parts.specs.Parts.{PartTables, partTables, storedIn, countsOf, storedOver, Held, held, heldFrom}
-use Rattle.parts.specs.Needs.{Room}
+use Rattle.parts.specs.Steps.{Room}
 use Rattle.parts.proofs.Stored.{over-more}
 use Rattle.parts.proofs.Callers.{room-from}
 use Rattle.rules.specs.declared.Recorded.the-variants as recorded
 use Rattle.tables.specs.Recorder.{RecorderTables, recorderTables, recorderRoom, recorderIn, recorderKinds, recorderRefusal, recorderFrom, recorderOver, assemblingIn}
-use Rattle.recorder.specs.Needs.{recorderHeld, Roomy, Long}
+use Rattle.recorder.specs.Steps.{recorderHeld, Roomy, Long, dueIn, risesIn, startsIn, assembledIn, recordNumber, advancedOf}
 use Rattle.recorder.proofs.Calls.{passes-roomy, passes-held, passes-long}
-use Rattle.recorder.specs.Record.{recorderOut, recordOut, recordIn}
-use Rattle.recorder.specs.RecordNeeds.{dueIn, risesIn, startsIn, assembledIn, recordNumber, advancedOf}
+use Rattle.recorder.specs.Recorder.{recorderOut, recordOut, recordIn}
 
 -- ---- 5 to 7
 five-is : (r : Recorder) (t : RecorderTables) (lsn : ℕ) (sector : List ℕ) → question5 (recorderIn r t) lsn sector ≡ dueIn r lsn (length sector)

@@ -19,10 +19,10 @@ use Rattle.rules.specs.PartRule.{addPart}
 use Rattle.rules.specs.File.{encodeCheckpoint}
 use Rattle.parts.specs.declared.Counts.{Counts}
 use Rattle.parts.specs.Parts.{PartTables, storedIn, Held, held, heldFrom}
-use Rattle.parts.specs.Needs.{Room}
+use Rattle.parts.specs.Steps.{Room}
 use Rattle.parts.proofs.Stored.{stays}
 use Rattle.tables.specs.Recorder.{assemblingIn}
-use Rattle.recorder.specs.RecordNeeds.{assembledIn}
+use Rattle.recorder.specs.Steps.{assembledIn}
 
 pub checkpoint-put : {t1 t2 t3 t4 : List ℕ} (t : List ℕ) (k : ℕ) (c : Checkpoint) → t1 ≡ put 4 t k (c .threshold) → t2 ≡ put 4 t1 (k + 4) (c .back) → t3 ≡ put 8 t2 (k + 8) (c .malformed)
     → t4 ≡ put 8 t3 (k + 16) (c .digest) → t4 ≡ sets t k (encodeCheckpoint c)

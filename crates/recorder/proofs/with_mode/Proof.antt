@@ -1,5 +1,5 @@
 use mathlib.Core.Path.{refl}
-use Rattle.recorder.specs.Needs.{modeOf}
+use Rattle.recorder.specs.Recorder.{modeOf}
 use Rattle.recorder.proofs.with_mode.Statement.{statement}
 use Rattle.recorder.proofs.with_mode.Tie as tie
 

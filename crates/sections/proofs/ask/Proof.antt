@@ -1,5 +1,5 @@
 use borrow.Author.Tests.{eq-eqb}
-use Rattle.sections.specs.Asked.{asked}
+use Rattle.sections.specs.Sections.{asked}
 use borrow.Author.Tests.{ne-eqb}
 use Rattle.sections.proofs.ask.Statement.{statement}
 use Rattle.sections.proofs.ask.Tie as tie

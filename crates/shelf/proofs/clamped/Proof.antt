@@ -1,4 +1,4 @@
-use Rattle.shelf.specs.Change.{clamp}
+use Rattle.shelf.specs.Shelf.{clamp}
 use borrow.Author.Needs.{needs}
 use Rattle.shelf.proofs.clamped.Statement.{statement}
 use Rattle.shelf.proofs.clamped.Tie as tie

@@ -1,5 +1,5 @@
 use Rattle.rules_shelf.specs.Shelf.{areaOf}
-use Rattle.shelf.specs.Kept.{listOf}
+use Rattle.shelf.specs.Steps.{listOf}
 use Rattle.shelf.proofs.Laws.{enter-fits, changes-refused, changes-done, enter-refused, enter-done}
 use borrow.Author.Needs.{needs}
 use Rattle.shelf.proofs.enter_change.Statement.{statement}

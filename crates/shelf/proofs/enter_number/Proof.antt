@@ -1,7 +1,7 @@
 use mathlib.Core.List.{[]}
 use mathlib.Core.Path.{refl}
 use Rattle.rules_shelf.specs.Shelf.{areaOf, questions}
-use Rattle.shelf.specs.Kept.{listOf}
+use Rattle.shelf.specs.Steps.{listOf}
 use Rattle.shelf.proofs.Laws.{asked-last}
 use borrow.Author.Needs.{needs}
 use Rattle.shelf.proofs.enter_number.Statement.{statement}

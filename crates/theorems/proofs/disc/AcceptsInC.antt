@@ -14,16 +14,15 @@ use Rattle.rules.specs.Load.{limited, load}
 use Rattle.rules.specs.Sizes.{knownSized}
 use Rattle.rules.proofs.Tests.{and-left, and-right}
 use Rattle.rules_disc.specs.Disc.{entriesIn, entryOf}
-use Rattle.blocks.specs.Head.{blockOf, indexWords}
-use Rattle.blocks.specs.IsHead.{isBlock}
+use Rattle.blocks.specs.Blocks.{blockOf, indexWords, isBlock}
 use Rattle.blocks.specs.RoundTrip.{IndexFits}
 use Rattle.blocks.proofs.RoundTrip.{index-back}
 use Rattle.tables.specs.Index.{Tables, roomOf, indexIn, numbersFrom, tablesFrom}
 use Rattle.index.proofs.Standing.{stands}
 use Rattle.player.specs.Block.{headIndex, inBlock, inHead, savedNumber}
-use Rattle.disc_load.specs.Calls.{listedFrom, tablesWith, discOutOf, loadDiscIn}
+use Rattle.disc_load.specs.DiscLoad.{listedFrom, tablesWith, discOutOf, loadDiscIn}
 use Rattle.player_disc.specs.Block.{listedInto, loadedInto}
-use Rattle.player_disc.specs.Calls.{discSaveCall, discSaveBothCall, discLoadCall}
+use Rattle.player_disc.specs.PlayerDisc.{discSaveCall, discSaveBothCall, discLoadCall}
 use Rattle.theorems.specs.Demand1InC.{long}
 use Rattle.theorems.specs.DiscInC.{DiscSaveAcceptsInC, DiscLoadAcceptsInC}
 use Rattle.theorems.proofs.BlockRun.{list-fits}

@@ -20,7 +20,7 @@ use Rattle.rules.specs.Questions.{question1}
 use Rattle.tables.specs.Index.{roomOf, indexIn, kindsIn, kinded}
 use Rattle.index.proofs.Lent.{sized-in}
 use Rattle.save.specs.Save.{saveOut}
-use Rattle.disc_save.specs.Calls.{saveOneIn, saveBothIn}
+use Rattle.disc_save.specs.DiscSave.{saveOneIn, saveBothIn}
 use Rattle.theorems.specs.DiscInTables.{OneDiscFileIn, DiscSaveAcceptsIn, DiscLoadAcceptsIn}
 use Rattle.theorems.proofs.Closure.{load→}
 use Rattle.theorems.proofs.CutLaws.{limited-two, limited-four, limited-fits}

@@ -12,19 +12,18 @@ use Rattle.rules.specs.Values.{Index}
 use Rattle.rules.specs.File.{save, over}
 use Rattle.rules.proofs.Tests.{and-left, and-right}
 use Rattle.rules_disc.specs.Disc.{saveOne, saveBoth, loadDisc}
-use Rattle.blocks.specs.Head.{blockOf, indexWords}
-use Rattle.blocks.specs.IsHead.{isBlock, isIndex}
+use Rattle.blocks.specs.Blocks.{blockOf, indexWords, isBlock, isIndex}
 use Rattle.rules.specs.declared.Made.the-variants as made
 use Rattle.tables.specs.Index.{Tables, roomOf, indexIn, kindsIn, numbersFrom, out, outOf}
-use Rattle.index.specs.Calls.{madeOf}
+use Rattle.index.specs.Index.{madeOf}
 use Rattle.save.specs.Save.{saveOut, saveIn}
 use Rattle.rules_disc.specs.declared.Listed.{Listed}
-use Rattle.disc_load.specs.Calls.{listedFrom, tablesWith, loadDiscIn}
-use Rattle.disc_save.specs.Calls.{saveOneIn, saveBothIn}
+use Rattle.disc_load.specs.DiscLoad.{listedFrom, tablesWith, loadDiscIn}
+use Rattle.disc_save.specs.DiscSave.{saveOneIn, saveBothIn}
 use Rattle.player.specs.Block.{Called, called, into, headIndex, inBlock, savedNumber}
-use Rattle.player.specs.Calls.{calledOver, saveCall, loadCall}
+use Rattle.player.specs.Player.{calledOver, saveCall, loadCall}
 use Rattle.player_disc.specs.Block.{listedInto}
-use Rattle.player_disc.specs.Calls.{discSaveCall, discSaveBothCall}
+use Rattle.player_disc.specs.PlayerDisc.{discSaveCall, discSaveBothCall}
 use Rattle.theorems.specs.DiscFile.{ListFile, Loads}
 use Rattle.theorems.specs.DiscBodies.{ListFileIn, SavedBodiesIn, ListFileInC, SavedBodiesInC, LoadsAlone, BodiesLoadIn, BodiesLoadInC}
 use Rattle.theorems.proofs.MergeInTables.{kinded→}

@@ -26,8 +26,8 @@ use Rattle.theorems.proofs.RoundTripInTables.{wrote}
 use Rattle.rules_disc.specs.declared.Listed.{Listed}
 use Rattle.rules_disc.specs.declared.Listed.the-variants as listed
 use Rattle.rules_disc.specs.declared.Loaded.the-variants as loaded
-use Rattle.disc_load.specs.Calls.{DiscOut, discOut, listedFrom, tablesWith, discOutOf, loadDiscIn}
-use Rattle.disc_save.specs.Calls.{saveOneIn, saveBothIn}
+use Rattle.disc_load.specs.DiscLoad.{DiscOut, discOut, listedFrom, tablesWith, discOutOf, loadDiscIn}
+use Rattle.disc_save.specs.DiscSave.{saveOneIn, saveBothIn}
 use Rattle.theorems.specs.DiscFile.{disc, WholeDisc}
 use Rattle.theorems.specs.DiscInTables.{HoldsBoth, HoldsFirst, HoldsSecond, SavedDiscLoadsIn, LoadedDiscSavesIn}
 use Rattle.theorems.proofs.disc.Rebuilt.{as-saved, named}

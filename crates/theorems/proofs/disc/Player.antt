@@ -17,10 +17,9 @@ use Rattle.rules.specs.declared.Saved.{Saved}
 use Rattle.rules.specs.declared.Saved.the-variants as told
 use Rattle.save.specs.Save.{SaveOut, made, saveOut}
 use Rattle.player.specs.Block.{savedNumber}
-use Rattle.disc_save.specs.Calls.{saveOneIn, saveBothIn}
-use Rattle.disc_save.specs.Needs.{savedAs}
+use Rattle.disc_save.specs.DiscSave.{saveOneIn, saveBothIn, lengthOf, lengthAfter, oneLength, bothLength}
+use Rattle.disc_save.specs.Steps.{savedAs}
 use Rattle.disc_save.proofs.Answers.{one-refused, one-saved, both-refused, both-saved}
-use Rattle.disc_save.specs.Length.{lengthOf, lengthAfter, oneLength, bothLength}
 use Rattle.theorems.specs.DiscPlayer.{DiscTold, DiscSaveNumber, DiscLengthTold}
 use Rattle.theorems.proofs.disc.Tables.{disc-length}
 

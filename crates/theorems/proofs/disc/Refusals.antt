@@ -17,15 +17,15 @@ use Rattle.rules.specs.File.{saved, savedLength}
 use Rattle.rules.specs.Load.{load}
 use Rattle.rules.proofs.Tests.{test, both, →asked, →bind}
 use Rattle.laws.proofs.Length.{savedLength-is}
-use Rattle.blocks.specs.IsHead.{isIndex}
+use Rattle.blocks.specs.Blocks.{isIndex}
 use Rattle.rules_disc.specs.Disc.{slotOf, slotArea, contentsOk, contentsOf, listed, saveLists, saveOne, bySlot, saveBoth, loadBody, loadBodies, loadDisc}
 use Rattle.tables.specs.Index.{roomOf, indexIn, kindsIn}
 use Rattle.save.specs.Save.{saveOut}
-use Rattle.disc_load.specs.Calls.{discOutOf, loadDiscIn}
-use Rattle.disc_save.specs.Calls.{saveOneIn, saveBothIn}
+use Rattle.disc_load.specs.DiscLoad.{discOutOf, loadDiscIn}
+use Rattle.disc_save.specs.DiscSave.{saveOneIn, saveBothIn}
 use Rattle.player.specs.Block.{called, headIndex, savedNumber}
 use Rattle.player_disc.specs.Block.{loadedInto}
-use Rattle.player_disc.specs.Calls.{discSaveCall, discSaveBothCall}
+use Rattle.player_disc.specs.PlayerDisc.{discSaveCall, discSaveBothCall}
 use Rattle.theorems.specs.DiscRefusals.{DiscRefusals, DiscRefusalsIn, DiscRefusalsInC}
 use Rattle.theorems.proofs.TableRun.{kinds-pass}
 use Rattle.theorems.proofs.disc.Tables.{first→}

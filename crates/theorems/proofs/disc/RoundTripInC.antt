@@ -20,8 +20,7 @@ use Rattle.rules.proofs.Tests.{test, never, and-left, and-right}
 use Rattle.rules_disc.specs.declared.Entry.{Entry}
 use Rattle.rules_disc.specs.Disc.{entriesIn, entryOf, bodyOf, loadBody, loadDisc}
 use Rattle.laws.specs.Statements.{Savable, stripped}
-use Rattle.blocks.specs.Head.{blockOf, indexWords}
-use Rattle.blocks.specs.IsHead.{isBlock, isIndex}
+use Rattle.blocks.specs.Blocks.{blockOf, indexWords, isBlock, isIndex}
 use Rattle.blocks.proofs.RoundTrip.{index-back, index-is-head}
 use Rattle.tables.specs.Index.{Tables, roomOf, indexIn, numbersFrom}
 use Rattle.rules.specs.declared.Saved as declared
@@ -33,10 +32,10 @@ use Rattle.rules_disc.specs.declared.Listed.{Listed}
 use Rattle.rules_disc.specs.declared.Listed.the-variants as listed
 use Rattle.rules_disc.specs.declared.Loaded.{Loaded}
 use Rattle.rules_disc.specs.declared.Loaded.the-variants as loaded
-use Rattle.disc_load.specs.Calls.{DiscOut, discOut, listedFrom, tablesWith, loadDiscIn}
-use Rattle.disc_save.specs.Calls.{saveOneIn, saveBothIn}
+use Rattle.disc_load.specs.DiscLoad.{DiscOut, discOut, listedFrom, tablesWith, loadDiscIn}
+use Rattle.disc_save.specs.DiscSave.{saveOneIn, saveBothIn}
 use Rattle.player_disc.specs.Block.{calledLists, listedInto, loadedInto}
-use Rattle.player_disc.specs.Calls.{CalledDisc, calledDisc, discInto, discSaveCall, discSaveBothCall, discLoadCall}
+use Rattle.player_disc.specs.PlayerDisc.{CalledDisc, calledDisc, discInto, discSaveCall, discSaveBothCall, discLoadCall}
 use Rattle.theorems.specs.Demand1.{among, ofFiles}
 use Rattle.theorems.specs.Demand1InC.{long}
 use Rattle.theorems.specs.DiscPlayer.{DiscTold}

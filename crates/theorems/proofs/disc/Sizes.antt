@@ -17,7 +17,7 @@ use Rattle.rules.specs.declared.TableSizes.{TableSizes}
 use Rattle.sizes.specs.Sizes.{hasSizes, sizesFor, fileSizes}
 use Rattle.theorems.specs.Player.{loadWithout3}
 use Rattle.theorems.proofs.Sizes.{load-fits, load-refused}
-use Rattle.disc_load.specs.Sizes.{DiscSizes, bodySizes, bothSizes, discSizes}
+use Rattle.disc_load.specs.DiscLoad.{DiscSizes, bodySizes, bothSizes, discSizes}
 use Rattle.theorems.specs.DiscPlayer.{hasSlot, LoadsInTables, DiscSizesTold}
 
 -- ---- a list file

@@ -10,8 +10,7 @@ use Rattle.rules.proofs.Same.{eqb-self, sameCheckpoint-self, sameEnd-self}
 use Rattle.rules_lacks.specs.Lacks.{equalHint}
 use Rattle.rules_lacks.proofs.Laws.{equalHint-self}
 use Rattle.rules.specs.declared.Brings.{Brings}
-use Rattle.adds.specs.Same.{sameConfirmation}
-use Rattle.adds.specs.Brings.{sameFrame, sameHeld, bringsOf, brings}
+use Rattle.adds.specs.Adds.{sameConfirmation, sameFrame, sameHeld, bringsOf, brings}
 use Rattle.adds.proofs.Same.{sameKnown-self, sameFrame-self, sameHeld-self, sameFingerprint-self}
 use Rattle.adds.proofs.compare.Same.{sameList-self, sameConfirmation-self}
 use Rattle.theorems.specs.Adds.{noneButImage}

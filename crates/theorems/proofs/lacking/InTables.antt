@@ -16,15 +16,15 @@ use Rattle.rules.specs.Merge.{question41, merged}
 use Rattle.rules_jump.specs.Names.{namedHint}
 use Rattle.rules_jump.proofs.Values.{named-some, some-named}
 use Rattle.rules.proofs.Tests.{both, and-left, and-right, all→, after→, accepted→, →after}
-use Rattle.adds.specs.Brings.{bringsOf, brings}
+use Rattle.adds.specs.Adds.{bringsOf, brings}
 use Rattle.rules.proofs.Same.{sameArea-eq}
 use Rattle.tables.specs.Index.{Tables, roomOf, indexIn, kindsIn, kinded, refusal}
-use Rattle.index.specs.Needs.{Passes}
+use Rattle.index.specs.Steps.{Passes}
 use Rattle.index.proofs.Questions.{passes}
 use Rattle.index.proofs.Lent.{store-is}
-use Rattle.plan.specs.Calls.{planIn}
+use Rattle.plan.specs.Plan.{planIn}
 use Rattle.plan.proofs.Steps.{answer-is}
-use Rattle.hint.specs.Calls.{hintIn}
+use Rattle.hint.specs.Hint.{hintIn}
 use Rattle.rules_lacks.specs.Lacks.{lacks}
 use Rattle.theorems.proofs.MergeInTables.{kinded→, merge-left}
 use Rattle.theorems.specs.LacksInTables.{NothingLackingInTables, LacksHintInTables, LacksTransInTables, LacksAddsInTables, MergeLacksInTables, MergeMalformedInTables}

@@ -26,7 +26,7 @@ use Rattle.laws.proofs.scans.Parts.{keep, atAfter, part→, follows→, HeldIs,
 use Rattle.laws.proofs.scans.Scans.{ScanIs}
 use Rattle.tables.specs.Index.{storeOf}
 use Rattle.index.proofs.Store.{store-part}
-use Rattle.plan.specs.Needs.{storedOf}
+use Rattle.plan.specs.Steps.{storedOf}
 use Rattle.rules_lacks.specs.Lacks.{covers, samePart}
 use Rattle.rules_lacks.proofs.Laws.{covers→, samePart→}
 use Rattle.theorems.specs.Lacks.{SamePart}

@@ -19,12 +19,10 @@ use Rattle.rules_lacks.specs.declared.Lacks.{Lacks}
 use Rattle.rules_lacks.specs.Lacks.{anyOf, missing, lacking, holdsAll, lacks}
 use Rattle.tables.specs.Index.{Tables, roomOf, indexIn, kindsIn, orFour, kinded}
 use Rattle.lacks.specs.Lacks.{lacksIn}
-use Rattle.blocks.specs.From.{indexFrom}
-use Rattle.blocks.specs.Head.{wordsIn, blockOf}
-use Rattle.blocks.specs.IsHead.{isBlock, isIndex}
+use Rattle.blocks.specs.Blocks.{indexFrom, wordsIn, blockOf, isBlock, isIndex}
 use Rattle.blocks.specs.RoundTrip.{Fits32, Fits64}
 use Rattle.player.specs.Block.{Called, called, into, inBlock, inHead, headIndex}
-use Rattle.player.specs.LacksCalls.{lacksWords, lacksCall}
+use Rattle.player.specs.Player.{lacksWords, lacksCall}
 use Rattle.theorems.specs.LacksPlayer.{LacksTold, lacksNothing, NothingLackingInC}
 use Rattle.theorems.proofs.MergeInTables.{kinded→}
 use Rattle.theorems.proofs.lacking.InTables.{nothing-lacking-in-tables}

@@ -1,4 +1,4 @@
-use Rattle.absorb.specs.CommittedNeeds.{numbersBy}
+use Rattle.absorb.specs.Steps.{numbersBy}
 use borrow.Author.Needs.{needs}
 use Rattle.absorb.proofs.committed.numbers.Statement.{statement}
 use Rattle.absorb.proofs.committed.numbers.Tie as tie

@@ -1,4 +1,4 @@
-use Rattle.absorb.specs.QuestionsNeeds.{elevenIn}
+use Rattle.absorb.specs.Steps.{elevenIn}
 use Rattle.rules.specs.Record.{question11}
 use Rattle.rules.specs.Tests.{all}
 use mathlib.Core.Bool.{and-true}

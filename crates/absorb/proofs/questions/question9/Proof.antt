@@ -1,4 +1,4 @@
-use Rattle.absorb.specs.QuestionsNeeds.{nineIn}
+use Rattle.absorb.specs.Steps.{nineIn}
 use Rattle.rules.specs.Record.{question9}
 use Rattle.rules.specs.Tests.{all}
 use mathlib.Core.Bool.{and-true}

@@ -1,4 +1,4 @@
-use Rattle.absorb.specs.RefusalNeeds.{tenIn}
+use Rattle.absorb.specs.Steps.{tenIn}
 use borrow.Author.Needs.{needs}
 use Rattle.absorb.proofs.refusal.question10.Statement.{statement}
 use Rattle.absorb.proofs.refusal.question10.Tie as tie

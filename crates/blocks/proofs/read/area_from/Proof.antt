@@ -1,5 +1,5 @@
 use mathlib.Core.Path.{refl}
-use Rattle.blocks.specs.From.{areaFrom}
+use Rattle.blocks.specs.Blocks.{areaFrom}
 use borrow.Author.Needs.{needs}
 use Rattle.blocks.proofs.read.area_from.Statement.{statement}
 use Rattle.blocks.proofs.read.area_from.Tie as tie

@@ -1,5 +1,5 @@
 use borrow.Author.Tests.{eq-eqb, ne-eqb}
-use Rattle.blocks.specs.From.{endFrom}
+use Rattle.blocks.specs.Blocks.{endFrom}
 use borrow.Author.Needs.{needs}
 use Rattle.blocks.proofs.read.end_from.Statement.{statement}
 use Rattle.blocks.proofs.read.end_from.Tie as tie

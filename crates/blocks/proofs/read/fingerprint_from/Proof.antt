@@ -1,5 +1,5 @@
 use borrow.Author.Tests.{eq-eqb, ne-eqb}
-use Rattle.blocks.specs.From.{fingerprintFrom}
+use Rattle.blocks.specs.Blocks.{fingerprintFrom}
 use Rattle.blocks.proofs.read.fingerprint_from.Statement.{statement}
 use Rattle.blocks.proofs.read.fingerprint_from.Tie as tie
 

@@ -1,4 +1,4 @@
-use Rattle.blocks.specs.From.{hintRecorderFrom}
+use Rattle.blocks.specs.Blocks.{hintRecorderFrom}
 use borrow.Author.Needs.{needs}
 use Rattle.blocks.proofs.read.hint_recorder_from.Statement.{statement}
 use Rattle.blocks.proofs.read.hint_recorder_from.Tie as tie

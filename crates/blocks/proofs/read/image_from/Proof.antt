@@ -1,5 +1,5 @@
 use borrow.Author.Tests.{eq-eqb, ne-eqb}
-use Rattle.blocks.specs.From.{imageFrom}
+use Rattle.blocks.specs.Blocks.{imageFrom}
 use Rattle.blocks.proofs.read.image_from.Statement.{statement}
 use Rattle.blocks.proofs.read.image_from.Tie as tie
 

@@ -1,4 +1,4 @@
-use Rattle.blocks.specs.From.{indexFrom}
+use Rattle.blocks.specs.Blocks.{indexFrom}
 use borrow.Author.Needs.{needs}
 use Rattle.blocks.proofs.read.index_from.Statement.{statement}
 use Rattle.blocks.proofs.read.index_from.Tie as tie

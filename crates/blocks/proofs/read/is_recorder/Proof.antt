@@ -1,5 +1,5 @@
 use mathlib.Core.Path.{ap, _∙_}
-use Rattle.blocks.specs.Head.{recorderWords}
+use Rattle.blocks.specs.Blocks.{recorderWords}
 use Rattle.blocks.proofs.Words.{no-block, some-block}
 use borrow.Author.Needs.{needs}
 use Rattle.blocks.proofs.read.is_recorder.Statement.{statement}

@@ -1,5 +1,5 @@
 use borrow.Author.Tests.{eq-eqb, ne-eqb}
-use Rattle.blocks.specs.From.{lastFrom}
+use Rattle.blocks.specs.Blocks.{lastFrom}
 use borrow.Author.Needs.{needs}
 use Rattle.blocks.proofs.read.last_from.Statement.{statement}
 use Rattle.blocks.proofs.read.last_from.Tie as tie

@@ -1,5 +1,5 @@
 use borrow.Author.Tests.{eq-eqb, ne-eqb}
-use Rattle.blocks.specs.From.{modeFrom}
+use Rattle.blocks.specs.Blocks.{modeFrom}
 use borrow.Author.Needs.{needs}
 use Rattle.blocks.proofs.read.mode_from.Statement.{statement}
 use Rattle.blocks.proofs.read.mode_from.Tie as tie

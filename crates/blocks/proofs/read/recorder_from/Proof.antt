@@ -1,4 +1,4 @@
-use Rattle.blocks.specs.From.{recorderFrom}
+use Rattle.blocks.specs.Blocks.{recorderFrom}
 use borrow.Author.Needs.{needs}
 use Rattle.blocks.proofs.read.recorder_from.Statement.{statement}
 use Rattle.blocks.proofs.read.recorder_from.Tie as tie

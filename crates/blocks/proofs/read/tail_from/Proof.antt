@@ -1,5 +1,5 @@
 use borrow.Author.Tests.{eq-eqb, ne-eqb}
-use Rattle.blocks.specs.From.{tailFrom}
+use Rattle.blocks.specs.Blocks.{tailFrom}
 use borrow.Author.Needs.{needs}
 use Rattle.blocks.proofs.read.tail_from.Statement.{statement}
 use Rattle.blocks.proofs.read.tail_from.Tie as tie

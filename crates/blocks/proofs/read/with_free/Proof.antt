@@ -1,5 +1,5 @@
 use mathlib.Core.Path.{refl}
-use Rattle.blocks.specs.IsHead.{withFree}
+use Rattle.blocks.specs.Blocks.{withFree}
 use borrow.Author.Needs.{needs}
 use Rattle.blocks.proofs.read.with_free.Statement.{statement}
 use Rattle.blocks.proofs.read.with_free.Tie as tie

@@ -1,4 +1,4 @@
-use Rattle.disc_load.specs.Ask.{decidedBy}
+use Rattle.disc_load.specs.Steps.{decidedBy}
 use borrow.Author.Needs.{needs}
 use Rattle.disc_load.proofs.ask.decide_by.Statement.{statement}
 use Rattle.disc_load.proofs.ask.decide_by.Tie as tie

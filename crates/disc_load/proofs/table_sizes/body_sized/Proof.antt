@@ -1,6 +1,7 @@
 use Rattle.rules.specs.Tests.{bind}
 use Rattle.sizes.specs.Sizes.{sizedOf}
-use Rattle.disc_load.specs.Sizes.{slotSizesOf, bodySizedOf}
+use Rattle.disc_load.specs.DiscLoad.{slotSizesOf}
+use Rattle.disc_load.specs.Steps.{bodySizedOf}
 use borrow.Author.Needs.{needs}
 use Rattle.disc_load.proofs.table_sizes.body_sized.Statement.{statement}
 use Rattle.disc_load.proofs.table_sizes.body_sized.Tie as tie

@@ -1,5 +1,6 @@
 use Rattle.rules.specs.Tests.{bind}
-use Rattle.disc_load.specs.Sizes.{bodySizedOf, bothSizes, discSizedOf}
+use Rattle.disc_load.specs.Steps.{bodySizedOf}
+use Rattle.disc_load.specs.DiscLoad.{bothSizes, discSizedOf}
 use borrow.Author.Needs.{needs}
 use Rattle.disc_load.proofs.table_sizes.both_sized.Statement.{statement}
 use Rattle.disc_load.proofs.table_sizes.both_sized.Tie as tie

@@ -1,5 +1,5 @@
 use borrow.Author.Tests.{lt-ltb, le-ltb}
-use Rattle.disc_save.specs.LengthNeeds.{lengthBySlot}
+use Rattle.disc_save.specs.Steps.{lengthBySlot}
 use borrow.Author.Needs.{needs}
 use Rattle.disc_save.proofs.length.length_by_slot.Statement.{statement}
 use Rattle.disc_save.proofs.length.length_by_slot.Tie as tie

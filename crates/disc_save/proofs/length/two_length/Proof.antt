@@ -1,7 +1,7 @@
 use native.Mathlib.Omega.{arith}
 use borrow.Author.Tests.{not-true, not-false}
 use mathlib.Core.Path.{sym, _∙_}
-use Rattle.disc_save.specs.LengthNeeds.{lengthOfTwo}
+use Rattle.disc_save.specs.Steps.{lengthOfTwo}
 use Rattle.disc_save.proofs.length.Lengths.{two-fits}
 use borrow.Author.Needs.{needs}
 use Rattle.disc_save.proofs.length.two_length.Statement.{statement}

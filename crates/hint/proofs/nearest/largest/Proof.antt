@@ -3,7 +3,7 @@ use mathlib.Core.Path.{_≡_}
 use native.Mathlib.Omega.{arith}
 use Rattle.plan.specs.Search.{lastIn}
 use Rattle.tables.specs.Tables.{confirmationsIn, keptIn}
-use Rattle.hint.specs.Place.{largestIn}
+use Rattle.hint.specs.Steps.{largestIn}
 use Rattle.hint.proofs.nearest.Place.{largest-none, largest-next, largest-end}
 use borrow.Author.Needs.{needs}
 use Rattle.hint.proofs.nearest.largest.Statement.{statement}

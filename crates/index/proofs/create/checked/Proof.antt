@@ -1,4 +1,4 @@
-use Rattle.index.specs.CreateNeeds.{checkedOf}
+use Rattle.index.specs.Steps.{checkedOf}
 use mathlib.Core.Path.{refl}
 use Rattle.index.proofs.create.checked.Statement.{statement}
 use Rattle.index.proofs.create.checked.Tie as tie

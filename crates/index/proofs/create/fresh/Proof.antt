@@ -1,5 +1,5 @@
 use Rattle.tables.specs.Index.{endFrom, idFrom}
-use Rattle.index.specs.CreateNeeds.{freshOf}
+use Rattle.index.specs.Steps.{freshOf}
 use borrow.Author.Needs.{needs}
 use Rattle.index.proofs.create.fresh.Statement.{statement}
 use Rattle.index.proofs.create.fresh.Tie as tie

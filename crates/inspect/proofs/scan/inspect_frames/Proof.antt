@@ -4,7 +4,7 @@ use Prim.Native.Nat.{_≤_, _-_}
 use Rattle.rules.specs.Load.{readFrame, readFrames}
 use Rattle.tables.specs.Tables.{filledTo}
 use Rattle.tables.specs.Files.{frameNext}
-use Rattle.inspect.specs.Taken.{takenOf}
+use Rattle.inspect.specs.Steps.{takenOf}
 use Rattle.inspect.proofs.scan.Loop.{Reading, reading-start, reading-on, reading-stop, reading-end}
 use Rattle.inspect.proofs.scan.Frames.{FrameRead, frame-read, frame-refused}
 use borrow.Author.Needs.{needs}

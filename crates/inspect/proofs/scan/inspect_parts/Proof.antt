@@ -5,8 +5,7 @@ use lib.ListN.{drop}
 use Rattle.rules.specs.Load.{readPart, readParts}
 use Rattle.tables.specs.Tables.{checkpointsIn, before, partNext}
 use Rattle.tables.specs.Files.{framesRead}
-use Rattle.inspect.specs.Taken.{takenOf}
-use Rattle.inspect.specs.Needs.{LastAt}
+use Rattle.inspect.specs.Steps.{takenOf, LastAt}
 use Rattle.tables.proofs.Frames.{before-next}
 use Rattle.inspect.proofs.scan.Loop.{Reading, reading-start, reading-on, reading-stop, reading-end}
 use Rattle.inspect.proofs.scan.Parts.{PartRead, part-read, part-refused, last-none, last-next}

@@ -1,6 +1,6 @@
 use mathlib.Core.Path.{_≡_}
 use Rattle.tables.specs.Files.{placeAt}
-use Rattle.inspect.specs.Needs.{partRule}
+use Rattle.inspect.specs.Steps.{partRule}
 use Rattle.inspect.proofs.scan.Parts.{Near, near, part-far, place-room, place-moved, header-room, part-here, placed-no, placed-yes}
 use borrow.Author.Needs.{needs}
 use Rattle.inspect.proofs.scan.place_part.Statement.{statement}

@@ -1,4 +1,4 @@
-use Rattle.merge.specs.Further.{furtherIn}
+use Rattle.merge.specs.Merge.{furtherIn}
 use borrow.Author.Needs.{needs}
 use Rattle.merge.proofs.goes_further.further.Statement.{statement}
 use Rattle.merge.proofs.goes_further.further.Tie as tie

@@ -1,4 +1,4 @@
-use Rattle.merge.specs.QuestionsNeeds.{areaAgrees}
+use Rattle.merge.specs.Steps.{areaAgrees}
 use Rattle.rules.specs.Merge.{question41}
 use Rattle.rules.specs.Tests.{all}
 use mathlib.Core.Bool.{and-true}

@@ -1,4 +1,4 @@
-use Rattle.merge.specs.QuestionsNeeds.{imageAgrees}
+use Rattle.merge.specs.Steps.{imageAgrees}
 use Rattle.rules.specs.Merge.{question42}
 use Rattle.rules.specs.Tests.{all}
 use mathlib.Core.Bool.{and-true}

@@ -1,4 +1,4 @@
-use Rattle.merge.specs.QuestionsNeeds.{readingAgrees}
+use Rattle.merge.specs.Steps.{readingAgrees}
 use Rattle.rules.specs.Merge.{question43}
 use Rattle.rules.specs.Tests.{all}
 use mathlib.Core.Bool.{and-true}

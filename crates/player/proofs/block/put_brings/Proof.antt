@@ -1,4 +1,4 @@
-use Rattle.adds.specs.Brings.{addsOf}
+use Rattle.adds.specs.Adds.{addsOf}
 use Rattle.player.specs.Block.{into}
 use borrow.Author.Needs.{needs}
 use Rattle.player.proofs.block.put_brings.Statement.{statement}

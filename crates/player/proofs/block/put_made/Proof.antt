@@ -1,4 +1,4 @@
-use Rattle.index.specs.Calls.{madeOf}
+use Rattle.index.specs.Index.{madeOf}
 use Rattle.player.specs.Block.{into}
 use borrow.Author.Needs.{needs}
 use Rattle.player.proofs.block.put_made.Statement.{statement}

@@ -1,4 +1,4 @@
-use Rattle.plan.specs.Calls.{plannedOf}
+use Rattle.plan.specs.Plan.{plannedOf}
 use Rattle.player.specs.Block.{into}
 use borrow.Author.Needs.{needs}
 use Rattle.player.proofs.block.put_plan.Statement.{statement}

@@ -1,6 +1,6 @@
 use mathlib.Core.Path.{refl}
 use Rattle.tables.specs.Index.{Tables, tables}
-use Rattle.player.specs.DrawerCalls.{mergeAllCall, mergeAllCallAs}
+use Rattle.player.specs.Player.{mergeAllCall, mergeAllCallAs}
 use Rattle.player.proofs.block.Blocks.{no-workshop, is-workshop, no-head, known, known-long}
 use Rattle.player.proofs.drawer_calls.Answers.{merge-all-done}
 use borrow.Author.Needs.{needs}

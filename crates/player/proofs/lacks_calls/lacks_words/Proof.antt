@@ -1,4 +1,4 @@
-use Rattle.player.specs.LacksCalls.{lacksWords}
+use Rattle.player.specs.Player.{lacksWords}
 use borrow.Author.Needs.{needs}
 use Rattle.player.proofs.lacks_calls.lacks_words.Statement.{statement}
 use Rattle.player.proofs.lacks_calls.lacks_words.Tie as tie

@@ -1,4 +1,4 @@
-use Rattle.player.specs.LacksCalls.{lacksCall}
+use Rattle.player.specs.Player.{lacksCall}
 use Rattle.player.proofs.block.Blocks.{too-short, no-head, is-head, known, known-long}
 use Rattle.player.proofs.lacks_calls.Answers.{lacks-done}
 use borrow.Author.Needs.{needs}

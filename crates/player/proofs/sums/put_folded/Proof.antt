@@ -1,5 +1,5 @@
 use Rattle.player.specs.Block.{into}
-use Rattle.player.specs.Sums.{foldedOf}
+use Rattle.player.specs.Player.{foldedOf}
 use borrow.Author.Needs.{needs}
 use Rattle.player.proofs.sums.put_folded.Statement.{statement}
 use Rattle.player.proofs.sums.put_folded.Tie as tie

@@ -1,4 +1,4 @@
-use Rattle.player.specs.ViewCalls.{viewedNumber}
+use Rattle.player.specs.Player.{viewedNumber}
 use borrow.Author.Needs.{needs}
 use Rattle.player.proofs.view_calls.viewed_number.Statement.{statement}
 use Rattle.player.proofs.view_calls.viewed_number.Tie as tie

@@ -1,5 +1,5 @@
 use Rattle.player.specs.Block.{into}
-use Rattle.disc_load.specs.Sizes.{discSizedOf}
+use Rattle.disc_load.specs.DiscLoad.{discSizedOf}
 use Rattle.player_disc.specs.Block.{discSizeWords}
 use borrow.Author.Needs.{needs}
 use Rattle.player_disc.proofs.block.put_disc_sizes.Statement.{statement}

@@ -1,4 +1,4 @@
-use Rattle.disc_load.specs.Sizes.{slotSizesOf}
+use Rattle.disc_load.specs.DiscLoad.{slotSizesOf}
 use Rattle.player_disc.specs.Block.{sizesOr0}
 use borrow.Author.Needs.{needs}
 use Rattle.player_disc.proofs.block.sizes_or_0.Statement.{statement}

@@ -1,5 +1,5 @@
 use borrow.Author.Tests.{eq-eqb, ne-eqb}
-use Rattle.blocks.specs.From.{imageFrom}
+use Rattle.blocks.specs.Blocks.{imageFrom}
 use Rattle.player_record.proofs.block.image_given.Statement.{statement}
 use Rattle.player_record.proofs.block.image_given.Tie as tie
 

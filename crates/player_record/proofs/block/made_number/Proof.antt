@@ -1,5 +1,5 @@
 use Rattle.rules.specs.Tests.{numberOf}
-use Rattle.index.specs.Calls.{madeOf}
+use Rattle.index.specs.Index.{madeOf}
 use borrow.Author.Needs.{needs}
 use Rattle.player_record.proofs.block.made_number.Statement.{statement}
 use Rattle.player_record.proofs.block.made_number.Tie as tie

@@ -1,4 +1,4 @@
-use Rattle.hint.specs.Calls.{answerOf}
+use Rattle.hint.specs.Hint.{answerOf}
 use Rattle.player.specs.Block.{into}
 use Rattle.player_record.specs.Block.{hintWords}
 use borrow.Author.Needs.{needs}

@@ -1,4 +1,4 @@
-use Rattle.player_record.specs.HintCallsCalls.{hintCall}
+use Rattle.player_record.specs.PlayerRecord.{hintCall}
 use Rattle.player.proofs.block.Blocks.{too-short, no-head, is-head, known, known-long}
 use Rattle.player_record.proofs.hint_calls.Answers.{hint-done}
 use borrow.Author.Needs.{needs}

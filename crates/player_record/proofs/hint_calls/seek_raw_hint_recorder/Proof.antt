@@ -1,4 +1,4 @@
-use Rattle.player_record.specs.HintCallsCalls.{hintRecorderCall}
+use Rattle.player_record.specs.PlayerRecord.{hintRecorderCall}
 use Rattle.player.proofs.block.Blocks.{too-short, no-head, is-head, known, known-long}
 use Rattle.player_record.proofs.hint_calls.Answers.{created-done}
 use borrow.Author.Needs.{needs}

@@ -1,5 +1,5 @@
 use mathlib.Core.Path.{refl}
-use Rattle.player_record.specs.HintCallsCalls.{keepCall}
+use Rattle.player_record.specs.PlayerRecord.{keepCall}
 use Rattle.player.proofs.block.Blocks.{too-short, no-head, is-head, known, known-long}
 use Rattle.player_record.proofs.hint_calls.Answers.{keep-done}
 use borrow.Author.Needs.{needs}

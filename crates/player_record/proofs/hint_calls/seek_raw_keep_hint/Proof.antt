@@ -1,4 +1,4 @@
-use Rattle.player_record.specs.HintCallsCalls.{keepHintCall}
+use Rattle.player_record.specs.PlayerRecord.{keepHintCall}
 use Rattle.player.proofs.block.Blocks.{no-head, known, known-long}
 use Rattle.player_record.proofs.hint_calls.Answers.{keep-hint-done}
 use borrow.Author.Needs.{needs}

@@ -1,5 +1,5 @@
 use mathlib.Core.Path.{refl}
-use Rattle.player_record.specs.HintCallsCalls.{seeCall}
+use Rattle.player_record.specs.PlayerRecord.{seeCall}
 use Rattle.player.proofs.block.Blocks.{no-head, known, known-long}
 use Rattle.player_record.proofs.hint_calls.Answers.{see-done}
 use borrow.Author.Needs.{needs}

@@ -1,4 +1,4 @@
-use Rattle.recorder.specs.RecordNeeds.{advancedOf}
+use Rattle.recorder.specs.Steps.{advancedOf}
 use borrow.Author.Needs.{needs}
 use Rattle.recorder.proofs.record.advanced.Statement.{statement}
 use Rattle.recorder.proofs.record.advanced.Tie as tie

@@ -1,6 +1,6 @@
 use Rattle.sections.proofs.Questions.{lsn-fits}
 use Rattle.tables.proofs.Tests.{product-fits}
-use Rattle.recorder.specs.RecordNeeds.{dueIn}
+use Rattle.recorder.specs.Steps.{dueIn}
 use borrow.Author.Needs.{needs}
 use Rattle.recorder.proofs.record.due.Statement.{statement}
 use Rattle.recorder.proofs.record.due.Tie as tie

@@ -1,5 +1,5 @@
 use Rattle.tables.proofs.Tests.{product-fits}
-use Rattle.recorder.specs.RecordNeeds.{risesIn}
+use Rattle.recorder.specs.Steps.{risesIn}
 use borrow.Author.Needs.{needs}
 use Rattle.recorder.proofs.record.rises.Statement.{statement}
 use Rattle.recorder.proofs.record.rises.Tie as tie

@@ -1,4 +1,4 @@
-use Rattle.recorder.specs.RecordNeeds.{startsIn}
+use Rattle.recorder.specs.Steps.{startsIn}
 use borrow.Author.Needs.{needs}
 use Rattle.recorder.proofs.record.starts.Statement.{statement}
 use Rattle.recorder.proofs.record.starts.Tie as tie

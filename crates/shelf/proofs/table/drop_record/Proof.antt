@@ -37,7 +37,7 @@ use denote.Triple.Walked.{says, needs, Stays, gave-slice, stay-none, walkOf, All
 use denote.Triple.Walked.{ends-at, walked, walk-meets}
 use denote.Exit.{yes}
 use Rattle.rules_shelf.specs.Shelf.{dropAt}
-use Rattle.shelf.specs.Kept.{Sound, Stands, listOf}
+use Rattle.shelf.specs.Steps.{Sound, Stands, listOf}
 use Rattle.shelf.proofs.Calls.{drop-needs, drop-fits, drop-out}
 use Rattle.rules_shelf.specs.declared.ShelfRecord.{ShelfRecord}
 use Rattle.shelf.proofs.Rows.{R, B, makesB}

@@ -38,7 +38,7 @@ use denote.Triple.Walked.{says, needs, Stays, stay-slice, stay-none, walkOf, All
 use denote.Triple.Walked.{ends-at, walked, walk-meets}
 use denote.Exit.{yes}
 use Rattle.rules_shelf.specs.Shelf.{areaOf, placeOf}
-use Rattle.shelf.specs.Kept.{Sound, listOf}
+use Rattle.shelf.specs.Steps.{Sound, listOf}
 use Rattle.shelf.proofs.Rows.{R, makesR, makesB}
 use Rattle.shelf.proofs.Values.{gives, calls-value}
 use Rattle.shelf.proofs.Lending.{Take, takes}

@@ -1,4 +1,4 @@
-use Rattle.sizes.specs.LengthsSizes.{rangeOf}
+use Rattle.sizes.specs.Sizes.{rangeOf}
 use borrow.Author.Needs.{needs}
 use Rattle.sizes.proofs.lengths.area_of.Statement.{statement}
 use Rattle.sizes.proofs.lengths.area_of.Tie as tie

@@ -1,4 +1,4 @@
-use Rattle.sizes.specs.LengthsSizes.{limitedSizes}
+use Rattle.sizes.specs.Steps.{limitedSizes}
 use borrow.Author.Needs.{needs}
 use Rattle.sizes.proofs.lengths.limited_sizes.Statement.{statement}
 use Rattle.sizes.proofs.lengths.limited_sizes.Tie as tie

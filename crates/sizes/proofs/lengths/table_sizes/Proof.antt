@@ -1,5 +1,5 @@
 use native.Mathlib.Omega.{arith}
-use Rattle.sizes.specs.LengthsSizes.{sizesOf}
+use Rattle.sizes.specs.Sizes.{sizesOf}
 use Rattle.sizes.proofs.lengths.Boundaries.{boundaries-small}
 use borrow.Author.Needs.{needs}
 use Rattle.sizes.proofs.lengths.table_sizes.Statement.{statement}
