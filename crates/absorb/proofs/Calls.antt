@@ -31,7 +31,7 @@ use Rattle.tables.specs.Tables.{givenIn}
 use Rattle.absorb.specs.Steps.{absorbRefusal, Absorbs, Written, written, Kept, absorbedIn, drainedOf}
 use Rattle.absorb.proofs.refusal.Refusal.{passed}
 use Rattle.absorb.proofs.committed.Facts.{kept}
-use Rattle.absorb.specs.Absorb.{out, absorbed, kindedBoth, outOf, absorbIn}
+use Rattle.absorb.specs.Absorb.{absorbedOut, absorbed, kindedBoth, absorbedOutOf, absorbIn}
 
 -- ---- the number with the kind bytes
 four-some : (n : ℕ) → (1 ≤ orFour n) × (orFour n ≤ 4)
@@ -80,27 +80,27 @@ stopped-by r n e = test (eqb n 8) (λ h. rw (e, h)) (λ h. rw (e, h))
 
 -- ---- the call
 module _ (x : AreaIndex) (t : Tables) (image : ImageId) (given : List ℕ) (r : Recorder) (u : RecorderTables) {n : ℕ} (e : n ≡ absorbRefusal x t image given r u) where
-  by-number : absorbIn x t image given r u ≡ outOf t (absorbedBy n (indexIn x t) (recorderIn r u) (idIn image) (givenIn given))
+  by-number : absorbIn x t image given r u ≡ absorbedOutOf t (absorbedBy n (indexIn x t) (recorderIn r u) (idIn image) (givenIn given))
   unfolding absorbIn absorb absorbRefusal
   by-number =
       rw (kinded-by (indexIn x t) (recorderIn r u) (idIn image) (givenIn given) (kindsIn x t && recorderKinds r u) (absorbNumber (roomOf t) (indexIn x t) (recorderRoom u) (recorderIn r u) (idIn image) (givenIn given)), ← e)
 
-  absorb-refused : {q : Recorder} → (n ≡ 0 → ⊥) → q ≡ cond (eqb n 8) (modeOf r Stopped) r → out (absorbed n x q) t ≡ absorbIn x t image given r u
-  unfolding outOf
+  absorb-refused : {q : Recorder} → (n ≡ 0 → ⊥) → q ≡ cond (eqb n 8) (modeOf r Stopped) r → absorbedOut (absorbed n x q) t ≡ absorbIn x t image given r u
+  unfolding absorbedOutOf
   absorb-refused h p = rw p (sym (by-number ∙ rw (ne-eqb n 0 h, ne-eqb n 0 h, numbers-back x t, refused-is r u n)))
 
   module _ (z : n ≡ 0) where
     both-pass : absorbRefusal x t image given r u ≡ 0
     both-pass = sym e ∙ z
 
-    absorb-stopped : TableBytes t → isStopped (r .mode) ≡ true → out (absorbed 0 x r) t ≡ absorbIn x t image given r u
-    unfolding outOf
+    absorb-stopped : TableBytes t → isStopped (r .mode) ≡ true → absorbedOut (absorbed 0 x r) t ≡ absorbIn x t image given r u
+    unfolding absorbedOutOf
     absorb-stopped b s =
         sym (by-number ∙ rw (eq-eqb n 0 z, s, numbers-back x t, recorder-back r u, put-back (passes x t (passed x t image given r u both-pass .0)) b))
 
   module _ {q : Bool} (p : q ≡ (eqb n 0 && not (isStopped (r .mode)))) where
     -- where nothing is taken
-    pub absorb-left : {s : Recorder} → not q ≡ true → TableBytes t → s ≡ cond (eqb n 8) (modeOf r Stopped) r → out (absorbed n x s) t ≡ absorbIn x t image given r u
+    pub absorb-left : {s : Recorder} → not q ≡ true → TableBytes t → s ≡ cond (eqb n 8) (modeOf r Stopped) r → absorbedOut (absorbed n x s) t ≡ absorbIn x t image given r u
     absorb-left {s} h b d =
         let no : (eqb n 0 && not (isStopped (r .mode))) ≡ false = sym p ∙ not-true q h in
         test (eqb n 0)
@@ -130,8 +130,8 @@ module _ (x : AreaIndex) (t : Tables) (image : ImageId) (given : List ℕ) (r : 
       pub absorb-done : {s : Recorder} {y : AreaIndex} {cs fs st ps ms : List ℕ} → TableBytes t → s ≡ drainedOf r
           → ((hints confirmed : List ℕ) → Kept x hints confirmed
           → written y (tables cs fs st ps ms hints confirmed) ≡ absorbedIn x (tables (t .checkpoints) (t .frames) (t .store) (t .parts) (t .malformed) hints confirmed) r u image given)
-          → out (absorbed 0 y s) (tables cs fs st ps ms (t .hints) (t .confirmed)) ≡ absorbIn x t image given r u
-      unfolding outOf absorbedIn
+          → absorbedOut (absorbed 0 y s) (tables cs fs st ps ms (t .hints) (t .confirmed)) ≡ absorbIn x t image given r u
+      unfolding absorbedOutOf absorbedIn
       absorb-done {s = s} b d w =
           let v = w (t .hints) (t .confirmed) (kept absorbs (b .hints) (b .confirmed)) in
-          ap (λ (i : Written). out (absorbed 0 (i .index) s) (i .tables)) v ∙ rw d (sym (by-number ∙ rw (eq-eqb n 0 accepted, brings, drained-is r u)))
+          ap (λ (i : Written). absorbedOut (absorbed 0 (i .index) s) (i .tables)) v ∙ rw d (sym (by-number ∙ rw (eq-eqb n 0 accepted, brings, drained-is r u)))

@@ -16,12 +16,12 @@ use Rattle.tables.specs.Tables.{givenIn}
 use Rattle.rules.specs.declared.Absorbed.{Absorbed}
 
 -- the answer, and the index's tables; the recorder's are only read
-pub record Out : Type 0 where
+pub record AbsorbedOut : Type 0 where
   pub answer : Absorbed
   pub tables : Tables
 
-abbrev pub out : Absorbed → Tables → Out
-out a t = record { answer = a; tables = t }
+abbrev pub absorbedOut : Absorbed → Tables → AbsorbedOut
+absorbedOut a t = record { answer = a; tables = t }
 
 abbrev pub absorbed : ℕ → AreaIndex → Recorder → Absorbed
 absorbed n x r = record { number = n; index = x; recorder = r }
@@ -31,12 +31,12 @@ unfoldable pub kindedBoth : Bool → Index → values.Recorder → rules.Absorbe
 kindedBoth ok x r a = cond ok a (record { number = orFour (a .number); index = x; recorder = r })
 
 -- a refusal changes no table; an accepted index is put into them
-unfoldable pub outOf : Tables → rules.Absorbed → Out
-outOf t a = out (absorbed (a .number) (numbersFrom (a .index)) (recorderFrom (a .recorder))) (cond (eqb (a .number) 0) (tablesFrom (a .index) t) t)
+unfoldable pub absorbedOutOf : Tables → rules.Absorbed → AbsorbedOut
+absorbedOutOf t a = absorbedOut (absorbed (a .number) (numbersFrom (a .index)) (recorderFrom (a .recorder))) (cond (eqb (a .number) 0) (tablesFrom (a .index) t) t)
 
 -- given is the bytes of the malformed LSNs of the reading
-unfoldable pub absorbIn : AreaIndex → Tables → ImageId → List ℕ → Recorder → RecorderTables → Out
+unfoldable pub absorbIn : AreaIndex → Tables → ImageId → List ℕ → Recorder → RecorderTables → AbsorbedOut
 absorbIn x t image given r u =
-    outOf t
+    absorbedOutOf t
     (kindedBoth (kindsIn x t && recorderKinds r u) (indexIn x t) (recorderIn r u)
     (absorb (roomOf t) (indexIn x t) (recorderRoom u) (recorderIn r u) (idIn image) (givenIn given)))

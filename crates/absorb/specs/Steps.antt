@@ -112,12 +112,12 @@ abbrev pub written : AreaIndex → Tables → Written
 written x t = record { index = x; tables = t }
 
 -- the absorbed index, by the rules
-abbrev pub absorbed : AreaIndex → Tables → Recorder → RecorderTables → ImageId → List ℕ → Index
-absorbed x t r u image ms = absorbedIndex (indexIn x t) (recorderIn r u) (idIn image) (givenIn ms)
+abbrev pub absorbedList : AreaIndex → Tables → Recorder → RecorderTables → ImageId → List ℕ → Index
+absorbedList x t r u image ms = absorbedIndex (indexIn x t) (recorderIn r u) (idIn image) (givenIn ms)
 
 -- and put into the tables
 unfoldable pub absorbedIn : AreaIndex → Tables → Recorder → RecorderTables → ImageId → List ℕ → Written
-absorbedIn x t r u image ms = written (numbersFrom (absorbed x t r u image ms)) (tablesFrom (absorbed x t r u image ms) t)
+absorbedIn x t r u image ms = written (numbersFrom (absorbedList x t r u image ms)) (tablesFrom (absorbedList x t r u image ms) t)
 
 -- hints and confirmations, read and put back, stay
 pub record Kept (x : AreaIndex) (s c : List ℕ) : Type 0 where
@@ -125,7 +125,7 @@ pub record Kept (x : AreaIndex) (s c : List ℕ) : Type 0 where
   pub confirmed : over (bytesOf encodeConfirmation (confirmationsIn (x .confirmed) c)) c ≡ c
 
 -- 1 to 4 of both, the index's with some tables of hints and confirmations, 9, and of 10 and 12 what is used
-pub record Ready (x : AreaIndex) (cs fs st ps ls : List ℕ) (r : Recorder) (u : RecorderTables) (ms : List ℕ) : Type 0 where
+pub record AbsorbReady (x : AreaIndex) (cs fs st ps ls : List ℕ) (r : Recorder) (u : RecorderTables) (ms : List ℕ) : Type 0 where
   pub hints : List ℕ
   pub confirmed : List ℕ
   pub own : Passes x (tables cs fs st ps ls hints confirmed)

@@ -24,7 +24,7 @@ ghost use Rattle.rules.specs.Record.{below};
 ghost use Rattle.tables.specs.Index.{tables, endIn};
 ghost use Rattle.tables.specs.Recorder.{recorderTables};
 ghost use Rattle.tables.specs.Tables.{givenIn};
-ghost use Rattle.absorb.specs.Steps.{written, Kept, absorbedIn, Ready, TakesBelow, TakenBelow, numbersBy};
+ghost use Rattle.absorb.specs.Steps.{written, Kept, absorbedIn, AbsorbReady, TakesBelow, TakenBelow, numbersBy};
 
 // ---- malformed LSNs
 // How many of the given LSNs are taken: those below front, at most 4,096.
@@ -91,7 +91,7 @@ pub fn commit(
     new_store: &[u8],
     new_parts: &[u8],
 ) -> AreaIndex
-    requires { ⌜ Ready x (now checkpoints) (now frames) (now store) (now parts) (now malformed) r (recorderTables (now «new_checkpoints») (now «new_frames») (now «new_store») (now «new_parts»)) (now given) ⌝ }
+    requires { ⌜ AbsorbReady x (now checkpoints) (now frames) (now store) (now parts) (now malformed) r (recorderTables (now «new_checkpoints») (now «new_frames») (now «new_store») (now «new_parts»)) (now given) ⌝ }
     ensures { λ y. ⌜ ((hints confirmed : List ℕ) → Kept x hints confirmed → written y (tables (now (checkpoints .exit)) (now (frames .exit)) (now (store .exit)) (now (parts .exit)) (now (malformed .exit)) hints confirmed) ≡ absorbedIn x (tables (now (checkpoints .entry)) (now (frames .entry)) (now (store .entry)) (now (parts .entry)) (now (malformed .entry)) hints confirmed) r (recorderTables (now («new_checkpoints» .entry)) (now («new_frames» .entry)) (now («new_store» .entry)) (now («new_parts» .entry))) image (now (given .entry))) ⌝ }
 {
     let mode = r.mode;

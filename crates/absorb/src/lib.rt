@@ -26,7 +26,7 @@ ghost use Rattle.rules.specs.Record.{isStopped};
 ghost use Rattle.tables.specs.Index.{tables};
 ghost use Rattle.tables.specs.Recorder.{recorderTables};
 ghost use Rattle.recorder.specs.Recorder.{modeOf};
-ghost use Rattle.absorb.specs.Absorb.{out, absorbed, absorbIn};
+ghost use Rattle.absorb.specs.Absorb.{absorbedOut, absorbed, absorbIn};
 ghost use Rattle.absorb.specs.Steps.{drainedOf};
 
 // ---- the recorder afterwards
@@ -96,7 +96,7 @@ pub fn absorb(
     new_store: &[u8],
     new_parts: &[u8],
 ) -> Absorbed
-    ensures { λ a. ⌜ out a (tables (now (checkpoints .exit)) (now (frames .exit)) (now (store .exit)) (now (parts .exit)) (now (malformed .exit)) (now (hints .entry)) (now (confirmed .entry))) ≡ absorbIn x (tables (now (checkpoints .entry)) (now (frames .entry)) (now (store .entry)) (now (parts .entry)) (now (malformed .entry)) (now (hints .entry)) (now (confirmed .entry))) image (now (given .entry)) r (recorderTables (now («new_checkpoints» .entry)) (now («new_frames» .entry)) (now («new_store» .entry)) (now («new_parts» .entry))) ⌝ }
+    ensures { λ a. ⌜ absorbedOut a (tables (now (checkpoints .exit)) (now (frames .exit)) (now (store .exit)) (now (parts .exit)) (now (malformed .exit)) (now (hints .entry)) (now (confirmed .entry))) ≡ absorbIn x (tables (now (checkpoints .entry)) (now (frames .entry)) (now (store .entry)) (now (parts .entry)) (now (malformed .entry)) (now (hints .entry)) (now (confirmed .entry))) image (now (given .entry)) r (recorderTables (now («new_checkpoints» .entry)) (now («new_frames» .entry)) (now («new_store» .entry)) (now («new_parts» .entry))) ⌝ }
 {
     let number = absorb_refuses(
         x,

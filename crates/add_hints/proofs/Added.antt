@@ -22,7 +22,7 @@ use Rattle.laws.proofs.hint_lists.Passes.{between-none, between-next}
 use Rattle.laws.specs.Passes.{between}
 use Rattle.tables.specs.Tables.{decodeKept, keptIn, hintsOf}
 use Rattle.rules.specs.declared.Made.the-variants as made
-use Rattle.tables.specs.Index.{Tables, indexIn, roomOf, roomIn, kindsIn, kinded, refusal, outOf, out}
+use Rattle.tables.specs.Index.{Tables, indexIn, roomOf, roomIn, kindsIn, kinded, refusal, madeOutOf, madeOut}
 use Rattle.index.specs.Steps.{Passes, heldQuestion4}
 use Rattle.tables.specs.Lent.{TableBytes}
 use Rattle.index.proofs.Four.{Later, kinded-index}
@@ -88,21 +88,21 @@ module _ (x : AreaIndex) (t : Tables) (list : List ℕ) {n : ℕ} (e : n ≡ ref
   unfolding addHints
   add-is = kinded-index x t (ask (question13 (hintsOf list)) 13 ∷ []) later e _
 
-  pub add-no : (n ≡ 0 → ⊥) → out (made.Refused n) t ≡ addHintsIn x t list
-  unfolding addHintsIn outOf after
+  pub add-no : (n ≡ 0 → ⊥) → madeOut (made.Refused n) t ≡ addHintsIn x t list
+  unfolding addHintsIn madeOutOf after
   add-no h = sym (rw (add-is, ne-eqb n 0 h))
 
   module _ (z : n ≡ 0) {q : Bool} (g : q ≡ question13 (hintsOf list)) where
-    pub add-13 : not q ≡ true → out (made.Refused 13) t ≡ addHintsIn x t list
-    unfolding addHintsIn outOf after firstNo
+    pub add-13 : not q ≡ true → madeOut (made.Refused 13) t ≡ addHintsIn x t list
+    unfolding addHintsIn madeOutOf after firstNo
     add-13 h = sym (rw (add-is, eq-eqb n 0 z, ← g, not-true q h))
 
     pub add-yes : {k : ℕ} {hs : List ℕ} → not q ≡ false → TableBytes t
         → k ≡ length (joinedIn (x .area) (x .most) (x .hints) (t .hints) list)
         → hs ≡ clearedTo (touched (x .most) (x .hints) list) (joinedIn (x .area) (x .most) (x .hints) (t .hints) list)
         (t .hints)
-        → out (made.Index (withCount x k)) (withHintTable t hs) ≡ addHintsIn x t list
-    unfolding addHintsIn outOf after firstNo
+        → madeOut (made.Index (withCount x k)) (withHintTable t hs) ≡ addHintsIn x t list
+    unfolding addHintsIn madeOutOf after firstNo
     add-yes {k} {hs} h b c d =
         sym (rw (
           add-is,

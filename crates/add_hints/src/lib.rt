@@ -20,7 +20,7 @@ ghost use Rattle.rules.specs.Tests.{each};
 ghost use Rattle.rules.specs.Sections.{hintOk};
 ghost use Rattle.rules.specs.Hints.{question13};
 ghost use Rattle.tables.specs.Tables.{hintsIn, hintsOf};
-ghost use Rattle.tables.specs.Index.{tables, out};
+ghost use Rattle.tables.specs.Index.{tables, madeOut};
 ghost use Rattle.add_hints.specs.AddHints.{addHintsIn};
 ghost use Rattle.add_hints.specs.Steps.{withCount};
 
@@ -72,7 +72,7 @@ pub fn add_hints(
     confirmed: &[u8],
 ) -> Made
     ensures { λ r. ⌜
-        out r (tables (now (checkpoints .entry)) (now (frames .entry)) (now (store .entry)) (now (parts .entry))
+        madeOut r (tables (now (checkpoints .entry)) (now (frames .entry)) (now (store .entry)) (now (parts .entry))
         (now (malformed .entry)) (now (hints .exit)) (now (confirmed .entry)))
         ≡ addHintsIn x (tables (now (checkpoints .entry)) (now (frames .entry)) (now (store .entry))
         (now (parts .entry)) (now (malformed .entry)) (now (hints .entry)) (now (confirmed .entry))) (now (list .entry))

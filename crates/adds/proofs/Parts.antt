@@ -17,7 +17,7 @@ use Rattle.adds.proofs.compare.Same.{differ, sameList-self, sameList-eq
 use Rattle.rules.specs.declared.AreaIndex.{AreaIndex}
 use Rattle.tables.specs.Tables.{framesIn, partsIn}
 use Rattle.parts.specs.Parts.{PartTables, storedIn}
-use Rattle.parts.specs.Steps.{Lent, Ready}
+use Rattle.parts.specs.Steps.{Lent, CountsReady}
 use Rattle.adds.specs.Steps.{someStored, PartsRead, partsChange}
 use Rattle.adds.proofs.Same.{sameFrame-self, sameHeld-self, sameHeld-eq}
 
@@ -118,7 +118,7 @@ parts-change own other =
 module _ {go : Bool} {x y : AreaIndex} {t u : PartTables} {h : ℕ} (p : PartsRead go x y t u)
     (e : h ≡ cond go (y .parts) 0) where
   pub parts-asked : {n : ℕ} → n ≡ used (framesIn (x .frames) (t .frames) (t .store))
-      → Lent (y .frames) h u × Ready (x .budget) (record { frames = x .frames; parts = x .parts; used = n }) t
+      → Lent (y .frames) h u × CountsReady (x .budget) (record { frames = x .frames; parts = x .parts; used = n }) t
   parts-asked {n} q = rw e (p .lent, p .ready (record { frames = x .frames; parts = x .parts; used = n }) refl refl q)
 
   pub parts-answered : {b : Bool}

@@ -15,7 +15,7 @@ use Rattle.tables.specs.Tables.{framesIn, partsIn}
 use Rattle.tables.specs.Index.{Tables, indexIn}
 use Rattle.parts.specs.declared.Counts.{Counts}
 use Rattle.parts.specs.Parts.{PartTables, storedIn}
-use Rattle.parts.specs.Steps.{Lent, Ready}
+use Rattle.parts.specs.Steps.{Lent, CountsReady}
 use Rattle.adds.specs.Adds.{bringsOf}
 
 -- would one of the parts ps, of frames fs, for checkpoint number n or later be stored beside those of h?
@@ -28,7 +28,7 @@ pub record PartsRead (go : Bool) (x y : AreaIndex) (t u : PartTables) : Type 0 w
   pub own : x .frames * 8 ≤ length (t .frames)
   pub lent : Lent (y .frames) (cond go (y .parts) 0) u
   pub ready : (c : Counts) → c .frames ≡ x .frames → c .parts ≡ x .parts
-      → c .used ≡ used (framesIn (x .frames) (t .frames) (t .store)) → Ready (x .budget) c t
+      → c .used ≡ used (framesIn (x .frames) (t .frames) (t .store)) → CountsReady (x .budget) c t
 
 unfoldable pub partsChange : Bool → AreaIndex → AreaIndex → PartTables → PartTables → Bool
 partsChange go x y t u =

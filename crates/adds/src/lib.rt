@@ -38,7 +38,7 @@ ghost use Rattle.tables.specs.Tables.{lsnsIn, framesIn, partsIn};
 ghost use Rattle.tables.specs.Index.{tables, idIn};
 ghost use Rattle.merge.specs.Steps.{Joins};
 ghost use Rattle.parts.specs.Parts.{partTables, storedIn};
-ghost use Rattle.parts.specs.Steps.{Ready, Lent, heldPiece};
+ghost use Rattle.parts.specs.Steps.{CountsReady, Lent, heldPiece};
 ghost use Rattle.adds.specs.Adds.{sameList, sameKnown, sameFingerprint, addsOf, addsIn};
 ghost use Rattle.adds.specs.Steps.{someStored, PartsRead, partsChange, bringsIn};
 
@@ -90,7 +90,7 @@ fn stores_one(
     store: &[u8],
     parts: &[u8],
 ) -> bool
-    requires { ⌜ Ready budget c (partTables (now frames) (now store) (now parts))
+    requires { ⌜ CountsReady budget c (partTables (now frames) (now store) (now parts))
         × (from + p .len ≤ length (now other)) ⌝ }
     ensures { λ r. ⌜ r
         ≡ (not (ltb (p .at) n) && stores budget
@@ -128,7 +128,7 @@ fn stores_some(
     parts: &[u8],
 ) -> bool
     requires { ⌜ Lent f h (partTables (now headers) (now other) (now theirs))
-        × Ready budget c (partTables (now frames) (now store) (now parts)) ⌝ }
+        × CountsReady budget c (partTables (now frames) (now store) (now parts)) ⌝ }
     ensures { λ r. ⌜ r ≡ someStored budget (framesIn f (now (headers .entry)) (now (other .entry))) n
         (partsIn h (now (theirs .entry)))
         (storedIn (c .frames) (c .parts)

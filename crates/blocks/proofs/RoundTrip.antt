@@ -27,7 +27,7 @@ use Rattle.rules.specs.declared.Tail.{Tail}
 use Rattle.rules.specs.declared.Tail.the-variants as tail
 use Rattle.rules.specs.File.{over}
 use Rattle.rules.proofs.Tests.{and-right}
-use Rattle.blocks.specs.Blocks.{at, areaFrom, endFrom, fingerprintFrom, imageFrom, modeFrom, lastFrom, tailFrom, indexFrom, recorderFrom, hintRecorderFrom, isHead, withFree, wordsIn, blockOf, endWords, fingerprintWords, imageWords, modeWords, lastWords, tailWords, indexWords, recorderWords, hintRecorderArray, hintRecorderWords}
+use Rattle.blocks.specs.Blocks.{at, areaRead, endRead, fingerprintRead, imageRead, modeRead, lastRead, tailRead, indexRead, recorderRead, hintRecorderRead, isHead, withFree, wordsIn, blockOf, endWords, fingerprintWords, imageWords, modeWords, lastWords, tailWords, indexWords, recorderWords, hintRecorderArray, hintRecorderWords}
 use Rattle.blocks.specs.RoundTrip.{Fits8, Fits32, Fits64, tailMark, IndexFits, RecorderFits, HintRecorderFits, IndexBack, RecorderBack, HintRecorderBack, IndexIsHead, RecorderIsHead, HintRecorderIsHead, NoneFree, HeadWords}
 
 words-back : (ws b : List ℕ) → Each Fits64 ws → wordsIn (length ws) (over (blockOf ws) b) ≡ ws
@@ -54,8 +54,8 @@ unfolding endWords
 mark-fits Open = omega arith
 mark-fits (Closed s) = omega arith
 
-end-back : (e : End) → Fits32 (endWords e .first) → endFrom (endWords e .mark) (endWords e .first) (endWords e .second) ≡ e
-unfolding endFrom endWords
+end-back : (e : End) → Fits32 (endWords e .first) → endRead (endWords e .mark) (endWords e .first) (endWords e .second) ≡ e
+unfolding endRead endWords
 end-back Open h = refl
 end-back (Closed s) h = rw (low32 (s .threshold) h)
 
@@ -65,8 +65,8 @@ print-fits Unknown = omega arith
 print-fits (Held v) = omega arith
 print-fits (Checked v) = omega arith
 
-print-back : (f : Fingerprint) → fingerprintFrom (fingerprintWords f .mark) (fingerprintWords f .first) ≡ f
-unfolding fingerprintFrom fingerprintWords
+print-back : (f : Fingerprint) → fingerprintRead (fingerprintWords f .mark) (fingerprintWords f .first) ≡ f
+unfolding fingerprintRead fingerprintWords
 print-back Unknown = refl
 print-back (Held v) = refl
 print-back (Checked v) = refl
@@ -76,8 +76,8 @@ unfolding imageWords
 image-fits Anonymous = omega arith
 image-fits (Id v) = omega arith
 
-image-back : (i : ImageId) → imageFrom (imageWords i .mark) (imageWords i .first) ≡ i
-unfolding imageFrom imageWords
+image-back : (i : ImageId) → imageRead (imageWords i .mark) (imageWords i .first) ≡ i
+unfolding imageRead imageWords
 image-back Anonymous = refl
 image-back (Id v) = refl
 
@@ -87,8 +87,8 @@ mode-fits Running = omega arith
 mode-fits (Finished s) = omega arith
 mode-fits Stopped = omega arith
 
-mode-back : (m : Mode) → Fits32 (modeWords m .first) → modeFrom (modeWords m .mark) (modeWords m .first) (modeWords m .second) ≡ m
-unfolding modeFrom modeWords
+mode-back : (m : Mode) → Fits32 (modeWords m .first) → modeRead (modeWords m .mark) (modeWords m .first) (modeWords m .second) ≡ m
+unfolding modeRead modeWords
 mode-back Running h = refl
 mode-back (Finished s) h = rw (low32 (s .threshold) h)
 mode-back Stopped h = refl
@@ -98,8 +98,8 @@ unfolding lastWords
 last-fits Never = omega arith
 last-fits (Number t) = omega arith
 
-last-back : (l : LastListed) → Fits32 (lastWords l .first) → lastFrom (lastWords l .mark) (lastWords l .first) ≡ l
-unfolding lastFrom lastWords
+last-back : (l : LastListed) → Fits32 (lastWords l .first) → lastRead (lastWords l .mark) (lastWords l .first) ≡ l
+unfolding lastRead lastWords
 last-back Never h = refl
 last-back (Number t) h = rw (low32 t h)
 
@@ -108,8 +108,8 @@ unfolding tailWords
 tail-fits tail.Empty = omega arith
 tail-fits (tail.Hint h) = omega arith
 
-tail-back : (t : Tail) → Fits32 (tailWords t .first) → Fits32 (tailWords t .second) → tailMark t ≡ 0 → tailFrom (tailWords t .mark) (tailWords t .first) (tailWords t .second) ≡ t
-unfolding tailFrom tailWords tailMark
+tail-back : (t : Tail) → Fits32 (tailWords t .first) → Fits32 (tailWords t .second) → tailMark t ≡ 0 → tailRead (tailWords t .mark) (tailWords t .first) (tailWords t .second) ≡ t
+unfolding tailRead tailWords tailMark
 tail-back tail.Empty g h m = refl
 tail-back (tail.Hint k) g h m = rw (low32 (k .lsn) g, low32 (k .number) h) (λ i. tail.Hint (record { lsn = k .lsn; number = k .number; mark = sym m i }))
 
@@ -121,8 +121,8 @@ index-words x f =
     let a = f .area in
     one (wide8 (a .slot)) (one (wide8 (a .channels)) (one (wide32 (a .keyStart)) (one (wide32 (a .keyEnd)) (one (a .sectors) (one (a .start) (one (a .end) (one (wide32 (f .interval)) (one (f .budget) (one (wide32 (f .spacing)) (one (wide32 (f .most)) (one (wide32 (f .checkpoints)) (one (wide32 (f .frames)) (one (wide32 (f .parts)) (one (wide32 (f .malformed)) (one (wide32 (f .hints)) (one (wide32 (f .confirmed)) (one (mark-fits (x .ending)) (one (wide32 (f .threshold)) (one (f .counted) (one (print-fits (x .fingerprint)) (one (f .fingerprint) (one (image-fits (x .image)) (one (f .image) (none))))))))))))))))))))))))
 
-index-same : (x : AreaIndex) → IndexFits x → indexFrom (indexWords x) ≡ x
-unfolding indexFrom indexWords areaFrom
+index-same : (x : AreaIndex) → IndexFits x → indexRead (indexWords x) ≡ x
+unfolding indexRead indexWords areaRead
 index-same x f =
     let a = f .area in
     rw (
@@ -146,7 +146,7 @@ index-same x f =
 
 pub index-back : IndexBack
 unfolding indexWords
-index-back x b f = ap indexFrom (words-back (indexWords x) b (index-words x f)) ∙ index-same x f
+index-back x b f = ap indexRead (words-back (indexWords x) b (index-words x f)) ∙ index-same x f
 
 -- the words of a recorder are words, and what is read from them is it
 recorder-words : (r : Recorder) → RecorderFits r → Each Fits64 (recorderWords r)
@@ -155,8 +155,8 @@ recorder-words r f =
     let a = f .area in
     one (wide8 (a .slot)) (one (wide8 (a .channels)) (one (wide32 (a .keyStart)) (one (wide32 (a .keyEnd)) (one (a .sectors) (one (a .start) (one (a .end) (one (wide32 (f .interval)) (one (f .budget) (one (wide32 (f .first)) (one (f .from) (one (wide32 (f .checkpoints)) (one (wide32 (f .frames)) (one (wide32 (f .parts)) (one (mode-fits (r .mode)) (one (wide32 (f .threshold)) (one (f .counted) (one (zero) (one (zero) (one (zero) (one (zero) (one (zero) (one (zero) (one (zero) (none))))))))))))))))))))))))
 
-recorder-same : (r : Recorder) → RecorderFits r → recorderFrom (recorderWords r) ≡ r
-unfolding recorderFrom recorderWords areaFrom
+recorder-same : (r : Recorder) → RecorderFits r → recorderRead (recorderWords r) ≡ r
+unfolding recorderRead recorderWords areaRead
 recorder-same r f =
     let a = f .area in
     rw (
@@ -174,7 +174,7 @@ recorder-same r f =
 
 pub recorder-back : RecorderBack
 unfolding recorderWords
-recorder-back r b f = ap recorderFrom (words-back (recorderWords r) b (recorder-words r f)) ∙ recorder-same r f
+recorder-back r b f = ap recorderRead (words-back (recorderWords r) b (recorder-words r f)) ∙ recorder-same r f
 
 -- the words of a hint recorder, whatever its free words are, are words, and what is read from them is it
 free-words : (r : HintRecorder) (free : List ℕ) → HintRecorderFits r → ((k : ℕ) → Fits64 (at free k)) → Each Fits64 (withFree free (hintRecorderWords r))
@@ -182,8 +182,8 @@ unfolding withFree hintRecorderWords hintRecorderArray
 free-words r free f g =
     one (wide32 (f .spacing)) (one (last-fits (r .last)) (one (wide32 (f .last)) (one (tail-fits (r .tail)) (one (wide32 (f .lsn)) (one (wide32 (f .number)) (one (wide32 (f .count)) (one (g 7) (one (g 8) (one (g 9) (one (g 10) (one (zero) (one (zero) (one (zero) (one (zero) (one (zero) (one (zero) (one (zero) (one (zero) (one (zero) (one (zero) (one (zero) (one (zero) (one (zero) (none))))))))))))))))))))))))
 
-free-same : (r : HintRecorder) (free : List ℕ) → HintRecorderFits r → hintRecorderFrom (withFree free (hintRecorderWords r)) ≡ r
-unfolding hintRecorderFrom withFree hintRecorderWords hintRecorderArray
+free-same : (r : HintRecorder) (free : List ℕ) → HintRecorderFits r → hintRecorderRead (withFree free (hintRecorderWords r)) ≡ r
+unfolding hintRecorderRead withFree hintRecorderWords hintRecorderArray
 free-same r free f =
     rw (
       low32 _ (f .spacing),
@@ -200,7 +200,7 @@ none-fits : (k : ℕ) → Fits64 (at [] k)
 none-fits k = zero
 
 pub hint-recorder-back : HintRecorderBack
-unfolding hintRecorderFrom hintRecorderArray
+unfolding hintRecorderRead hintRecorderArray
 hint-recorder-back r f b g h =
     let s : Each Fits64 (hintRecorderArray r f) =
     one (wide32 (g .spacing)) (one (last-fits (r .last)) (one (wide32 (g .last)) (one (tail-fits (r .tail)) (one (wide32 (g .lsn)) (one (wide32 (g .number)) (one (wide32 (g .count)) (one (h .found) (one (h .number) (one (h .offset) (one (h .why) (one (zero) (one (zero) (one (zero) (one (zero) (one (zero) (one (zero) (one (zero) (one (zero) (one (zero) (one (zero) (one (zero) (one (zero) (one (zero) (none)))))))))))))))))))))))) in

@@ -120,38 +120,38 @@ abbrev pub low32 : ℕ → ℕ
 low32 v = v % 4294967296
 
 -- a flag of 0 is unknown, anything else known
-unfoldable pub endFrom : ℕ → ℕ → ℕ → End
-endFrom known t m = cond (eqb known 0) Open (Closed (record { threshold = low32 t; malformed = m }))
+unfoldable pub endRead : ℕ → ℕ → ℕ → End
+endRead known t m = cond (eqb known 0) Open (Closed (record { threshold = low32 t; malformed = m }))
 
 -- 0 unknown, 1 held, anything else checked
-unfoldable pub fingerprintFrom : ℕ → ℕ → Fingerprint
-fingerprintFrom mark v = cond (eqb mark 0) Unknown (cond (eqb mark 1) (Held v) (Checked v))
+unfoldable pub fingerprintRead : ℕ → ℕ → Fingerprint
+fingerprintRead mark v = cond (eqb mark 0) Unknown (cond (eqb mark 1) (Held v) (Checked v))
 
-unfoldable pub imageFrom : ℕ → ℕ → ImageId
-imageFrom known v = cond (eqb known 0) Anonymous (Id v)
+unfoldable pub imageRead : ℕ → ℕ → ImageId
+imageRead known v = cond (eqb known 0) Anonymous (Id v)
 
 -- 0 running, 1 finished, anything else stopped
-unfoldable pub modeFrom : ℕ → ℕ → ℕ → Mode
-modeFrom mark t m = cond (eqb mark 0) Running (cond (eqb mark 1) (Finished (record { threshold = low32 t; malformed = m })) Stopped)
+unfoldable pub modeRead : ℕ → ℕ → ℕ → Mode
+modeRead mark t m = cond (eqb mark 0) Running (cond (eqb mark 1) (Finished (record { threshold = low32 t; malformed = m })) Stopped)
 
-unfoldable pub lastFrom : ℕ → ℕ → LastListed
-lastFrom known t = cond (eqb known 0) Never (Number (low32 t))
+unfoldable pub lastRead : ℕ → ℕ → LastListed
+lastRead known t = cond (eqb known 0) Never (Number (low32 t))
 
-unfoldable pub tailFrom : ℕ → ℕ → ℕ → Tail
-tailFrom known l t = cond (eqb known 0) tail.Empty (tail.Hint (record { lsn = low32 l; number = low32 t; mark = 0 }))
+unfoldable pub tailRead : ℕ → ℕ → ℕ → Tail
+tailRead known l t = cond (eqb known 0) tail.Empty (tail.Hint (record { lsn = low32 l; number = low32 t; mark = 0 }))
 
-unfoldable pub areaFrom : List ℕ → Area
-areaFrom ws =
+unfoldable pub areaRead : List ℕ → Area
+areaRead ws =
     record {
       key = record { slot = low8 (at ws 0); start = low32 (at ws 2); end = low32 (at ws 3); channels = low8 (at ws 1); sectors = at ws 4 };
       start = at ws 5;
       end = at ws 6;
     }
 
-unfoldable pub indexFrom : List ℕ → AreaIndex
-indexFrom ws =
+unfoldable pub indexRead : List ℕ → AreaIndex
+indexRead ws =
     record {
-      area = areaFrom ws;
+      area = areaRead ws;
       interval = low32 (at ws 7);
       budget = at ws 8;
       spacing = low32 (at ws 9);
@@ -162,15 +162,15 @@ indexFrom ws =
       malformed = low32 (at ws 14);
       hints = low32 (at ws 15);
       confirmed = low32 (at ws 16);
-      ending = endFrom (at ws 17) (at ws 18) (at ws 19);
-      fingerprint = fingerprintFrom (at ws 20) (at ws 21);
-      image = imageFrom (at ws 22) (at ws 23);
+      ending = endRead (at ws 17) (at ws 18) (at ws 19);
+      fingerprint = fingerprintRead (at ws 20) (at ws 21);
+      image = imageRead (at ws 22) (at ws 23);
     }
 
-unfoldable pub recorderFrom : List ℕ → Recorder
-recorderFrom ws =
+unfoldable pub recorderRead : List ℕ → Recorder
+recorderRead ws =
     record {
-      area = areaFrom ws;
+      area = areaRead ws;
       interval = low32 (at ws 7);
       budget = at ws 8;
       first = low32 (at ws 9);
@@ -178,15 +178,15 @@ recorderFrom ws =
       checkpoints = low32 (at ws 11);
       frames = low32 (at ws 12);
       parts = low32 (at ws 13);
-      mode = modeFrom (at ws 14) (at ws 15) (at ws 16);
+      mode = modeRead (at ws 14) (at ws 15) (at ws 16);
     }
 
-unfoldable pub hintRecorderFrom : List ℕ → HintRecorder
-hintRecorderFrom ws =
+unfoldable pub hintRecorderRead : List ℕ → HintRecorder
+hintRecorderRead ws =
     record {
       spacing = low32 (at ws 0);
-      last = lastFrom (at ws 1) (at ws 2);
-      tail = tailFrom (at ws 3) (at ws 4) (at ws 5);
+      last = lastRead (at ws 1) (at ws 2);
+      tail = tailRead (at ws 3) (at ws 4) (at ws 5);
       count = low32 (at ws 6);
     }
 
@@ -200,10 +200,10 @@ isHead again b = isBlock b && sameBytes (wordsIn 24 b) (again (wordsIn 24 b))
 
 -- ---- words read, and written again
 abbrev pub indexAgain : List ℕ → List ℕ
-indexAgain ws = indexWords (indexFrom ws)
+indexAgain ws = indexWords (indexRead ws)
 
 abbrev pub recorderAgain : List ℕ → List ℕ
-recorderAgain ws = recorderWords (recorderFrom ws)
+recorderAgain ws = recorderWords (recorderRead ws)
 
 -- words 7 to 10 of ws in the place of those of vs
 unfoldable pub withFree : List ℕ → List ℕ → List ℕ
@@ -211,7 +211,7 @@ withFree ws vs = set (set (set (set vs 7 (at ws 7)) 8 (at ws 8)) 9 (at ws 9)) 10
 
 -- words 7 to 10 of a hint recorder are free
 abbrev pub hintRecorderAgain : List ℕ → List ℕ
-hintRecorderAgain ws = withFree ws (hintRecorderWords (hintRecorderFrom ws))
+hintRecorderAgain ws = withFree ws (hintRecorderWords (hintRecorderRead ws))
 
 -- ---- heads
 abbrev pub isIndex : List ℕ → Bool

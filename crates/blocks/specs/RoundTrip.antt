@@ -11,7 +11,7 @@ use Rattle.rules.specs.declared.Recorder.{Recorder}
 use Rattle.rules.specs.declared.Tail.{Tail}
 use Rattle.rules.specs.declared.Tail.the-variants as tail
 use Rattle.rules.specs.File.{over}
-use Rattle.blocks.specs.Blocks.{at, indexFrom, recorderFrom, hintRecorderFrom, isHead, withFree, isIndex, isRecorder, isHintRecorder, wordsIn, blockOf, endWords, fingerprintWords, imageWords, modeWords, lastWords, tailWords, indexWords, recorderWords, hintRecorderArray, hintRecorderWords}
+use Rattle.blocks.specs.Blocks.{at, indexRead, recorderRead, hintRecorderRead, isHead, withFree, isIndex, isRecorder, isHintRecorder, wordsIn, blockOf, endWords, fingerprintWords, imageWords, modeWords, lastWords, tailWords, indexWords, recorderWords, hintRecorderArray, hintRecorderWords}
 use Rattle.blocks.specs.declared.Told.{Told}
 
 -- numbers have the widths of their types
@@ -83,15 +83,15 @@ pub record ToldFits (f : Told) : Type 0 where
 
 -- what is written over a block is read from it again
 abbrev pub IndexBack : Type 0
-IndexBack = (x : AreaIndex) (b : List ℕ) → IndexFits x → indexFrom (wordsIn 24 (over (blockOf (indexWords x)) b)) ≡ x
+IndexBack = (x : AreaIndex) (b : List ℕ) → IndexFits x → indexRead (wordsIn 24 (over (blockOf (indexWords x)) b)) ≡ x
 
 abbrev pub RecorderBack : Type 0
-RecorderBack = (r : Recorder) (b : List ℕ) → RecorderFits r → recorderFrom (wordsIn 24 (over (blockOf (recorderWords r)) b)) ≡ r
+RecorderBack = (r : Recorder) (b : List ℕ) → RecorderFits r → recorderRead (wordsIn 24 (over (blockOf (recorderWords r)) b)) ≡ r
 
 -- whatever words 7 to 10 are
 abbrev pub HintRecorderBack : Type 0
 HintRecorderBack =
-    (r : HintRecorder) (f : Told) (b : List ℕ) → HintRecorderFits r → ToldFits f → hintRecorderFrom (wordsIn 24 (over (blockOf (hintRecorderArray r f)) b)) ≡ r
+    (r : HintRecorder) (f : Told) (b : List ℕ) → HintRecorderFits r → ToldFits f → hintRecorderRead (wordsIn 24 (over (blockOf (hintRecorderArray r f)) b)) ≡ r
 
 -- what is written over a block of 192 bytes is a head
 abbrev pub IndexIsHead : Type 0

@@ -18,13 +18,13 @@ use rules::Mode;
 use rules::Recorder;
 use rules::Tail;
 ghost use mathlib.Core.Path.{_≡_};
-ghost use Rattle.blocks.specs.Blocks.{endFrom, fingerprintFrom, imageFrom, modeFrom, lastFrom, tailFrom, areaFrom, indexFrom, recorderFrom, hintRecorderFrom, withFree, isIndex, isRecorder, isHintRecorder};
+ghost use Rattle.blocks.specs.Blocks.{endRead, fingerprintRead, imageRead, modeRead, lastRead, tailRead, areaRead, indexRead, recorderRead, hintRecorderRead, withFree, isIndex, isRecorder, isHintRecorder};
 ghost use Rattle.field.specs.Number.{sameBytes};
 
 // ---- what may be unknown; what a field is too narrow for is cut off
 // A flag of 0 is unknown, anything else known.
 fn end_from(known: u64, threshold: u64, malformed: u64) -> End
-    ensures { λ r. ⌜ r ≡ endFrom known threshold malformed ⌝ }
+    ensures { λ r. ⌜ r ≡ endRead known threshold malformed ⌝ }
 {
     if known == 0 {
         return End::Open;
@@ -37,7 +37,7 @@ fn end_from(known: u64, threshold: u64, malformed: u64) -> End
 
 // 0 unknown, 1 held, anything else checked.
 fn fingerprint_from(mark: u64, value: u64) -> Fingerprint
-    ensures { λ r. ⌜ r ≡ fingerprintFrom mark value ⌝ }
+    ensures { λ r. ⌜ r ≡ fingerprintRead mark value ⌝ }
 {
     if mark == 0 {
         return Fingerprint::Unknown;
@@ -49,7 +49,7 @@ fn fingerprint_from(mark: u64, value: u64) -> Fingerprint
 }
 
 fn image_from(known: u64, value: u64) -> ImageId
-    ensures { λ r. ⌜ r ≡ imageFrom known value ⌝ }
+    ensures { λ r. ⌜ r ≡ imageRead known value ⌝ }
 {
     if known == 0 {
         return ImageId::Anonymous;
@@ -59,7 +59,7 @@ fn image_from(known: u64, value: u64) -> ImageId
 
 // 0 running, 1 finished, anything else stopped.
 fn mode_from(mark: u64, threshold: u64, malformed: u64) -> Mode
-    ensures { λ r. ⌜ r ≡ modeFrom mark threshold malformed ⌝ }
+    ensures { λ r. ⌜ r ≡ modeRead mark threshold malformed ⌝ }
 {
     if mark == 0 {
         return Mode::Running;
@@ -74,7 +74,7 @@ fn mode_from(mark: u64, threshold: u64, malformed: u64) -> Mode
 }
 
 fn last_from(known: u64, number: u64) -> LastListed
-    ensures { λ r. ⌜ r ≡ lastFrom known number ⌝ }
+    ensures { λ r. ⌜ r ≡ lastRead known number ⌝ }
 {
     if known == 0 {
         return LastListed::Never;
@@ -83,7 +83,7 @@ fn last_from(known: u64, number: u64) -> LastListed
 }
 
 fn tail_from(known: u64, lsn: u64, number: u64) -> Tail
-    ensures { λ r. ⌜ r ≡ tailFrom known lsn number ⌝ }
+    ensures { λ r. ⌜ r ≡ tailRead known lsn number ⌝ }
 {
     if known == 0 {
         return Tail::Empty;
@@ -97,7 +97,7 @@ fn tail_from(known: u64, lsn: u64, number: u64) -> Tail
 
 // ---- heads
 fn area_from(w: [u64; 24]) -> Area
-    ensures { λ r. ⌜ r ≡ areaFrom w ⌝ }
+    ensures { λ r. ⌜ r ≡ areaRead w ⌝ }
 {
     let key = AreaKey {
         slot: (w[0] % 256) as u8,
@@ -114,7 +114,7 @@ fn area_from(w: [u64; 24]) -> Area
 }
 
 pub fn index_from(w: [u64; 24]) -> AreaIndex
-    ensures { λ r. ⌜ r ≡ indexFrom w ⌝ }
+    ensures { λ r. ⌜ r ≡ indexRead w ⌝ }
 {
     AreaIndex {
         area: area_from(w),
@@ -135,7 +135,7 @@ pub fn index_from(w: [u64; 24]) -> AreaIndex
 }
 
 pub fn recorder_from(w: [u64; 24]) -> Recorder
-    ensures { λ r. ⌜ r ≡ recorderFrom w ⌝ }
+    ensures { λ r. ⌜ r ≡ recorderRead w ⌝ }
 {
     Recorder {
         area: area_from(w),
@@ -151,7 +151,7 @@ pub fn recorder_from(w: [u64; 24]) -> Recorder
 }
 
 pub fn hint_recorder_from(w: [u64; 24]) -> HintRecorder
-    ensures { λ r. ⌜ r ≡ hintRecorderFrom w ⌝ }
+    ensures { λ r. ⌜ r ≡ hintRecorderRead w ⌝ }
 {
     HintRecorder {
         spacing: (w[0] % 4294967296) as u32,

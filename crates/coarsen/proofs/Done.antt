@@ -23,7 +23,7 @@ use Rattle.rules_coarsen.specs.Coarse.{everyNth, coarseParts, unstored, coarser
 use Rattle.laws.proofs.Layouts.{lsn-layout, confirmation-layout}
 use Rattle.tables.proofs.Kept.{kept-layout}
 use Rattle.tables.specs.Tables.{checkpointsIn, framesIn, partsIn, lsnsIn, decodeKept}
-use Rattle.tables.specs.Index.{endIn, endFrom, idIn, idFrom, Tables, tables, roomOf, indexIn, numbersFrom, tablesFrom, refusal, Out, out, outOf}
+use Rattle.tables.specs.Index.{endIn, endFrom, idIn, idFrom, Tables, tables, roomOf, indexIn, numbersFrom, tablesFrom, refusal, MadeOut, madeOut, madeOutOf}
 use Rattle.rules.specs.declared.Made.the-variants as made
 use Rattle.parts.specs.declared.Counts.{Counts}
 use Rattle.parts.specs.Parts.{partTables, Held, held, heldFrom}
@@ -128,16 +128,16 @@ unfolding after
 after-both a b z = test (eqb a 0) (λ e. rw e) (λ e. rw (e, e))
 
 module _ (x : AreaIndex) (t : Tables) (k : ℕ) (u : Tables) {n : ℕ} (e : n ≡ coarseRefusal x t k u) where
-  call-is : coarseIn x t k u ≡ outOf (λ z. tablesFrom z u) u (after n (Accepted (coarser k (indexIn x t))))
+  call-is : coarseIn x t k u ≡ madeOutOf (λ z. tablesFrom z u) u (after n (Accepted (coarser k (indexIn x t))))
   unfolding coarse coarseRefusal
   call-is =
-      ap (outOf (λ z. tablesFrom z u) u)
+      ap (madeOutOf (λ z. tablesFrom z u) u)
       (after-both (refusal x t) (coarseNumber (roomOf t) (indexIn x t) k (roomOf u)) (coarser k (indexIn x t)) ∙ rw (← e))
 
-  pub coarse-refused : (n ≡ 0 → ⊥) → out (made.Refused n) u ≡ coarseIn x t k u
-  unfolding after outOf
+  pub coarse-refused : (n ≡ 0 → ⊥) → madeOut (made.Refused n) u ≡ coarseIn x t k u
+  unfolding after madeOutOf
   coarse-refused h = sym (call-is ∙ rw (ne-eqb n 0 h))
 
-  pub coarse-done : {o : Out} → n ≡ 0 → o ≡ coarsened x t k u → o ≡ coarseIn x t k u
-  unfolding after outOf coarsened
+  pub coarse-done : {o : MadeOut} → n ≡ 0 → o ≡ coarsened x t k u → o ≡ coarseIn x t k u
+  unfolding after madeOutOf coarsened
   coarse-done h q = q ∙ sym (call-is ∙ rw (eq-eqb n 0 h))

@@ -23,7 +23,7 @@ use Rattle.index.proofs.Questions.{range, passes-long, passes-hints}
 use Rattle.parts.specs.Parts.{partTables}
 use Rattle.parts.proofs.Callers.{lent-from}
 use Rattle.coarsen.specs.Laws.{multiples}
-use Rattle.coarsen.specs.Steps.{keptOf, Keeps, Copies, Holds, countedIn, Coarsens}
+use Rattle.coarsen.specs.Steps.{keptOf, Keeps, Copies, PartsHeld, countedIn, Coarsens}
 use Rattle.coarsen.proofs.Every.{every-length, wide-within}
 use Rattle.coarsen.proofs.Checkpoints.{kept-counted, taken-length}
 use Rattle.coarsen.proofs.FortyEight.{WiderIs, wider→}
@@ -101,7 +101,7 @@ module _ {x : AreaIndex} {t : Tables} {k : ℕ} {u : Tables} (j : Coarsens x t k
   unfolding roomIn question3 scanRoom
   store-room = leb-true _ _ (all→ _ (all→ _ (j .passes .roomy .room) .0) .1 .1 .1 .0)
 
-  pub holds : Holds (x .budget) r (x .frames) (x .parts) (partTables (t .frames) (t .store) (t .parts)) (partTables (u .frames) (u .store) (u .parts))
+  pub holds : PartsHeld (x .budget) r (x .frames) (x .parts) (partTables (t .frames) (t .store) (t .parts)) (partTables (u .frames) (u .store) (u .parts))
   unfolding used records framesOf kindsOk each
   holds =
       let l = passes-long (j .passes) in let f = few-parts in let b = few-boundaries in

@@ -11,7 +11,7 @@ use Rattle.rules.specs.Values.{maxInterval, maxMalformed, counted, frontierOf}
 use Rattle.rules.specs.Questions.{question3}
 use Rattle.rules_coarsen.specs.Coarse.{everyNth, question47, coarser, coarseFits}
 use Rattle.tables.specs.Tables.{checkpointsIn, lsnsIn, partsIn}
-use Rattle.tables.specs.Index.{endIn, Tables, roomOf, indexIn, numbersFrom, tablesFrom, Out, out}
+use Rattle.tables.specs.Index.{endIn, Tables, roomOf, indexIn, numbersFrom, tablesFrom, MadeOut, madeOut}
 use Rattle.rules.specs.declared.Made.the-variants as made
 use Rattle.index.specs.Steps.{Passes}
 use Rattle.parts.specs.declared.Counts.{Counts}
@@ -63,7 +63,7 @@ pub record Copies (n m r : ℕ) (t u : List ℕ) : Type 0 where
   pub space : m * 24 ≤ length u
 
 -- a list's f frames and h parts, and space for those of its parts that are kept
-pub record Holds (budget r f h : ℕ) (o t : PartTables) : Type 0 where
+pub record PartsHeld (budget r f h : ℕ) (o t : PartTables) : Type 0 where
   pub ratio : 1 ≤ r
   pub lent : Lent f h o
   pub room : Room (length (multiples r (partsIn h (o .parts)))) budget (record { frames = 0; parts = 0; used = 0 }) t
@@ -95,9 +95,9 @@ numbersAt x k n c m =
       image = x .image;
     }
 
-abbrev pub outIndex : AreaIndex → Tables → Out
-outIndex x t = out (made.Index x) t
+abbrev pub outIndex : AreaIndex → Tables → MadeOut
+outIndex x t = madeOut (made.Index x) t
 
 -- what is left where nothing refuses
-unfoldable pub coarsened : AreaIndex → Tables → ℕ → Tables → Out
+unfoldable pub coarsened : AreaIndex → Tables → ℕ → Tables → MadeOut
 coarsened x t k u = outIndex (numbersFrom (coarser k (indexIn x t))) (tablesFrom (coarser k (indexIn x t)) u)

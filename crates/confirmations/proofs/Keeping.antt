@@ -32,7 +32,7 @@ use Rattle.index.proofs.Left.{withConfirmedTable, confirmed-left}
 use Rattle.index.proofs.Back.{numbers-back}
 use Rattle.confirmations.specs.Steps.{Rising, Room, withCount}
 use Rattle.rules.specs.declared.Kept.the-variants as kept
-use Rattle.confirmations.specs.Confirmations.{given, out, outOf, keepIn}
+use Rattle.confirmations.specs.Confirmations.{given, keptOut, keptOutOf, keepIn}
 
 or-true : (b : Bool) → (b || true) ≡ true
 or-true true = refl
@@ -94,19 +94,19 @@ module _ (x : AreaIndex) (t : Tables) (lsn threshold digest : ℕ) {n : ℕ} (e 
   unfolding each
   later = refl
 
-  pub keep-no : (n ≡ 0 → ⊥) → out (kept.Refused n) t ≡ keepIn x t c
-  unfolding keepIn outOf after keepConfirmation
+  pub keep-no : (n ≡ 0 → ⊥) → keptOut (kept.Refused n) t ≡ keepIn x t c
+  unfolding keepIn keptOutOf after keepConfirmation
   keep-no h = sym (rw (kinded-index x t (ask (question14 (x .area) c) 14 ∷ []) later e _, ne-eqb n 0 h))
 
   module _ (z : n ≡ 0) {q : Bool} (g : q ≡ (inArea (x .area) lsn && ltb threshold lim)) where
-    pub keep-14 : not q ≡ true → out (kept.Refused 14) t ≡ keepIn x t c
-    unfolding keepIn outOf after keepConfirmation firstNo question14
+    pub keep-14 : not q ≡ true → keptOut (kept.Refused 14) t ≡ keepIn x t c
+    unfolding keepIn keptOutOf after keepConfirmation firstNo question14
     keep-14 h =
         sym (rw (kinded-index x t (ask (question14 (x .area) c) 14 ∷ []) later e _, eq-eqb n 0 z, ← g, not-true q h))
 
     module _ (h : not q ≡ false) where
-      keep-nothing : keepsNothing (isChecked (x .fingerprint)) (x .most) ≡ true → out kept.Nothing t ≡ keepIn x t c
-      unfolding keepIn outOf after keepConfirmation firstNo question14
+      keep-nothing : keepsNothing (isChecked (x .fingerprint)) (x .most) ≡ true → keptOut kept.Nothing t ≡ keepIn x t c
+      unfolding keepIn keptOutOf after keepConfirmation firstNo question14
       keep-nothing k =
           sym (rw (
             kinded-index x t (ask (question14 (x .area) c) 14 ∷ []) later e _,
@@ -117,18 +117,18 @@ module _ (x : AreaIndex) (t : Tables) (lsn threshold digest : ℕ) {n : ℕ} (e 
           ))
 
       pub keep-unchecked : {f : Bool} → f ≡ isChecked (x .fingerprint) → not f ≡ true
-          → out kept.Nothing t ≡ keepIn x t c
+          → keptOut kept.Nothing t ≡ keepIn x t c
       keep-unchecked {f} w m = keep-nothing (rw (← w, not-true f m))
 
-      pub keep-zero : x .most ≡ 0 → out kept.Nothing t ≡ keepIn x t c
+      pub keep-zero : x .most ≡ 0 → keptOut kept.Nothing t ≡ keepIn x t c
       keep-zero m = keep-nothing (rw (eq-eqb (x .most) 0 m) (or-true (not (isChecked (x .fingerprint)))))
 
       pub keep-yes : {f : Bool} {k : ℕ} {cs : List ℕ} → f ≡ isChecked (x .fingerprint) → not f ≡ false
           → (x .most ≡ 0 → ⊥) → TableBytes t
           → Begins 16 encodeConfirmation (keep true (x .most) (confirmationsIn (x .confirmed) (t .confirmed)) c) k
           (t .confirmed) cs
-          → out (kept.Index (withCount x k)) (withConfirmedTable t cs) ≡ keepIn x t c
-      unfolding keepIn outOf after keepConfirmation firstNo question14
+          → keptOut (kept.Index (withCount x k)) (withConfirmedTable t cs) ≡ keepIn x t c
+      unfolding keepIn keptOutOf after keepConfirmation firstNo question14
       keep-yes {f} {k} {cs} w u m b s =
           let new = keep true (x .most) (confirmationsIn (x .confirmed) (t .confirmed)) c in
           let l : length (bytesOf encodeConfirmation new) ≡ k * 16 = bytesOf-length confirmation-layout new

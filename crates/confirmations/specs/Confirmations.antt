@@ -14,18 +14,18 @@ abbrev pub given : ℕ → ℕ → ℕ → Confirmation
 given lsn threshold digest = record { lsn = lsn; threshold = threshold; digest = digest }
 
 -- the answer and the tables
-pub record Out : Type 0 where
+pub record KeptOut : Type 0 where
   pub answer : Kept
   pub tables : Tables
 
-abbrev pub out : Kept → Tables → Out
-out r t = record { answer = r; tables = t }
+abbrev pub keptOut : Kept → Tables → KeptOut
+keptOut r t = record { answer = r; tables = t }
 
 -- where nothing is kept, and with a refusal, no table changes; a list is put into them
-unfoldable pub outOf : Tables → Answer (Option Index) → Out
-outOf t (Refused n) = out (kept.Refused n) t
-outOf t (Accepted none) = out kept.Nothing t
-outOf t (Accepted (some y)) = out (kept.Index (numbersFrom y)) (tablesFrom y t)
+unfoldable pub keptOutOf : Tables → Answer (Option Index) → KeptOut
+keptOutOf t (Refused n) = keptOut (kept.Refused n) t
+keptOutOf t (Accepted none) = keptOut kept.Nothing t
+keptOutOf t (Accepted (some y)) = keptOut (kept.Index (numbersFrom y)) (tablesFrom y t)
 
-unfoldable pub keepIn : AreaIndex → Tables → Confirmation → Out
-keepIn x t c = outOf t (kinded (kindsIn x t) (keepConfirmation (roomOf t) (indexIn x t) c))
+unfoldable pub keepIn : AreaIndex → Tables → Confirmation → KeptOut
+keepIn x t c = keptOutOf t (kinded (kindsIn x t) (keepConfirmation (roomOf t) (indexIn x t) c))

@@ -21,7 +21,7 @@ ghost use Rattle.rules.specs.Hints.{inArea, keep};
 ghost use Rattle.laws.specs.Passes.{Begins};
 ghost use Rattle.tables.specs.Tables.{confirmationsIn};
 ghost use Rattle.tables.specs.Index.{tables};
-ghost use Rattle.confirmations.specs.Confirmations.{given, out, keepIn};
+ghost use Rattle.confirmations.specs.Confirmations.{given, keptOut, keepIn};
 ghost use Rattle.confirmations.specs.Steps.{Room, withCount};
 
 // 14: LSN in the area, threshold < LIM?
@@ -67,7 +67,7 @@ pub fn keep_confirmation(
     confirmed: &mut [u8],
 ) -> Kept
     ensures { λ r. ⌜
-        out r (tables (now (checkpoints .entry)) (now (frames .entry)) (now (store .entry)) (now (parts .entry))
+        keptOut r (tables (now (checkpoints .entry)) (now (frames .entry)) (now (store .entry)) (now (parts .entry))
         (now (malformed .entry)) (now (hints .entry)) (now (confirmed .exit)))
         ≡ keepIn x (tables (now (checkpoints .entry)) (now (frames .entry)) (now (store .entry)) (now (parts .entry))
         (now (malformed .entry)) (now (hints .entry)) (now (confirmed .entry))) (given lsn threshold digest) ⌝ }

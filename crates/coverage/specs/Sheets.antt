@@ -10,7 +10,7 @@ use Rattle.rules_coverage.specs.Lines.{mostLines, lineOf}
 use Rattle.rules_coverage.specs.Coverage.{lineRow, nameOf, rowText}
 use Rattle.sheet.specs.Rows.{rowsIn}
 use Rattle.rules.specs.File.{over}
-use Rattle.sheet.specs.Text.{fitting}
+use Rattle.sheet.specs.Text.{fittingText}
 
 -- a is the row of the line s, for what was read of the file that it names
 pub record RowOfLine (s : List ℕ) (a : Answer Row) : Type 0 where
@@ -22,7 +22,7 @@ pub record Answered (n : ℕ) (s before after outBefore outAfter : List ℕ) : T
   pub answer : Answer Row
   pub ofLine : RowOfLine s answer
   pub rows : rowsIn (n + 1) after ≡ take mostLines (rowsIn n before ++ (answer ∷ []))
-  pub text : outAfter ≡ over (fitting outBefore (rowText (nameOf (lineOf s)) answer)) outBefore
+  pub text : outAfter ≡ over (fittingText outBefore (rowText (nameOf (lineOf s)) answer)) outBefore
 
 -- each is the row of a line
 pub data OfLines : List (Answer Row) → Type 0 where

@@ -10,7 +10,7 @@ use Rattle.tables.specs.Index.{Tables, roomOf}
 use Rattle.disc_load.specs.declared.ask.Body.{Body}
 use Rattle.disc_load.specs.declared.ask.Decided.{Decided}
 use Rattle.disc_load.specs.declared.ask.Decided.the-variants as decided
-use Rattle.disc_load.specs.Steps.{heldIn, Ready, Decision}
+use Rattle.disc_load.specs.Steps.{heldIn, BothLoad, Decision}
 use Rattle.disc_load.proofs.ask.Asking.{held-loads}
 use Rattle.disc_load.proofs.ask.Deciding.{by-places}
 use Rattle.rules_disc.specs.declared.Listed.{Listed}
@@ -22,7 +22,7 @@ module _ {a0 a1 : Area} {b : List ℕ} (limit : ℕ) (t u : Tables) where
   unfolding loadDiscIn discOutOf
   answer-refused {r} {n} d e = rw (d .refused n e)
 
-  pub answer-ready : {x y : Body} {m n : Listed} {t' u' : Tables} → Ready a0 a1 b limit t u x y
+  pub answer-ready : {x y : Body} {m n : Listed} {t' u' : Tables} → BothLoad a0 a1 b limit t u x y
       → (m ≡ listedFrom (heldIn a0 b limit x)) × (t' ≡ tablesWith (heldIn a0 b limit x) t)
       → (n ≡ listedFrom (heldIn a1 b limit y)) × (u' ≡ tablesWith (heldIn a1 b limit y) u)
       → discOut (loaded.Lists m n) t' u' ≡ loadDiscIn a0 a1 b limit t u

@@ -11,8 +11,8 @@ use Rattle.rules_disc.specs.declared.Loaded.the-variants as loaded
 use Rattle.rules_disc.specs.declared.Entry.{Entry}
 use Rattle.rules_disc.specs.declared.Contents.{Contents}
 use Rattle.rules_disc.specs.declared.Contents.the-variants.{Broken, Lists}
-use Rattle.rules_disc.specs.declared.Place.{Place}
-use Rattle.rules_disc.specs.declared.Place.the-variants.{Absent, At}
+use Rattle.rules_disc.specs.declared.SlotEntry.{SlotEntry}
+use Rattle.rules_disc.specs.declared.SlotEntry.the-variants.{Absent, At}
 use Rattle.rules.specs.declared.TableSizes.{TableSizes}
 use Rattle.rules_disc.specs.declared.SlotSizes.{SlotSizes}
 use Rattle.rules_disc.specs.declared.SlotSizes.the-variants as slot
@@ -20,7 +20,7 @@ use Rattle.rules_disc.specs.declared.DiscSized.{DiscSized}
 use Rattle.rules_disc.specs.declared.DiscSized.the-variants as disc
 use Rattle.rules.specs.Tests.{Answer, Refused, Accepted, ask, firstNo, after, bind}
 use Rattle.rules.specs.Values.{Index}
-use Rattle.rules_disc.specs.Disc.{Disc, loadDisc, entryOf, entriesIn, contentsOk, bodyOf, slotArea}
+use Rattle.rules_disc.specs.Disc.{Disc, loadDisc, entryOf, entriesIn, contentsOk, bodyAt, slotArea}
 use Rattle.tables.specs.Index.{Tables, roomOf, numbersFrom, tablesFrom}
 use Rattle.sizes.specs.Sizes.{fileSizes}
 
@@ -51,7 +51,7 @@ discOutOf t u (Accepted d) =
 unfoldable pub loadDiscIn : Area → Area → List ℕ → ℕ → Tables → Tables → DiscOut
 loadDiscIn a0 a1 b limit t u = discOutOf t u (loadDisc (roomOf t) (roomOf u) a0 a1 b limit)
 
-unfoldable pub placeFrom : Option Entry → Place
+unfoldable pub placeFrom : Option Entry → SlotEntry
 placeFrom none = Absent
 placeFrom (some e) = At e
 
@@ -81,7 +81,7 @@ bothSizes x y = bind x (λ s. bind y (λ r. Accepted (record { slot0 = s; slot1 
 unfoldable pub discSizes : Area → Area → List ℕ → ℕ → Answer DiscSizes
 discSizes a0 a1 b limit =
     after (firstNo (ask (slotArea 0 a0 && slotArea 1 a1) 1 ∷ ask (contentsOk b) 54 ∷ []))
-    (bothSizes (bodySizes a0 limit (bodyOf b (entryOf 0 (entriesIn b)))) (bodySizes a1 limit (bodyOf b (entryOf 1 (entriesIn b)))))
+    (bothSizes (bodySizes a0 limit (bodyAt b (entryOf 0 (entriesIn b)))) (bodySizes a1 limit (bodyAt b (entryOf 1 (entriesIn b)))))
 
 -- ---- the answers
 unfoldable pub slotSizesOf : SlotSizes → Option TableSizes

@@ -7,7 +7,7 @@ use rules::Area;
 use rules::AreaIndex;
 use rules_disc::Contents;
 use rules_disc::Entry;
-use rules_disc::Place;
+use rules_disc::SlotEntry;
 ghost use mathlib.Core.Path.{_≡_};
 ghost use Rattle.disc_load.specs.Steps.{Inside, BodyDecision, decidedBy, Located, Decision};
 ghost use Rattle.tables.specs.Index.{tables};
@@ -33,7 +33,7 @@ pub enum Decided {
 // ---- the body of a slot
 // Its questions, 1, 20 to 38, 3; an absent one is not asked.
 fn ask_body(
-    place: Place,
+    place: SlotEntry,
     area: Area,
     bytes: &[u8],
     limit: u64,
@@ -52,8 +52,8 @@ fn ask_body(
         place r ⌝ }
 {
     match place {
-        Place::Absent => Asked::Passed(Body::Absent),
-        Place::At(e) => {
+        SlotEntry::Absent => Asked::Passed(Body::Absent),
+        SlotEntry::At(e) => {
             let from = e.offset as usize;
             let to = from + e.len as usize;
             let said = load::decide(
@@ -92,8 +92,8 @@ fn decide_by(asked: Asked, other: Asked) -> Decided
 
 // The bodies of a right contents table.
 fn decide_bodies(
-    first: Place,
-    second: Place,
+    first: SlotEntry,
+    second: SlotEntry,
     area0: Area,
     area1: Area,
     bytes: &[u8],

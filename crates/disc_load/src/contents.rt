@@ -5,7 +5,7 @@ use field::read_u32;
 use field::write_u32;
 use rules_disc::Contents;
 use rules_disc::Entry;
-use rules_disc::Place;
+use rules_disc::SlotEntry;
 ghost use mathlib.Core.Path.{_≡_};
 ghost use mathlib.Core.List.{[], _∷_, _++_};
 ghost use Prim.Native.Nat.{_+_, _≤_};
@@ -29,20 +29,20 @@ fn read_entry(bytes: &[u8], at: usize) -> Entry
 }
 
 // The entry of a slot among one, and among two.
-fn place_in_one(slot: u32, e: Entry) -> Place
+fn place_in_one(slot: u32, e: Entry) -> SlotEntry
     ensures { λ r. ⌜ r ≡ placeFrom (entryOf slot (e ∷ [])) ⌝ }
 {
     if e.slot == slot {
-        return Place::At(e);
+        return SlotEntry::At(e);
     }
-    Place::Absent
+    SlotEntry::Absent
 }
 
-fn place_in_two(slot: u32, e: Entry, f: Entry) -> Place
+fn place_in_two(slot: u32, e: Entry, f: Entry) -> SlotEntry
     ensures { λ r. ⌜ r ≡ placeFrom (entryOf slot (e ∷ f ∷ [])) ⌝ }
 {
     if e.slot == slot {
-        return Place::At(e);
+        return SlotEntry::At(e);
     }
     place_in_one(slot, f)
 }

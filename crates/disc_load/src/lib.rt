@@ -13,7 +13,7 @@ use rules_disc::Listed;
 use rules_disc::Loaded;
 ghost use mathlib.Core.Path.{_≡_};
 ghost use Rattle.tables.specs.Index.{tables};
-ghost use Rattle.disc_load.specs.Steps.{Holds, heldIn};
+ghost use Rattle.disc_load.specs.Steps.{BodyLoads, heldIn};
 ghost use Rattle.disc_load.specs.DiscLoad.{listedFrom, tablesWith, discOut, loadDiscIn};
 
 // The limited list of a body into the slot's tables, by what its questions found; an absent one leaves them.
@@ -30,7 +30,7 @@ fn commit_body(
     hints: &mut [u8],
     confirmed: &mut [u8],
 ) -> Listed
-    requires { ⌜ Holds area (now bytes) limit
+    requires { ⌜ BodyLoads area (now bytes) limit
         (tables (now checkpoints) (now frames) (now store) (now parts) (now malformed) (now hints)
         (now confirmed))
         body ⌝ }

@@ -9,7 +9,7 @@ ghost use mathlib.Core.Bool.{_&&_};
 ghost use mathlib.Core.List.{[], _∷_};
 ghost use Prim.Native.Nat.{_+_};
 ghost use lib.Dec.{eqb, leb};
-ghost use Rattle.rules_disc.specs.Disc.{entry, laid, listed, slotArea};
+ghost use Rattle.rules_disc.specs.Disc.{entry, laid, entriesOk, slotArea};
 
 // ---- the areas
 // 1 of both areas; another slot gives 1.
@@ -54,14 +54,14 @@ pub fn two_ok(e: Entry, f: Entry, size: u64) -> bool
 // ---- writing
 // 54 of one list whose file has m bytes.
 pub fn one_fits(slot: u8, m: u64) -> bool
-    ensures { λ r. ⌜ r ≡ listed 0 (entry slot 16 m ∷ []) ⌝ }
+    ensures { λ r. ⌜ r ≡ entriesOk 0 (entry slot 16 m ∷ []) ⌝ }
 {
     m <= MAX_U32
 }
 
 // 54 of two lists whose files have m and n bytes, the first before the second.
 pub fn two_fit(slot: u8, m: u64, next: u8, n: u64) -> bool
-    ensures { λ r. ⌜ r ≡ listed 0 (entry slot 28 m ∷ entry next (28 + m) n ∷ []) ⌝ }
+    ensures { λ r. ⌜ r ≡ entriesOk 0 (entry slot 28 m ∷ entry next (28 + m) n ∷ []) ⌝ }
 {
     if MAX_U32 < m {
         return false;

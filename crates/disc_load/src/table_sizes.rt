@@ -6,13 +6,13 @@ use rules::Sized;
 use rules_disc::BodySized;
 use rules_disc::Contents;
 use rules_disc::DiscSized;
-use rules_disc::Place;
+use rules_disc::SlotEntry;
 use rules_disc::SlotSizes;
 use sizes::file_sizes;
 ghost use mathlib.Core.Path.{_≡_};
 ghost use mathlib.Core.Option.{some};
 ghost use Rattle.rules.specs.Tests.{Accepted, bind};
-ghost use Rattle.rules_disc.specs.Disc.{bodyOf};
+ghost use Rattle.rules_disc.specs.Disc.{bodyAt};
 ghost use Rattle.disc_load.specs.Steps.{entryIn, Inside, bodySizedOf};
 ghost use Rattle.sizes.specs.Sizes.{sizedOf};
 ghost use Rattle.disc_load.specs.DiscLoad.{bodySizes, bothSizes, discSizes, discSizedOf};
@@ -27,13 +27,13 @@ fn body_sized(sized: Sized) -> BodySized
 }
 
 // The sizes for the body of a slot; an absent one needs none.
-fn body_sizes(place: Place, area: Area, bytes: &[u8], limit: u64) -> BodySized
+fn body_sizes(place: SlotEntry, area: Area, bytes: &[u8], limit: u64) -> BodySized
     requires { ⌜ Inside (now bytes) place ⌝ }
-    ensures { λ r. ⌜ bodySizedOf r ≡ bodySizes area limit (bodyOf (now (bytes .entry)) (entryIn place)) ⌝ }
+    ensures { λ r. ⌜ bodySizedOf r ≡ bodySizes area limit (bodyAt (now (bytes .entry)) (entryIn place)) ⌝ }
 {
     match place {
-        Place::Absent => BodySized::Passed(SlotSizes::Absent),
-        Place::At(e) => {
+        SlotEntry::Absent => BodySized::Passed(SlotSizes::Absent),
+        SlotEntry::At(e) => {
             let from = e.offset as usize;
             let to = from + e.len as usize;
             body_sized(file_sizes(area, &bytes[from..to], limit))

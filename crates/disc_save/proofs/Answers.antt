@@ -13,7 +13,7 @@ use Rattle.rules.specs.Questions.{both, fourOf, askFour}
 use Rattle.rules.specs.Values.{Index, max32}
 use Rattle.rules.specs.File.{savedLength}
 use Rattle.rules.proofs.Tests.{all→}
-use Rattle.rules_disc.specs.Disc.{entry, slotOf, contentsOf, entriesFrom, listed, bodiesLength, discLength, discBytes, saveLists, saveOne, bySlot, saveBoth}
+use Rattle.rules_disc.specs.Disc.{entry, slotOf, contentsOf, entriesFrom, entriesOk, bodiesLength, discLength, discBytes, saveLists, saveOne, bySlot, saveBoth}
 use Rattle.tables.specs.Index.{Tables, roomOf, indexIn, kindsIn, kindedNumber, refusal, lowest}
 use Rattle.index.proofs.Four.{Later, kinded-more, kinded-index, lowest-both}
 use Rattle.merge.proofs.questions.Refusal.{lowest-zero}
@@ -25,18 +25,18 @@ use Rattle.disc_save.proofs.Files.{Written}
 
 -- ---- 54 and 40
 abbrev rest : List Index → List ℕ → List Ask
-rest xs o = ask (listed 0 (contentsOf xs)) 54 ∷ ask (leb (discLength xs) (length o)) 40 ∷ []
+rest xs o = ask (entriesOk 0 (contentsOf xs)) 54 ∷ ask (leb (discLength xs) (length o)) 40 ∷ []
 
 rest-later : (xs : List Index) (o : List ℕ) → Later (rest xs o)
 unfolding each
 rest-later xs o = refl
 
 module _ (xs : List Index) (o : List ℕ) where
-  pub as-broken : {r : Bool} → r ≡ listed 0 (contentsOf xs) → r ≡ false → made (answer.Refused 54) o ≡ savedAs xs o
+  pub as-broken : {r : Bool} → r ≡ entriesOk 0 (contentsOf xs) → r ≡ false → made (answer.Refused 54) o ≡ savedAs xs o
   unfolding savedAs firstNo after saveOut
   as-broken e h = sym (rw (← e, h))
 
-  module _ {r : Bool} (e : r ≡ listed 0 (contentsOf xs)) (h : r ≡ true) {k : ℕ} (l : k ≡ discLength xs) where
+  module _ {r : Bool} (e : r ≡ entriesOk 0 (contentsOf xs)) (h : r ≡ true) {k : ℕ} (l : k ≡ discLength xs) where
     pub as-short : length o < k → made (answer.Refused 40) o ≡ savedAs xs o
     unfolding savedAs firstNo after saveOut
     as-short s = sym (rw (← e, h, ← l, lt-leb k (length o) s))
@@ -54,23 +54,23 @@ pub two-length : (x y : Index) {m n : ℕ} → m ≡ savedLength x → n ≡ sav
 unfolding discLength bodiesLength
 two-length x y l k = rw (← l, ← k) (omega arith)
 
-pub one-contents : (x : Index) {s m : ℕ} {r : Bool} → s ≡ slotOf x → m ≡ savedLength x → r ≡ listed 0 (entry s 16 m ∷ []) → r ≡ listed 0 (contentsOf (x ∷ []))
+pub one-contents : (x : Index) {s m : ℕ} {r : Bool} → s ≡ slotOf x → m ≡ savedLength x → r ≡ entriesOk 0 (entry s 16 m ∷ []) → r ≡ entriesOk 0 (contentsOf (x ∷ []))
 unfolding entriesFrom
 one-contents x z l e = e ∙ rw (z, l)
 
 pub two-contents : (x y : Index) {s t m n : ℕ} {r : Bool} → s ≡ slotOf x → t ≡ slotOf y → m ≡ savedLength x → n ≡ savedLength y
-    → r ≡ listed 0 (entry s 28 m ∷ entry t (28 + m) n ∷ []) → r ≡ listed 0 (contentsOf (x ∷ y ∷ []))
+    → r ≡ entriesOk 0 (entry s 28 m ∷ entry t (28 + m) n ∷ []) → r ≡ entriesOk 0 (contentsOf (x ∷ y ∷ []))
 unfolding entriesFrom
 two-contents x y z w l k e = e ∙ rw (z, w, l, k)
 
 -- they fit four bytes
-pub one-small : (x : Index) {m : ℕ} {r : Bool} → m ≡ savedLength x → r ≡ listed 0 (contentsOf (x ∷ [])) → r ≡ true → m ≤ max32
-unfolding listed entriesFrom
+pub one-small : (x : Index) {m : ℕ} {r : Bool} → m ≡ savedLength x → r ≡ entriesOk 0 (contentsOf (x ∷ [])) → r ≡ true → m ≤ max32
+unfolding entriesOk entriesFrom
 one-small x {m} l e h = let g = all→ _ (sym e ∙ h) in rw l (leb-true (savedLength x) max32 (g .1 .1 .0))
 
-pub two-small : (x y : Index) {m n : ℕ} {r : Bool} → m ≡ savedLength x → n ≡ savedLength y → r ≡ listed 0 (contentsOf (x ∷ y ∷ [])) → r ≡ true
+pub two-small : (x y : Index) {m n : ℕ} {r : Bool} → m ≡ savedLength x → n ≡ savedLength y → r ≡ entriesOk 0 (contentsOf (x ∷ y ∷ [])) → r ≡ true
     → (28 + m ≤ max32) × (n ≤ max32)
-unfolding listed entriesFrom
+unfolding entriesOk entriesFrom
 two-small x y l k e h =
     let g = all→ _ (sym e ∙ h) in
     let f = all→ _ (g .1 .1 .1 .0) in

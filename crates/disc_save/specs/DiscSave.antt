@@ -5,7 +5,7 @@ use mathlib.Core.List.{List, [], _∷_}
 use lib.ListN.{length}
 use lib.Dec.{eqb}
 use Rattle.rules.specs.declared.AreaIndex.{AreaIndex}
-use Rattle.rules_disc.specs.Disc.{saveOne, saveBoth, contentsOf, listed, discLength, bySlot}
+use Rattle.rules_disc.specs.Disc.{saveOne, saveBoth, contentsOf, entriesOk, discLength, bySlot}
 use Rattle.rules.specs.Values.{Index}
 use Rattle.tables.specs.Index.{Tables, roomOf, indexIn, kindsIn, kinded, refusal, lowest}
 use Rattle.save.specs.Save.{SaveOut, saveOut}
@@ -21,7 +21,7 @@ saveBothIn x t y u out =
 
 -- of lists in the order of their slots that pass 1 to 4
 unfoldable pub lengthOf : List Index → ℕ
-lengthOf xs = cond (listed 0 (contentsOf xs)) (discLength xs) 54
+lengthOf xs = cond (entriesOk 0 (contentsOf xs)) (discLength xs) 54
 
 -- n is the number of the first of questions 1 to 4 answered no, 0 for none
 unfoldable pub lengthAfter : ℕ → List Index → ℕ

@@ -22,7 +22,7 @@ use Rattle.rules.specs.Questions.{question1, question2, question4, four}
 use Rattle.rules.proofs.Tests.{and-left, and-right, asks, →after, →bind}
 use Rattle.rules.proofs.AreaIndex.{the-row}
 use Rattle.rules.proofs.Fingerprint as print
-use Rattle.tables.specs.Index.{Tables, roomOf, roomIn, indexIn, kindsIn, refusal, out, outOf}
+use Rattle.tables.specs.Index.{Tables, roomOf, roomIn, indexIn, kindsIn, refusal, madeOut, madeOutOf}
 use Rattle.rules.specs.declared.Made.the-variants as made
 use Rattle.index.specs.Steps.{Passes, heldQuestion4}
 use Rattle.tables.specs.Lent.{Typed, TableBytes}
@@ -147,9 +147,9 @@ module _ (x : AreaIndex) (t : Tables) (ls b : List ℕ) (limit : ℕ) (u : Table
 
 -- ---- the call
 module _ (x : AreaIndex) (t : Tables) (ls b : List ℕ) (limit : ℕ) (u : Tables) {s : Asked} (d : SetAsked x t ls b limit u s) where
-  pub call-refused : s .ok ≡ false → out (made.Refused (s .number)) t ≡ mergeAllIn x t ls b limit u
-  unfolding outOf
-  call-refused e = sym (ap (outOf _ t) (d .refused e))
+  pub call-refused : s .ok ≡ false → madeOut (made.Refused (s .number)) t ≡ mergeAllIn x t ls b limit u
+  unfolding madeOutOf
+  call-refused e = sym (ap (madeOutOf _ t) (d .refused e))
 
   module _ (e : s .ok ≡ true) where
     abbrev ready : Admitted x t ls b limit u s
@@ -162,6 +162,6 @@ module _ (x : AreaIndex) (t : Tables) (ls b : List ℕ) (limit : ℕ) (u : Table
     unfolding mergeAll mergeLists
     accepted = →after (four-none x t (lengthsIn ls) (passes x t (ready .own)) (ready .size)) (→bind _ (ready .files .lists) (→after (ready .pairs) refl))
 
-    pub call-done : {r : AreaIndex} {t' : Tables} → outIndex r t' ≡ turnsIn x t (listsAt (x .area) b limit s) → out (made.Index r) t' ≡ mergeAllIn x t ls b limit u
-    unfolding outOf turnsIn listsOf
+    pub call-done : {r : AreaIndex} {t' : Tables} → outIndex r t' ≡ turnsIn x t (listsAt (x .area) b limit s) → madeOut (made.Index r) t' ≡ mergeAllIn x t ls b limit u
+    unfolding madeOutOf turnsIn listsOf
     call-done q = q ∙ sym (rw (→after (ready .own) accepted, ready .files .lists))

@@ -28,7 +28,7 @@ use Rattle.drawer.specs.declared.ask.Entry.{Entry}
 use Rattle.drawer.specs.declared.ask.File.{File}
 use Rattle.drawer.specs.declared.ask.File.the-variants as file
 use Rattle.drawer.specs.declared.ask.Asked.{Asked}
-use Rattle.drawer.specs.Ask.{noFile, unasked, refusedBy, bytesAt, listAt, Holds, HoldsAt, FileAsked, Loads, FilesAsked}
+use Rattle.drawer.specs.Ask.{noFile, unasked, refusedBy, bytesAt, listAt, FileLoads, HoldsAt, FileAsked, Loads, FilesAsked}
 
 -- ---- one file
 abbrev entryOf : ℕ → ℕ → Found → AreaIndex → Entry
@@ -109,7 +109,7 @@ pub record Asking (a : Area) (ns b : List ℕ) (limit : ℕ) (u : Tables) (s : A
   pub from : at ≤ length b
   pub good : s .ok ≡ true
   pub room : length (s .entries) ≡ maxFiles
-  pub each : (j : ℕ) → j < i → Holds a b limit u (getD (s .entries) j noFile)
+  pub each : (j : ℕ) → j < i → FileLoads a b limit u (getD (s .entries) j noFile)
   pub files : loadFiles (roomOf u) a ns b limit ≡ before (map (listAt a b limit) (take i (s .entries))) (loadFiles (roomOf u) a (drop i ns) (drop at b) limit)
 
 module _ (a : Area) (ns b : List ℕ) (limit : ℕ) (u : Tables) where
@@ -147,8 +147,8 @@ module _ (a : Area) (ns b : List ℕ) (limit : ℕ) (u : Tables) where
           from = omega arith;
           good = k .good;
           room = length-set es i e ∙ k .room;
-          each = λ j g. order j i (λ o. subst (Holds a b limit u) (sym (getD-set-other es i j e noFile (λ p. omega arith))) (k .each j o)) (λ o. let f : ⊥ = omega arith in absurd f)
-              (λ o. subst (Holds a b limit u) (sym (ap (λ (v : ℕ). getD (set es i e) v noFile) o ∙ getD-set-same es i e noFile w)) (h .holds));
+          each = λ j g. order j i (λ o. subst (FileLoads a b limit u) (sym (getD-set-other es i j e noFile (λ p. omega arith))) (k .each j o)) (λ o. let f : ⊥ = omega arith in absurd f)
+              (λ o. subst (FileLoads a b limit u) (sym (ap (λ (v : ℕ). getD (set es i e) v noFile) o ∙ getD-set-same es i e noFile w)) (h .holds));
           files =
               let y = listAt a b limit e in
               let rest = loadFiles (roomOf u) a (drop (suc i) ns) (drop n (drop at b)) limit in

@@ -21,7 +21,7 @@ use Rattle.rules_drawer.specs.Drawer.{maxFiles, firstOf, pairNumber, pairsWith,
 use Rattle.rules_drawer.proofs.Pairs.{firstOf-zero, firstOf-other}
 use Rattle.drawer.specs.declared.ask.Entry.{Entry}
 use Rattle.drawer.specs.declared.ask.Asked.{Asked}
-use Rattle.drawer.specs.Ask.{noFile, entriesIn, bytesAt, listAt, listsAt, Holds, Held, checkpointsAt, Joinable, joinList, joinLists, joinPairs}
+use Rattle.drawer.specs.Ask.{noFile, entriesIn, bytesAt, listAt, listsAt, FileLoads, Held, checkpointsAt, Joinable, joinList, joinLists, joinPairs}
 use Rattle.drawer.proofs.Bytes.{file-checkpoints, own-pair, numbers-pair}
 
 -- ---- the entries from number k on
@@ -88,7 +88,7 @@ module _ (a : Area) (b : List ℕ) (limit : ℕ) (u : Tables) (by : Bytes b) whe
   entry-bytes e = bytes-take (drop (e .from) b) (e .len) (bytes-drop b (e .from) by)
 
   -- its checkpoints lie behind its header
-  entry-checkpoints : (e : Entry) → Holds a b limit u e
+  entry-checkpoints : (e : Entry) → FileLoads a b limit u e
       → records 24 decodeCheckpoint (length (listAt a b limit e .scan .checkpoints)) (checkpointsAt b e) ≡ listAt a b limit e .scan .checkpoints
   unfolding limited
   entry-checkpoints e h =
@@ -97,31 +97,31 @@ module _ (a : Area) (b : List ℕ) (limit : ℕ) (u : Tables) (by : Bytes b) whe
       let c = file-checkpoints a (bytesAt b e) (drop (e .len) (drop (e .from) b)) (listIn a (bytesAt b e)) (entry-bytes e) (k .area) (k .file) in
       subst (λ (ds : List ℕ). records 24 decodeCheckpoint (length (listIn a (bytesAt b e) .scan .checkpoints)) ds ≡ listIn a (bytesAt b e) .scan .checkpoints) p c
 
-  own-join : (x : AreaIndex) (t : Tables) (e : Entry) → Holds a b limit u e
+  own-join : (x : AreaIndex) (t : Tables) (e : Entry) → FileLoads a b limit u e
       → joinNumber x (t .checkpoints) (e .index) (checkpointsAt b e) ≡ pairNumber (indexIn x t) (listAt a b limit e)
   own-join x t e h =
       ap (λ (y : AreaIndex). joinNumber x (t .checkpoints) y (checkpointsAt b e)) (h .ready .numbers)
       ∙ own-pair x t (listAt a b limit e) (checkpointsAt b e) (entry-checkpoints e h)
 
-  two-join : (d e : Entry) → Holds a b limit u d → Holds a b limit u e
+  two-join : (d e : Entry) → FileLoads a b limit u d → FileLoads a b limit u e
       → joinNumber (d .index) (checkpointsAt b d) (e .index) (checkpointsAt b e) ≡ pairNumber (listAt a b limit d) (listAt a b limit e)
   two-join d e h k =
       (λ i. joinNumber (h .ready .numbers i) (checkpointsAt b d) (k .ready .numbers i) (checkpointsAt b e))
       ∙ numbers-pair (listAt a b limit d) (listAt a b limit e) (checkpointsAt b d) (checkpointsAt b e) (entry-checkpoints d h) (entry-checkpoints e k)
 
-  own-list : (x : AreaIndex) (t : Tables) {es : List Entry} → Each (Holds a b limit u) es
+  own-list : (x : AreaIndex) (t : Tables) {es : List Entry} → Each (FileLoads a b limit u) es
       → joinList x (t .checkpoints) es b ≡ pairsWith (indexIn x t) (map (listAt a b limit) es)
   unfolding joinList pairsWith
   own-list x t nothing = refl
   own-list x t (one {x = e} h hs) = ap₂ firstOf (own-join x t e h) (own-list x t hs)
 
-  two-list : (d : Entry) {es : List Entry} → Holds a b limit u d → Each (Holds a b limit u) es
+  two-list : (d : Entry) {es : List Entry} → FileLoads a b limit u d → Each (FileLoads a b limit u) es
       → joinList (d .index) (checkpointsAt b d) es b ≡ pairsWith (listAt a b limit d) (map (listAt a b limit) es)
   unfolding joinList pairsWith
   two-list d h nothing = refl
   two-list d h (one {x = e} k ks) = ap₂ firstOf (two-join d e h k) (two-list d h ks)
 
-  all-lists : {es : List Entry} → Each (Holds a b limit u) es → joinLists es b ≡ pairsNumber (map (listAt a b limit) es)
+  all-lists : {es : List Entry} → Each (FileLoads a b limit u) es → joinLists es b ≡ pairsNumber (map (listAt a b limit) es)
   unfolding joinLists pairsNumber
   all-lists nothing = refl
   all-lists (one {x = e} h hs) = ap₂ firstOf (two-list e h hs) (all-lists hs)
@@ -130,12 +130,12 @@ module _ (a : Area) (b : List ℕ) (limit : ℕ) (u : Tables) (by : Bytes b) whe
   each-entry [] f = nothing
   each-entry (e ∷ es) f = one (f 0 (omega arith)) (each-entry es (λ i l. f (suc i) (omega arith)))
 
-  pub each-holds : (s : Asked) → Held a b limit u s → Each (Holds a b limit u) (entriesIn s)
+  pub each-holds : (s : Asked) → Held a b limit u s → Each (FileLoads a b limit u) (entriesIn s)
   each-holds s h =
       let few = h .few in let room = h .room in
       let n = length-take-le (s .count) (s .entries) (omega arith) in
       each-entry (entriesIn s)
-      (λ i l. let m : i < s .count = omega arith in subst (Holds a b limit u) (sym (getD-take (s .count) (s .entries) i noFile m)) (h .each i m))
+      (λ i l. let m : i < s .count = omega arith in subst (FileLoads a b limit u) (sym (getD-take (s .count) (s .entries) i noFile m)) (h .each i m))
 
   -- the number that was asked is that of the lists
   pub pairs-are : (x : AreaIndex) (t : Tables) (s : Asked) → Held a b limit u s
@@ -153,7 +153,7 @@ module _ (a : Area) (b : List ℕ) (limit : ℕ) (u : Tables) (by : Bytes b) whe
         each = λ i l. let e = getD (s .entries) i noFile in lies e (h .each i l);
       }
     where
-      lies : (e : Entry) → Holds a b limit u e → (e .from + 80 ≤ length b) × (e .index .checkpoints * 24 ≤ length (checkpointsAt b e))
+      lies : (e : Entry) → FileLoads a b limit u e → (e .from + 80 ≤ length b) × (e .index .checkpoints * 24 ≤ length (checkpointsAt b e))
       lies e h =
           let i = ready-inside (entry-bytes e) (h .ready) .front in
           let f : e .found .index .checkpoints ≡ length (listIn a (bytesAt b e) .scan .checkpoints) = ap (λ (g : _). g .index .checkpoints) (h .ready .accepts .is) in

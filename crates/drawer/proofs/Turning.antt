@@ -20,19 +20,19 @@ use Rattle.laws.proofs.Facts.{facts}
 use Rattle.laws.proofs.Loaded.{loaded-valid}
 use Rattle.laws.proofs.scans.Scans.{ScanIs, scan-of, scan→}
 use Rattle.rules.specs.declared.Made.{Made}
-use Rattle.tables.specs.Index.{Tables, roomOf, roomIn, indexIn, kindsIn, kinded, numbersFrom, tablesFrom, tablesCleared, Out, out, outOf}
+use Rattle.tables.specs.Index.{Tables, roomOf, roomIn, indexIn, kindsIn, kinded, numbersFrom, tablesFrom, tablesCleared, MadeOut, madeOut, madeOutOf}
 use Rattle.index.proofs.Back.{numbers-back}
 use Rattle.index.proofs.Questions.{passes-kinds}
 use Rattle.index.proofs.Standing.{stands, stands-cleared, kinds-from, within, room-from}
 use Rattle.load.specs.Limit.{listIn, limitedIn}
-use Rattle.load.specs.Steps.{Ready}
+use Rattle.load.specs.Steps.{Loadable}
 use Rattle.merge.specs.Merge.{hintsWritten, mergeIn}
 use Rattle.merge.specs.Steps.{outIndex}
 use Rattle.rules_drawer.specs.Drawer.{pairNumber, pairsWith, pairsNumber, mergeEach}
 use Rattle.rules_drawer.proofs.Pairs.{first-of→, →first-of, mergeable→}
 use Rattle.drawer.specs.declared.ask.Entry.{Entry}
 use Rattle.drawer.specs.declared.ask.Asked.{Asked}
-use Rattle.drawer.specs.Ask.{noFile, entriesIn, bytesAt, listAt, listsAt, Holds}
+use Rattle.drawer.specs.Ask.{noFile, entriesIn, bytesAt, listAt, listsAt, FileLoads}
 use Rattle.drawer.specs.Drawer.{mergedTables}
 use Rattle.drawer.specs.Turns.{numbersAfter, Turning, turnIn, Turns, turnsIn}
 use Rattle.drawer.proofs.Passing.{merged-one, merged-two, merged-three, merged-four, merged-fits, limited-two, limited-four, limited-fits}
@@ -41,14 +41,14 @@ use Rattle.drawer.proofs.Pairing.{entry-at, entries-end}
 
 -- ---- a list that was loaded
 -- the bytes of a file, cut from the buffer by its ends
-pub commits : (a : Area) (b : List ℕ) (limit : ℕ) (u : Tables) (e : Entry) {to : ℕ} → to ≡ e .from + e .len → Holds a b limit u e
-    → Ready a (take (to - e .from) (drop (e .from) b)) limit (e .found) (e .index) u
+pub commits : (a : Area) (b : List ℕ) (limit : ℕ) (u : Tables) (e : Entry) {to : ℕ} → to ≡ e .from + e .len → FileLoads a b limit u e
+    → Loadable a (take (to - e .from) (drop (e .from) b)) limit (e .found) (e .index) u
 commits a b limit u e {to} q h =
     let z : to - e .from ≡ e .len = omega arith in
-    subst (λ (k : ℕ). Ready a (take k (drop (e .from) b)) limit (e .found) (e .index) u) (sym z) (h .ready)
+    subst (λ (k : ℕ). Loadable a (take k (drop (e .from) b)) limit (e .found) (e .index) u) (sym z) (h .ready)
 
 module _ (a : Area) (b : List ℕ) (limit : ℕ) (by : Bytes b) where
-  pub held-savable : {u : Tables} (e : Entry) → Holds a b limit u e → Savable (listAt a b limit e)
+  pub held-savable : {u : Tables} (e : Entry) → FileLoads a b limit u e → Savable (listAt a b limit e)
   unfolding question1 limited
   held-savable e h =
       let k = h .ready .accepts in
@@ -62,21 +62,21 @@ module _ (a : Area) (b : List ℕ) (limit : ℕ) (by : Bytes b) where
     list = listAt a b limit e
 
     step-is : mergeIn x t (numbersFrom list) (tablesFrom list u) ≡ turnIn x t list
-    unfolding merge kinded outOf turnIn after
+    unfolding merge kinded madeOutOf turnIn after
     step-is =
         let s = held-savable e (g .holds) in
         let r = room-from list u (within list u (facts list s) (g .holds .ready .room)) in
         rw (stands list u s, kinds-from list u s, g .kinds, r, g .merges)
 
     pub turned : {r : AreaIndex} {to : ℕ} {u' t' : Tables} {made : Made} → r ≡ numbersAfter x made → to ≡ e .from + e .len
-        → u' ≡ tablesFrom (limitedIn a (take (to - e .from) (drop (e .from) b)) limit) u → out made t' ≡ mergeIn x t (e .index) u'
+        → u' ≡ tablesFrom (limitedIn a (take (to - e .from) (drop (e .from) b)) limit) u → madeOut made t' ≡ mergeIn x t (e .index) u'
         → outIndex r t' ≡ turnIn x t list
     unfolding turnIn numbersAfter
     turned {r} {to} {u'} {t'} {made} n q w m =
         let z : to - e .from ≡ e .len = omega arith in
         let v : u' ≡ tablesFrom list u = w ∙ ap (λ (k : ℕ). tablesFrom (limitedIn a (take k (drop (e .from) b)) limit) u) z in
-        let o : out made t' ≡ turnIn x t list = m ∙ (λ i. mergeIn x t (g .holds .ready .numbers i) (v i)) ∙ step-is in
-        (λ i. outIndex (n i) t') ∙ ap (λ (o : Out). outIndex (numbersAfter x (o .answer)) (o .tables)) o
+        let o : madeOut made t' ≡ turnIn x t list = m ∙ (λ i. mergeIn x t (g .holds .ready .numbers i) (v i)) ∙ step-is in
+        (λ i. outIndex (n i) t') ∙ ap (λ (o : MadeOut). outIndex (numbersAfter x (o .answer)) (o .tables)) o
 
 -- ---- a merge that nothing refuses
 merge-none : (l m : Lengths) (x y : Index) → Savable x → question3 l x ≡ true → Savable y → question3 m y ≡ true → pairNumber x y ≡ 0 → mergeNumber l x m y ≡ 0
@@ -152,8 +152,8 @@ module _ (x0 : AreaIndex) (t0 : Tables) (ys0 : List Index) where
       pub turned-on : {x' : AreaIndex} {t' : Tables} → outIndex x' t' ≡ turnIn x t y → roomOf t' ≡ roomOf t → Turned x0 t0 ys0 x' t' ys
       unfolding turnIn numbersAfter
       turned-on {x'} {t'} e r =
-          let p : x' ≡ numbersFrom (merged own y) = ap (λ (o : Out). numbersAfter x (o .answer)) e in
-          let q : t' ≡ after-tables = ap (λ (o : Out). o .tables) e in
+          let p : x' ≡ numbersFrom (merged own y) = ap (λ (o : MadeOut). numbersAfter x (o .answer)) e in
+          let q : t' ≡ after-tables = ap (λ (o : MadeOut). o .tables) e in
           let z : roomOf after-tables ≡ roomOf t = ap roomOf (sym q) ∙ r in
           subst (λ (v : Tables). Turned x0 t0 ys0 x' v ys) (sym q) (subst (λ (v : AreaIndex). Turned x0 t0 ys0 v after-tables ys) (sym p) (turned-by z))
 
@@ -165,7 +165,7 @@ module _ (x0 : AreaIndex) (t0 : Tables) (ys0 : List Index) where
       (λ i. outIndex (sym (numbers-back x t) i) t) ∙ z
 
 -- ---- working tables of the same lengths
-pub ready-in : {a : Area} {b : List ℕ} {limit : ℕ} {e : Entry} {u u' : Tables} → roomOf u' ≡ roomOf u → Holds a b limit u e → Holds a b limit u' e
+pub ready-in : {a : Area} {b : List ℕ} {limit : ℕ} {e : Entry} {u u' : Tables} → roomOf u' ≡ roomOf u → FileLoads a b limit u e → FileLoads a b limit u' e
 ready-in r h = record { inside = h .inside; ready = record { accepts = h .ready .accepts; numbers = h .ready .numbers; room = rw r (h .ready .room) } }
 
 -- ---- over the tables
@@ -221,7 +221,7 @@ module _ (a : Area) (x0 : AreaIndex) (t0 : Tables) (s : Asked) (b : List ℕ) (l
     abbrev entry : Entry
     entry = getD (s .entries) i noFile
 
-    holds : Holds a b limit u entry
+    holds : FileLoads a b limit u entry
     holds = ready-in (kept-room (k .work)) (g .held .each i l)
 
     savable : Savable (listAt a b limit entry)

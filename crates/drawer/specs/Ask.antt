@@ -16,7 +16,7 @@ use Rattle.rules_drawer.specs.Drawer.{maxFiles, lengthsIn, question44, loadFile
 use Rattle.tables.specs.Index.{Tables, roomOf, indexIn, refusal}
 use Rattle.laws.specs.Statements.{Savable}
 use Rattle.load.specs.Limit.{limitedIn}
-use Rattle.load.specs.Steps.{Ready}
+use Rattle.load.specs.Steps.{Loadable}
 use Rattle.merge.specs.Steps.{joinNumber}
 use Rattle.drawer.specs.declared.ask.Entry.{Entry}
 use Rattle.drawer.specs.declared.ask.File.{File}
@@ -80,15 +80,15 @@ abbrev pub listsAt : Area → List ℕ → ℕ → Asked → List Index
 listsAt a b limit s = map (listAt a b limit) (entriesIn s)
 
 -- the file lies in the buffer b, was accepted, and the working tables u have room for its limited list
-pub record Holds (a : Area) (b : List ℕ) (limit : ℕ) (u : Tables) (e : Entry) : Type 0 where
+pub record FileLoads (a : Area) (b : List ℕ) (limit : ℕ) (u : Tables) (e : Entry) : Type 0 where
   pub inside : e .from + e .len ≤ length b
-  pub ready : Ready a (bytesAt b e) limit (e .found) (e .index) u
+  pub ready : Loadable a (bytesAt b e) limit (e .found) (e .index) u
 
 -- it is that of n bytes at the place at
 pub record HoldsAt (a : Area) (b : List ℕ) (at n limit : ℕ) (u : Tables) (e : Entry) : Type 0 where
   pub from : e .from ≡ at
   pub len : e .len ≡ n
-  pub holds : Holds a b limit u e
+  pub holds : FileLoads a b limit u e
 
 -- what the answer of one file says: a refused one refuses its set, whatever files lie behind it
 pub record FileAsked (a : Area) (b : List ℕ) (from len limit : ℕ) (u : Tables) (r : File) : Type 0 where
@@ -99,7 +99,7 @@ pub record FileAsked (a : Area) (b : List ℕ) (from len limit : ℕ) (u : Table
 pub record Held (a : Area) (b : List ℕ) (limit : ℕ) (u : Tables) (s : Asked) : Type 0 where
   pub few : s .count ≤ maxFiles
   pub room : length (s .entries) ≡ maxFiles
-  pub each : (i : ℕ) → i < s .count → Holds a b limit u (getD (s .entries) i noFile)
+  pub each : (i : ℕ) → i < s .count → FileLoads a b limit u (getD (s .entries) i noFile)
 
 -- the files of the lengths ns load
 pub record Loads (a : Area) (ns b : List ℕ) (limit : ℕ) (u : Tables) (s : Asked) : Type 0 where

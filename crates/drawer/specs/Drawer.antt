@@ -6,7 +6,7 @@ use Rattle.rules.specs.Tests.{Answer, Refused, Accepted, after}
 use Rattle.rules.specs.Values.{Index}
 use Rattle.rules.specs.Merge.{merged}
 use Rattle.rules_drawer.specs.Drawer.{lengthsIn, loadFiles, mergeAll}
-use Rattle.tables.specs.Index.{Tables, roomOf, indexIn, numbersFrom, refusal, tablesCleared, Out, outOf}
+use Rattle.tables.specs.Index.{Tables, roomOf, indexIn, numbersFrom, refusal, tablesCleared, MadeOut, madeOutOf}
 use Rattle.merge.specs.Merge.{hintsWritten}
 
 -- the own tables t of x after the lists ys are merged into it one after the other
@@ -21,7 +21,7 @@ listsOf (Refused n) = []
 listsOf (Accepted ys) = ys
 
 -- the answer, and the own tables t afterwards; of the working tables u nothing is said. ls are the lengths in bytes, and b has the files end to end
-abbrev pub mergeAllIn : AreaIndex → Tables → List ℕ → List ℕ → ℕ → Tables → Out
+abbrev pub mergeAllIn : AreaIndex → Tables → List ℕ → List ℕ → ℕ → Tables → MadeOut
 mergeAllIn x t ls b limit u =
-    outOf (λ z. mergedTables (indexIn x t) (listsOf (loadFiles (roomOf u) (x .area) (lengthsIn ls) b limit)) t) t
+    madeOutOf (λ z. mergedTables (indexIn x t) (listsOf (loadFiles (roomOf u) (x .area) (lengthsIn ls) b limit)) t) t
     (after (refusal x t) (mergeAll (roomOf t) (indexIn x t) (roomOf u) (lengthsIn ls) b limit))

@@ -10,14 +10,14 @@ use Rattle.rules.specs.Merge.{merged, mergeNumber}
 use Rattle.rules_drawer.specs.Drawer.{pairsNumber, mergeEach}
 use Rattle.rules.specs.declared.Made.{Made}
 use Rattle.rules.specs.declared.Made.the-variants as made
-use Rattle.tables.specs.Index.{Tables, roomOf, indexIn, kindsIn, numbersFrom, tablesCleared, Out}
+use Rattle.tables.specs.Index.{Tables, roomOf, indexIn, kindsIn, numbersFrom, tablesCleared, MadeOut}
 use Rattle.index.specs.Steps.{Passes}
 use Rattle.laws.specs.Statements.{Savable}
 use Rattle.merge.specs.Merge.{hintsWritten}
 use Rattle.merge.specs.Steps.{outIndex}
 use Rattle.drawer.specs.declared.ask.Entry.{Entry}
 use Rattle.drawer.specs.declared.ask.Asked.{Asked}
-use Rattle.drawer.specs.Ask.{listAt, listsAt, Holds, Held}
+use Rattle.drawer.specs.Ask.{listAt, listsAt, FileLoads, Held}
 use Rattle.drawer.specs.Drawer.{mergedTables}
 
 -- the numbers of the list that a call left: x where it is a refusal
@@ -28,12 +28,12 @@ numbersAfter x (made.Index y) = y
 -- ---- one list
 -- the file of the entry e loads, and nothing refuses a merge of its list into x
 pub record Turning (a : Area) (x : AreaIndex) (t : Tables) (e : Entry) (b : List ℕ) (limit : ℕ) (u : Tables) : Type 0 where
-  pub holds : Holds a b limit u e
+  pub holds : FileLoads a b limit u e
   pub kinds : kindsIn x t ≡ true
   pub merges : mergeNumber (roomOf t) (indexIn x t) (roomOf u) (listAt a b limit e) ≡ 0
 
 -- the list y merged into that of x and t
-unfoldable pub turnIn : AreaIndex → Tables → Index → Out
+unfoldable pub turnIn : AreaIndex → Tables → Index → MadeOut
 turnIn x t y =
     outIndex (numbersFrom (merged (indexIn x t) y)) (tablesCleared (hintsWritten x (numbersFrom y)) (merged (indexIn x t) y) t)
 
@@ -45,5 +45,5 @@ pub record Turns (a : Area) (x : AreaIndex) (t : Tables) (s : Asked) (b : List �
   pub pairs : pairsNumber (indexIn x t ∷ listsAt a b limit s) ≡ 0
 
 -- the lists ys merged into that of x and t
-unfoldable pub turnsIn : AreaIndex → Tables → List Index → Out
+unfoldable pub turnsIn : AreaIndex → Tables → List Index → MadeOut
 turnsIn x t ys = outIndex (numbersFrom (mergeEach (indexIn x t) ys)) (mergedTables (indexIn x t) ys t)

@@ -10,7 +10,7 @@ use rules::Area;
 use rules::AreaIndex;
 use rules::Made;
 ghost use mathlib.Core.Path.{_≡_};
-ghost use Rattle.tables.specs.Index.{tables, out};
+ghost use Rattle.tables.specs.Index.{tables, madeOut};
 ghost use Rattle.merge.specs.Steps.{outIndex};
 ghost use Rattle.drawer.specs.Ask.{listAt, listsAt};
 ghost use Rattle.drawer.specs.Drawer.{mergeAllIn};
@@ -189,7 +189,7 @@ pub fn merge_all(
     work_hints: &mut [u8],
     work_confirmed: &mut [u8],
 ) -> Made
-    ensures { λ r. ⌜ out r
+    ensures { λ r. ⌜ madeOut r
         (tables (now (checkpoints .exit)) (now (frames .exit)) (now (store .exit)) (now (parts .exit))
         (now (malformed .exit)) (now (hints .exit)) (now (confirmed .exit)))
         ≡ mergeAllIn x

@@ -23,7 +23,7 @@ pub record Placed (fs : List Field) (at i offset width : ℕ) : Type 0 where
   pub single : (width ≡ 8 → ⊥) → (width ≡ 4 → ⊥) → width ≡ 1
 
 -- the bytes b hold a header, and its field number i has w bytes
-pub record Holds (b : List ℕ) (i w : ℕ) : Type 0 where
+pub record HoldsField (b : List ℕ) (i w : ℕ) : Type 0 where
   pub long : 80 ≤ length b
   pub below : i < 19
   pub wide : entry headerFields i .width ≡ w

@@ -18,7 +18,7 @@ ghost use Rattle.field.specs.Number.{encode, put};
 ghost use Rattle.fnv.specs.Fnv.{fnvFrom, fnv64, prime64};
 ghost use Rattle.rules.specs.File.{headerFields, fieldAt, readHeader, headerValues, headerBytes};
 ghost use Rattle.rules.specs.Load.{isComplete, hasFingerprint};
-ghost use Rattle.header.specs.Place.{Placed, Holds, entry, total};
+ghost use Rattle.header.specs.Place.{Placed, HoldsField, entry, total};
 
 // Where a field lies, and how many bytes it has.
 pub struct Field {
@@ -132,7 +132,7 @@ fn read_field(body: &[u8], i: usize) -> u64
 
 // The number in field number i, of four bytes.
 fn u32_field(body: &[u8], i: usize) -> u32
-    requires { ⌜ Holds (now body) i 4 ⌝ }
+    requires { ⌜ HoldsField (now body) i 4 ⌝ }
     ensures { λ r. ⌜ r ≡ fieldAt (now (body .entry)) i ⌝ }
 {
     read_field(body, i) as u32
@@ -140,7 +140,7 @@ fn u32_field(body: &[u8], i: usize) -> u32
 
 // The number in field number i, of one byte.
 fn u8_field(body: &[u8], i: usize) -> u8
-    requires { ⌜ Holds (now body) i 1 ⌝ }
+    requires { ⌜ HoldsField (now body) i 1 ⌝ }
     ensures { λ r. ⌜ r ≡ fieldAt (now (body .entry)) i ⌝ }
 {
     read_field(body, i) as u8

@@ -32,7 +32,7 @@ unfoldable pub largestIn : Bool → Bool → List Hint → List Confirmation →
 largestIn checked any hs cs first n = largestOf (λ i. candidate checked any cs first (getD hs i noHint)) hs n
 
 -- what hint reads of the tables
-pub record Ready (x : AreaIndex) (hs cs : List ℕ) : Type 0 where
+pub record HintReads (x : AreaIndex) (hs cs : List ℕ) : Type 0 where
   pub order : x .area .start ≤ x .area .end
   pub end : x .area .end ≤ 4294967295
   pub hints : x .hints * 8 ≤ length hs

@@ -23,7 +23,7 @@ ghost use Rattle.tables.specs.Tables.{keptIn};
 ghost use Rattle.tables.specs.Index.{tables};
 ghost use Rattle.hint.specs.Hint.{namedOf, answerOf, hintIn};
 ghost use Rattle.rules_jump.specs.Names.{named, namedEnd};
-ghost use Rattle.hint.specs.Steps.{Ready, laterEnd, hintedFrom, answerIn};
+ghost use Rattle.hint.specs.Steps.{HintReads, laterEnd, hintedFrom, answerIn};
 
 // The upper end through the first of the hints from place i on that is numbered end or more, if at most 64 frames
 // past it; 0 where there is none.
@@ -109,7 +109,7 @@ fn hint_in(
     hints: &[u8],
     confirmed: &[u8],
 ) -> HintAnswer
-    requires { ⌜ Ready x (now hints) (now confirmed) ⌝ }
+    requires { ⌜ HintReads x (now hints) (now confirmed) ⌝ }
     ensures { λ r. ⌜ answerOf r ≡ answerIn x (now (hints .entry)) (now (confirmed .entry)) first end playtime ⌝ }
 {
     let area = x.area;

@@ -32,13 +32,13 @@ use Rattle.laws.proofs.Layouts.{hint-layout}
 use Rattle.tables.specs.Tables.{hintsIn}
 use Rattle.tables.specs.Index.{Tables, refusal}
 use Rattle.index.proofs.Four.{Later, kinded-index}
-use Rattle.tables.specs.HintRecorder.{lastIn, tailIn, lastFrom, tailFrom, recorderIn}
+use Rattle.tables.specs.HintRecorder.{lastIn, tailIn, lastFrom, tailFrom, hintRecorderIn}
 use Rattle.hint_recorder.specs.Steps.{tailless, emptied, Roomy, Steps, refusalOf, flushedRecord, hintSeen}
 use Rattle.rules.specs.declared.Saw.the-variants as saw
 use Rattle.rules.specs.declared.Seen.the-variants as seen
 use Rattle.rules.specs.declared.Taken.the-variants as taken
 use Rattle.rules.specs.declared.Created.the-variants as created
-use Rattle.hint_recorder.specs.HintRecorder.{out, outOf, sawOut, sawOf, seeIn, flushIn, takenOf, takeIn, createdOf, hintRecorderIn}
+use Rattle.hint_recorder.specs.HintRecorder.{seenOut, seenOutOf, sawOut, sawOutOf, seeIn, flushIn, takenFrom, takeIn, createdFrom, createdIn}
 
 last-back : (l : LastListed) → lastFrom (lastIn l) ≡ l
 unfolding lastFrom lastIn
@@ -135,51 +135,51 @@ module _ (r : HintRecorder) (t : List ℕ) (p : Roomy r t) (b : Bytes t) where
 
     pub hint-listed : {k : HintRecorder} {new : List ℕ} → q ≡ true → new ≡ sets t (r .count * 8) (encodeHint h)
         → k ≡ tailless (r .spacing) (Number (h .number)) (r .count + 1)
-        → Steps k (hintSeen (recorderIn r t) h) t new
+        → Steps k (hintSeen (hintRecorderIn r t) h) t new
     unfolding lastIn tailIn
     hint-listed z w v = rw (← both-are, z, v) (step-more r t p b (Number (h .number)) tail.Empty h (room-left z) w)
 
     pub hint-tailed : q ≡ false → Steps (record
-        { spacing = r .spacing; last = r .last; tail = tail.Hint h; count = r .count }) (hintSeen (recorderIn r t) h) t
+        { spacing = r .spacing; last = r .last; tail = tail.Hint h; count = r .count }) (hintSeen (hintRecorderIn r t) h) t
         t
     unfolding tailIn
     hint-tailed z = rw (← both-are, z) (step-none r t p b (r .last) (tail.Hint h))
 
-  pub same-step : Steps r (recorderIn r t) t t
+  pub same-step : Steps r (hintRecorderIn r t) t t
   same-step = step-none r t p b (r .last) (r .tail)
 
   pub seen-nothing : {f : First} {a : Absence} (lsn : ℕ) → f ≡ first.Nothing a
-      → Steps r (seenRecord (recorderIn r t) lsn f) t t
+      → Steps r (seenRecord (hintRecorderIn r t) lsn f) t t
   unfolding seenRecord
   seen-nothing lsn e = rw e same-step
 
   pub seen-past : {f : First} {n : TimeBytes} (lsn : ℕ) → f ≡ first.Number n → 4294967295 < lsn
-      → Steps r (seenRecord (recorderIn r t) lsn f) t t
+      → Steps r (seenRecord (hintRecorderIn r t) lsn f) t t
   unfolding seenRecord
   seen-past lsn e h = rw (e, lt-ltb 4294967295 lsn h) same-step
 
   pub seen-number : {f : First} {n : TimeBytes} {k : HintRecorder} {new : List ℕ} (lsn : ℕ) → f ≡ first.Number n
       → lsn ≤ 4294967295
-      → Steps k (hintSeen (recorderIn r t) (record { lsn = lsn; number = n .number; mark = 0 })) t new
-      → Steps k (seenRecord (recorderIn r t) lsn f) t new
+      → Steps k (hintSeen (hintRecorderIn r t) (record { lsn = lsn; number = n .number; mark = 0 })) t new
+      → Steps k (seenRecord (hintRecorderIn r t) lsn f) t new
   unfolding seenRecord
   seen-number lsn e h s = rw (e, le-ltb 4294967295 lsn h) s
 
   -- ---- flush
   pub flushed-none : {k : HintRecorder} → r .tail ≡ tail.Empty → k ≡ tailless (r .spacing) (r .last) (r .count)
-      → Steps k (flushedRecord (recorderIn r t)) t t
+      → Steps k (flushedRecord (hintRecorderIn r t)) t t
   unfolding flushedList tailIn
   flushed-none e v = rw (e, v) (step-none r t p b (r .last) tail.Empty)
 
   module _ {q : Bool} {h : Hint} (e : r .tail ≡ tail.Hint h) (g : q ≡ ltb (r .count) 65536) where
     pub flushed-full : {k : HintRecorder} → not q ≡ true → k ≡ tailless (r .spacing) (r .last) (r .count)
-        → Steps k (flushedRecord (recorderIn r t)) t t
+        → Steps k (flushedRecord (hintRecorderIn r t)) t t
     unfolding flushedList tailIn
     flushed-full l v =
         rw (e, v, records-length 8 decodeHint (r .count) t, ← g, not-true q l) (step-none r t p b (r .last) tail.Empty)
 
     pub flushed-listed : {k : HintRecorder} {new : List ℕ} → not q ≡ false → new ≡ sets t (r .count * 8) (encodeHint h)
-        → k ≡ tailless (r .spacing) (r .last) (r .count + 1) → Steps k (flushedRecord (recorderIn r t)) t new
+        → k ≡ tailless (r .spacing) (r .last) (r .count + 1) → Steps k (flushedRecord (hintRecorderIn r t)) t new
     unfolding flushedList tailIn
     flushed-listed l w v =
         rw (e, v, records-length 8 decodeHint (r .count) t, ← g, not-false q l)
@@ -188,32 +188,32 @@ module _ (r : HintRecorder) (t : List ℕ) (p : Roomy r t) (b : Bytes t) where
 -- ---- the calls
 module _ (r : HintRecorder) (t : List ℕ) {n : ℕ} (e : n ≡ refusalOf r t) where
   pub see-no : (lsn : ℕ) (sector : List ℕ) → (n ≡ 0 → ⊥) → sawOut (saw.Refused n) t ≡ seeIn r t lsn sector
-  unfolding seeIn see sawOf after refusalOf
+  unfolding seeIn see sawOutOf after refusalOf
   see-no lsn sector h = sym (rw (← e, ne-eqb n 0 h))
 
-  pub flush-no : (n ≡ 0 → ⊥) → out (seen.Refused n) t ≡ flushIn r t
-  unfolding flushIn flush outOf after refusalOf
+  pub flush-no : (n ≡ 0 → ⊥) → seenOut (seen.Refused n) t ≡ flushIn r t
+  unfolding flushIn flush seenOutOf after refusalOf
   flush-no h = sym (rw (← e, ne-eqb n 0 h))
 
   pub take-no : (n ≡ 0 → ⊥) → taken.Refused n ≡ takeIn r t
-  unfolding takeIn takeList takenOf after refusalOf
+  unfolding takeIn takeList takenFrom after refusalOf
   take-no h = sym (rw (← e, ne-eqb n 0 h))
 
   module _ (z : n ≡ 0) where
     pub see-yes : {k : HintRecorder} {new : List ℕ} {f : First} (lsn : ℕ) (sector : List ℕ) → f ≡ firstRecord sector
-        → Steps k (seenRecord (recorderIn r t) lsn f) t new
+        → Steps k (seenRecord (hintRecorderIn r t) lsn f) t new
         → sawOut (saw.Sector (record { first = f; recorder = k })) new ≡ seeIn r t lsn sector
-    unfolding seeIn see sawOf after refusalOf
+    unfolding seeIn see sawOutOf after refusalOf
     see-yes lsn sector f s = sym (rw (← e, eq-eqb n 0 z, ← f, ← (s .numbers), ← (s .list)))
 
-    pub flush-yes : {k : HintRecorder} {new : List ℕ} → Steps k (flushedRecord (recorderIn r t)) t new
-        → out (seen.Recorder k) new ≡ flushIn r t
-    unfolding flushIn flush outOf after refusalOf
+    pub flush-yes : {k : HintRecorder} {new : List ℕ} → Steps k (flushedRecord (hintRecorderIn r t)) t new
+        → seenOut (seen.Recorder k) new ≡ flushIn r t
+    unfolding flushIn flush seenOutOf after refusalOf
     flush-yes s = sym (rw (← e, eq-eqb n 0 z, ← (s .numbers), ← (s .list)))
 
     pub take-yes : {k : HintRecorder} → k ≡ emptied r
         → taken.List (record { count = r .count; recorder = k }) ≡ takeIn r t
-    unfolding takeIn takeList takenOf after refusalOf
+    unfolding takeIn takeList takenFrom after refusalOf
     take-yes w =
         sym (rw (
           w,
@@ -230,23 +230,23 @@ unfolding each
 no-later = refl
 
 module _ (x : AreaIndex) (t : Tables) {n : ℕ} (e : n ≡ refusal x t) where
-  pub created-no : (n ≡ 0 → ⊥) → created.Refused n ≡ hintRecorderIn x t
-  unfolding hintRecorderIn hintRecorder createdOf after firstNo
+  pub created-no : (n ≡ 0 → ⊥) → created.Refused n ≡ createdIn x t
+  unfolding createdIn hintRecorder createdFrom after firstNo
   created-no h = sym (rw (kinded-index x t [] no-later e _, ne-eqb n 0 h))
 
   module _ (z : n ≡ 0) where
-    pub created-unspaced : x .spacing ≡ 0 → created.Nothing ≡ hintRecorderIn x t
-    unfolding hintRecorderIn hintRecorder createdOf after firstNo
+    pub created-unspaced : x .spacing ≡ 0 → created.Nothing ≡ createdIn x t
+    unfolding createdIn hintRecorder createdFrom after firstNo
     created-unspaced h = sym (rw (kinded-index x t [] no-later e _, eq-eqb n 0 z, eq-eqb (x .spacing) 0 h))
 
-    pub created-none : (x .spacing ≡ 0 → ⊥) → x .most ≡ 0 → created.Nothing ≡ hintRecorderIn x t
-    unfolding hintRecorderIn hintRecorder createdOf after firstNo
+    pub created-none : (x .spacing ≡ 0 → ⊥) → x .most ≡ 0 → created.Nothing ≡ createdIn x t
+    unfolding createdIn hintRecorder createdFrom after firstNo
     created-none g h =
         sym (rw (kinded-index x t [] no-later e _, eq-eqb n 0 z, ne-eqb (x .spacing) 0 g, eq-eqb (x .most) 0 h))
 
     pub created-yes : (x .spacing ≡ 0 → ⊥) → (x .most ≡ 0 → ⊥)
         → created.Recorder (record { spacing = x .spacing; last = Never; tail = tail.Empty; count = 0 })
-        ≡ hintRecorderIn x t
-    unfolding hintRecorderIn hintRecorder createdOf after firstNo lastFrom tailFrom
+        ≡ createdIn x t
+    unfolding createdIn hintRecorder createdFrom after firstNo lastFrom tailFrom
     created-yes g h =
         sym (rw (kinded-index x t [] no-later e _, eq-eqb n 0 z, ne-eqb (x .spacing) 0 g, ne-eqb (x .most) 0 h))

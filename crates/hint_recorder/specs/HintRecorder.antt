@@ -21,20 +21,20 @@ use Rattle.rules.specs.File.{encodeHint, over}
 use Rattle.rules.specs.Hints.{see, flush, takeList}
 use Rattle.rules.specs.Hints as rules
 use Rattle.tables.specs.Index.{Tables, roomOf, indexIn, kindsIn, kinded}
-use Rattle.tables.specs.HintRecorder.{numbersFrom, recorderIn}
+use Rattle.tables.specs.HintRecorder.{hintRecorderFrom, hintRecorderIn}
 
 -- ---- answers, and the list's table afterwards
-pub record Out : Type 0 where
+pub record SeenOut : Type 0 where
   pub answer : Seen
   pub list : List ℕ
 
-abbrev pub out : Seen → List ℕ → Out
-out r t = record { answer = r; list = t }
+abbrev pub seenOut : Seen → List ℕ → SeenOut
+seenOut r t = record { answer = r; list = t }
 
 -- a refusal changes nothing; an accepted recorder's list is put into the table
-unfoldable pub outOf : List ℕ → Answer values.HintRecorder → Out
-outOf t (Refused n) = out (seen.Refused n) t
-outOf t (Accepted r) = out (seen.Recorder (numbersFrom r)) (over (bytesOf encodeHint (r .list)) t)
+unfoldable pub seenOutOf : List ℕ → Answer values.HintRecorder → SeenOut
+seenOutOf t (Refused n) = seenOut (seen.Refused n) t
+seenOutOf t (Accepted r) = seenOut (seen.Recorder (hintRecorderFrom r)) (over (bytesOf encodeHint (r .list)) t)
 
 -- see: what the sector says too
 pub record SawOut : Type 0 where
@@ -44,29 +44,29 @@ pub record SawOut : Type 0 where
 abbrev pub sawOut : Saw → List ℕ → SawOut
 sawOut r t = record { answer = r; list = t }
 
-unfoldable pub sawOf : List ℕ → Answer rules.SeenSector → SawOut
-sawOf t (Refused n) = sawOut (saw.Refused n) t
-sawOf t (Accepted s) =
-    sawOut (saw.Sector (record { first = s .first; recorder = numbersFrom (s .recorder) }))
+unfoldable pub sawOutOf : List ℕ → Answer rules.SeenSector → SawOut
+sawOutOf t (Refused n) = sawOut (saw.Refused n) t
+sawOutOf t (Accepted s) =
+    sawOut (saw.Sector (record { first = s .first; recorder = hintRecorderFrom (s .recorder) }))
     (over (bytesOf encodeHint (s .recorder .list)) t)
 
 unfoldable pub seeIn : HintRecorder → List ℕ → ℕ → List ℕ → SawOut
-seeIn r t lsn sector = sawOf t (see (length t / 8) (recorderIn r t) lsn sector)
+seeIn r t lsn sector = sawOutOf t (see (length t / 8) (hintRecorderIn r t) lsn sector)
 
-unfoldable pub flushIn : HintRecorder → List ℕ → Out
-flushIn r t = outOf t (flush (length t / 8) (recorderIn r t))
+unfoldable pub flushIn : HintRecorder → List ℕ → SeenOut
+flushIn r t = seenOutOf t (flush (length t / 8) (hintRecorderIn r t))
 
-unfoldable pub takenOf : Answer rules.Taken → Taken
-takenOf (Refused n) = taken.Refused n
-takenOf (Accepted k) = taken.List (record { count = length (k .list); recorder = numbersFrom (k .recorder) })
+unfoldable pub takenFrom : Answer rules.TakenHints → Taken
+takenFrom (Refused n) = taken.Refused n
+takenFrom (Accepted k) = taken.List (record { count = length (k .list); recorder = hintRecorderFrom (k .recorder) })
 
 unfoldable pub takeIn : HintRecorder → List ℕ → Taken
-takeIn r t = takenOf (takeList (length t / 8) (recorderIn r t))
+takeIn r t = takenFrom (takeList (length t / 8) (hintRecorderIn r t))
 
-unfoldable pub createdOf : Answer (Option values.HintRecorder) → Created
-createdOf (Refused n) = created.Refused n
-createdOf (Accepted none) = created.Nothing
-createdOf (Accepted (some r)) = created.Recorder (numbersFrom r)
+unfoldable pub createdFrom : Answer (Option values.HintRecorder) → Created
+createdFrom (Refused n) = created.Refused n
+createdFrom (Accepted none) = created.Nothing
+createdFrom (Accepted (some r)) = created.Recorder (hintRecorderFrom r)
 
-unfoldable pub hintRecorderIn : AreaIndex → Tables → Created
-hintRecorderIn x t = createdOf (kinded (kindsIn x t) (hintRecorder (roomOf t) (indexIn x t)))
+unfoldable pub createdIn : AreaIndex → Tables → Created
+createdIn x t = createdFrom (kinded (kindsIn x t) (hintRecorder (roomOf t) (indexIn x t)))

@@ -17,7 +17,7 @@ use Rattle.rules.specs.Values.{maxList}
 use Rattle.rules.specs.Questions.{hintRecorderFour}
 use Rattle.rules.specs.File.{encodeHint, over}
 use Rattle.rules.specs.Hints.{spaced, listed, tailed, flushedList}
-use Rattle.tables.specs.HintRecorder.{recorderIn, numbersFrom}
+use Rattle.tables.specs.HintRecorder.{hintRecorderIn, hintRecorderFrom}
 
 -- without a tail
 abbrev pub tailless : ℕ → LastListed → ℕ → HintRecorder
@@ -29,7 +29,7 @@ emptied r = record { spacing = r .spacing; last = r .last; tail = r .tail; count
 
 -- 3 and 4: the number of the first answered no, 0 for none
 unfoldable pub refusalOf : HintRecorder → List ℕ → ℕ
-refusalOf r t = firstNo (hintRecorderFour (length t / 8) (recorderIn r t) [])
+refusalOf r t = firstNo (hintRecorderFour (length t / 8) (hintRecorderIn r t) [])
 
 -- 3 and 4 hold
 pub record Roomy (r : HintRecorder) (t : List ℕ) : Type 0 where
@@ -38,7 +38,7 @@ pub record Roomy (r : HintRecorder) (t : List ℕ) : Type 0 where
 
 -- the recorder v, and its list put into the table
 pub record Steps (r : HintRecorder) (v : values.HintRecorder) (old new : List ℕ) : Type 0 where
-  pub numbers : r ≡ numbersFrom v
+  pub numbers : r ≡ hintRecorderFrom v
   pub list : new ≡ over (bytesOf encodeHint (v .list)) old
 
 -- the tail listed under the bound, and cleared

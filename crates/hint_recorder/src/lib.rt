@@ -26,8 +26,8 @@ use tables::write_given;
 ghost use mathlib.Core.Path.{_≡_};
 ghost use Rattle.rules.specs.Hints.{seenRecord};
 ghost use Rattle.tables.specs.Index.{tables};
-ghost use Rattle.tables.specs.HintRecorder.{recorderIn};
-ghost use Rattle.hint_recorder.specs.HintRecorder.{out, sawOut, seeIn, flushIn, takeIn, hintRecorderIn};
+ghost use Rattle.tables.specs.HintRecorder.{hintRecorderIn};
+ghost use Rattle.hint_recorder.specs.HintRecorder.{seenOut, sawOut, seeIn, flushIn, takeIn, createdIn};
 ghost use Rattle.hint_recorder.specs.Steps.{refusalOf, Roomy, Steps, flushedRecord, hintSeen};
 
 // Questions 3 and 4 of a hint recorder: the number of the first answered no, 0 for none.
@@ -46,7 +46,7 @@ fn refuses(r: HintRecorder, list: &[u8]) -> u32
 // A hint listed, under the bound, or made the tail.
 fn list_or_keep(r: HintRecorder, h: Hint, list: &mut [u8]) -> HintRecorder
     requires { ⌜ Roomy r (now list) ⌝ }
-    ensures { λ q. ⌜ Steps q (hintSeen (recorderIn r (now (list .entry))) h) (now (list .entry)) (now (list .exit)) ⌝ }
+    ensures { λ q. ⌜ Steps q (hintSeen (hintRecorderIn r (now (list .entry))) h) (now (list .entry)) (now (list .exit)) ⌝ }
 {
     let last = r.last;
     if and(is_spaced(last, r.spacing, h.number), has_room(r.count)) {
@@ -71,7 +71,7 @@ impl Step {
     fn seen(self, lsn: u64, first: First, list: &mut [u8]) -> Step
         requires { ⌜ Roomy (self .recorder) (now list) ⌝ }
         ensures { λ r. ⌜
-            Steps (r .recorder) (seenRecord (recorderIn (self .recorder) (now (list .entry))) lsn first)
+            Steps (r .recorder) (seenRecord (hintRecorderIn (self .recorder) (now (list .entry))) lsn first)
             (now (list .entry)) (now (list .exit)) ⌝ }
     {
         let First::Number(t) = first else {
@@ -110,7 +110,7 @@ pub fn see(r: HintRecorder, lsn: u64, sector: &[u8], list: &mut [u8]) -> Saw
 fn flushed(r: HintRecorder, list: &mut [u8]) -> HintRecorder
     requires { ⌜ Roomy r (now list) ⌝ }
     ensures { λ q. ⌜
-        Steps q (flushedRecord (recorderIn r (now (list .entry)))) (now (list .entry)) (now (list .exit)) ⌝ }
+        Steps q (flushedRecord (hintRecorderIn r (now (list .entry)))) (now (list .entry)) (now (list .exit)) ⌝ }
 {
     let last = r.last;
     let tail = r.tail;
@@ -125,7 +125,7 @@ fn flushed(r: HintRecorder, list: &mut [u8]) -> HintRecorder
 }
 
 pub fn flush(r: HintRecorder, list: &mut [u8]) -> Seen
-    ensures { λ q. ⌜ out q (now (list .exit)) ≡ flushIn r (now (list .entry)) ⌝ }
+    ensures { λ q. ⌜ seenOut q (now (list .exit)) ≡ flushIn r (now (list .entry)) ⌝ }
 {
     let number = refuses(r, list);
     if number != 0 {
@@ -160,7 +160,7 @@ pub fn hint_recorder(
     confirmed: &[u8],
 ) -> Created
     ensures { λ r. ⌜
-        r ≡ hintRecorderIn x (tables (now (checkpoints .entry)) (now (frames .entry)) (now (store .entry))
+        r ≡ createdIn x (tables (now (checkpoints .entry)) (now (frames .entry)) (now (store .entry))
         (now (parts .entry)) (now (malformed .entry)) (now (hints .entry)) (now (confirmed .entry))) ⌝ }
 {
     let number = index::refuses(

@@ -24,7 +24,7 @@ use Rattle.rules.specs.File.{decodeHeld, decodeLsn}
 use Rattle.rules.specs.Load.{Read, read, readEach, readRecord, readFrame, readFrames, readParts, readHintSection, readConfirmedSection, HintSection, hintNumber, confirmedNumber}
 use Rattle.rules.proofs.Tests.{test, asked→, accepted-eq, bind→, numberOf-accepted}
 use Rattle.tables.specs.Tables.{partsIn, lsnsIn}
-use Rattle.tables.specs.Files.{frameNext, placeAt, framesRead, listed}
+use Rattle.tables.specs.Files.{frameNext, placeAt, framesRead, eachRead}
 use Rattle.tables.proofs.Reading.{Steady, read-each, steady-record, steady-part, steady-frame, listed-records}
 use Rattle.tables.proofs.Files.{place-first, place-shift, place-inside}
 use Rattle.inspect.specs.declared.cursor.Cursor.{Cursor}
@@ -116,7 +116,7 @@ frames-behind a budget (suc f) s b at t l e =
 
 -- the bytes of frames
 used-is : (f : ℕ) (b : List ℕ) (at : ℕ) → placeAt b at f ≤ length b → at + f * 8 + used (framesRead f (drop at b)) ≡ placeAt b at f
-unfolding used listed
+unfolding used eachRead
 used-is zero b at l = omega (arith, place-first b at, zero-mul 8)
 used-is (suc f) b at l =
     let m = numberAt 4 b (at + 4) in

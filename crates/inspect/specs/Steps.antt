@@ -51,7 +51,7 @@ partRule a h checkpoints frames begins last p =
     partOk a (h .interval) 0 (checkpointsIn (h .checkpoints) checkpoints) (framesRead (h .frames) frames) (before begins (last .part)) p
 
 -- the checkpoints and the frames of a header are there
-pub record Ready (a : Area) (h : Header) (checkpoints frames : List ℕ) : Type 0 where
+pub record HeaderReads (a : Area) (h : Header) (checkpoints frames : List ℕ) : Type 0 where
   pub small : a .start ≤ 4294967295
   pub table : h .checkpoints * 24 ≤ length checkpoints
   pub inside : placeAt frames 0 (h .frames) ≤ length frames

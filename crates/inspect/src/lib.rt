@@ -47,7 +47,7 @@ ghost use Rattle.rules.specs.Questions.{areaOk};
 ghost use Rattle.rules.specs.Load.{hasFingerprint, endNumber};
 ghost use Rattle.tables.specs.Tables.{checkpointsIn, partsIn};
 ghost use Rattle.tables.specs.Files.{framesRead};
-ghost use Rattle.inspect.specs.Steps.{Ready};
+ghost use Rattle.inspect.specs.Steps.{HeaderReads};
 ghost use Rattle.inspect.specs.Inspect.{inspection};
 ghost use Rattle.inspect.specs.Tails.{foundBy, usedBy, answered, fromConfirmed, fromHints, fromMalformed, fromEnd, fromParts, fromFrames, fromCheckpoints, fromBody};
 
@@ -191,7 +191,7 @@ fn inspect_held(
     body: &[u8],
     c: Cursor,
 ) -> Inspected
-    requires { ⌜ (areaOk area ≡ true) × (Ready area h (now checkpoints) (now frames)) × (used ≡ usedBy h (now frames)) × (c .at ≤ length (now body)) ⌝ }
+    requires { ⌜ (areaOk area ≡ true) × (HeaderReads area h (now checkpoints) (now frames)) × (used ≡ usedBy h (now frames)) × (c .at ≤ length (now body)) ⌝ }
     ensures { λ r. ⌜ r ≡ answered (fromParts area h (checkpointsIn (h .checkpoints) (now (checkpoints .entry))) (framesRead (h .frames) (now (frames .entry))) (drop (c .at) (now (body .entry)))) ⌝ }
 {
     match inspect_parts(c, body, area, h, checkpoints, frames) {

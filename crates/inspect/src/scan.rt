@@ -23,7 +23,7 @@ ghost use Rattle.field.specs.Number.{numberAt};
 ghost use Rattle.rules.specs.Load.{readFrame, readPart, readFrames, readParts};
 ghost use Rattle.tables.specs.Tables.{checkpointsIn, filledTo, before};
 ghost use Rattle.tables.specs.Files.{framesRead};
-ghost use Rattle.inspect.specs.Steps.{takenOf, readLsns, oneFrame, onePart, placedIf, partRule, Ready, LastAt};
+ghost use Rattle.inspect.specs.Steps.{takenOf, readLsns, oneFrame, onePart, placedIf, partRule, HeaderReads, LastAt};
 
 // The refusal, or the cursor behind a section.
 pub enum Taken {
@@ -117,7 +117,7 @@ fn place_part(
     p: Held,
     c: Cursor,
 ) -> OnePart
-    requires { ⌜ (Ready area h (now checkpoints) (now frames)) × (LastAt (now frames) begins last) ⌝ }
+    requires { ⌜ (HeaderReads area h (now checkpoints) (now frames)) × (LastAt (now frames) begins last) ⌝ }
     ensures { λ r. ⌜ r ≡ placedIf (now (frames .entry)) p c (partRule area h (now (checkpoints .entry)) (now (frames .entry)) begins last p) ⌝ }
 {
     let q = last.part;
@@ -144,7 +144,7 @@ fn inspect_part(
     begins: bool,
     last: Placed,
 ) -> OnePart
-    requires { ⌜ (Ready area h (now checkpoints) (now frames)) × (LastAt (now frames) begins last) ⌝ }
+    requires { ⌜ (HeaderReads area h (now checkpoints) (now frames)) × (LastAt (now frames) begins last) ⌝ }
     ensures { λ r. ⌜ r ≡ onePart (now (body .entry)) (now (frames .entry)) (readPart area (h .interval) (checkpointsIn (h .checkpoints) (now (checkpoints .entry))) (framesRead (h .frames) (now (frames .entry))) (before begins (last .part)) (drop (c .at) (now (body .entry)))) ⌝ }
 {
     match c.held(body) {
@@ -162,7 +162,7 @@ pub fn inspect_parts(
     checkpoints: &[u8],
     frames: &[u8],
 ) -> Taken
-    requires { ⌜ (Ready area h (now checkpoints) (now frames)) × (c .at ≤ length (now body)) ⌝ }
+    requires { ⌜ (HeaderReads area h (now checkpoints) (now frames)) × (c .at ≤ length (now body)) ⌝ }
     ensures { λ r. ⌜ r ≡ takenOf (now (body .entry)) (readParts area h (checkpointsIn (h .checkpoints) (now (checkpoints .entry))) (framesRead (h .frames) (now (frames .entry))) (drop (c .at) (now (body .entry)))) ⌝ }
 {
     let n = h.parts as usize;

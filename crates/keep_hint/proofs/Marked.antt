@@ -22,7 +22,7 @@ use Rattle.rules.proofs.Tests.{and-left}
 use Rattle.tables.specs.Tables.{encodeKept, decodeKept, keptIn}
 use Rattle.tables.proofs.Kept.{KeptFits, kept-layout}
 use Rattle.rules.specs.declared.Made.the-variants as made
-use Rattle.tables.specs.Index.{Tables, indexIn, roomOf, kindsIn, kinded, refusal, numbersFrom, outOf, out}
+use Rattle.tables.specs.Index.{Tables, indexIn, roomOf, kindsIn, kinded, refusal, numbersFrom, madeOutOf, madeOut}
 use Rattle.index.specs.Steps.{Passes}
 use Rattle.tables.specs.Lent.{TableBytes}
 use Rattle.index.proofs.Four.{Later, kinded-index}
@@ -74,8 +74,8 @@ module _ (x : AreaIndex) (t : Tables) (lsn : ℕ) {n : ℕ} (e : n ≡ refusal x
   unfolding keepHint
   keep-is = kinded-index x t (ask (question53 (indexIn x t .hinting) lsn) 53 ∷ []) later e _
 
-  pub keep-no : (n ≡ 0 → ⊥) → out (made.Refused n) t ≡ keepHintIn x t lsn
-  unfolding keepHintIn outOf after
+  pub keep-no : (n ≡ 0 → ⊥) → madeOut (made.Refused n) t ≡ keepHintIn x t lsn
+  unfolding keepHintIn madeOutOf after
   keep-no h = sym (rw (keep-is, ne-eqb n 0 h))
 
   -- the numbers stay
@@ -89,8 +89,8 @@ module _ (x : AreaIndex) (t : Tables) (lsn : ℕ) {n : ℕ} (e : n ≡ refusal x
     unfolding question53 mayKeep
     asked = g ∙ rw p
 
-    pub keep-53 : not q ≡ true → out (made.Refused 53) t ≡ keepHintIn x t lsn
-    unfolding keepHintIn outOf after firstNo
+    pub keep-53 : not q ≡ true → madeOut (made.Refused 53) t ≡ keepHintIn x t lsn
+    unfolding keepHintIn madeOutOf after firstNo
     keep-53 h = sym (rw (keep-is, eq-eqb n 0 z, ← asked, not-true q h))
 
     pub place-within : not q ≡ false → i < x .hints
@@ -108,8 +108,8 @@ module _ (x : AreaIndex) (t : Tables) (lsn : ℕ) {n : ℕ} (e : n ≡ refusal x
 
     pub keep-yes : {hs : List ℕ} → not q ≡ false → TableBytes t
         → hs ≡ sets (t .hints) (i * 8) (encodeKept (keptHint (recordAt 8 decodeKept (t .hints) i)))
-        → out (made.Index x) (withHintTable t hs) ≡ keepHintIn x t lsn
-    unfolding keepHintIn outOf after firstNo bytesOf withMark
+        → madeOut (made.Index x) (withHintTable t hs) ≡ keepHintIn x t lsn
+    unfolding keepHintIn madeOutOf after firstNo bytesOf withMark
     keep-yes {hs} h b d =
         let k = passes x t (sym e ∙ z) in
         sym (rw (

@@ -15,7 +15,7 @@ ghost use Rattle.field.specs.Records.{recordAt};
 ghost use Rattle.rules.specs.Sections.{isKept, keptCount};
 ghost use Rattle.rules.specs.Hints.{placeOf, keptHint};
 ghost use Rattle.tables.specs.Tables.{encodeKept, decodeKept, keptIn};
-ghost use Rattle.tables.specs.Index.{tables, out};
+ghost use Rattle.tables.specs.Index.{tables, madeOut};
 ghost use Rattle.keep_hint.specs.Steps.{mayKeep};
 ghost use Rattle.keep_hint.specs.KeepHint.{keepHintIn};
 
@@ -99,7 +99,7 @@ pub fn keep_hint(
     confirmed: &[u8],
 ) -> Made
     ensures { λ r. ⌜
-        out r (tables (now (checkpoints .entry)) (now (frames .entry)) (now (store .entry)) (now (parts .entry))
+        madeOut r (tables (now (checkpoints .entry)) (now (frames .entry)) (now (store .entry)) (now (parts .entry))
         (now (malformed .entry)) (now (hints .exit)) (now (confirmed .entry)))
         ≡ keepHintIn x (tables (now (checkpoints .entry)) (now (frames .entry)) (now (store .entry))
         (now (parts .entry)) (now (malformed .entry)) (now (hints .entry)) (now (confirmed .entry))) lsn ⌝ }

@@ -14,7 +14,7 @@ use Rattle.rules.specs.Load.{fromBytes, limited, load}
 use Rattle.rules.proofs.Tests.{→bind}
 use Rattle.laws.proofs.Loaded.{loaded-valid}
 use Rattle.rules.specs.declared.Made.the-variants as made
-use Rattle.tables.specs.Index.{Tables, roomOf, roomIn, numbersFrom, tablesFrom, out, outOf}
+use Rattle.tables.specs.Index.{Tables, roomOf, roomIn, numbersFrom, tablesFrom, madeOut, madeOutOf}
 use Rattle.inspect.specs.declared.Found.{Found}
 use Rattle.inspect.specs.declared.Inspected.the-variants as inspected
 use Rattle.inspect.specs.Inspect.{foundIn, inspectionOf, inspection}
@@ -22,7 +22,7 @@ use Rattle.load.specs.Limit.{listOf, listIn, limitedIn, Accepts}
 use Rattle.load.specs.declared.Decided.{Decided}
 use Rattle.load.specs.declared.Decided.the-variants as decided
 use Rattle.load.specs.Load.{loadIn}
-use Rattle.load.specs.Steps.{Ready, Decision}
+use Rattle.load.specs.Steps.{Loadable, Decision}
 
 -- ---- what inspecting says of the file
 refused-is : (b : List ℕ) (n : ℕ) (r : Answer Index) → inspected.Refused n ≡ inspectionOf b r → r ≡ Refused n
@@ -82,15 +82,15 @@ module _ {a : Area} {b : List ℕ} (limit : ℕ) (t : Tables) where
         }
 
   -- ---- what is answered
-  pub answer-refused : {r : Decided} {n : ℕ} → Decision a b limit t r → r ≡ decided.Refused n → out (made.Refused n) t ≡ loadIn a b limit t
-  unfolding outOf
+  pub answer-refused : {r : Decided} {n : ℕ} → Decision a b limit t r → r ≡ decided.Refused n → madeOut (made.Refused n) t ≡ loadIn a b limit t
+  unfolding madeOutOf
   answer-refused {r} {n} d e = rw (d .refused n e)
 
-  pub ready-loads : {found : Found} {y : AreaIndex} → Ready a b limit found y t → load (roomOf t) a b limit ≡ Accepted (limitedIn a b limit)
+  pub ready-loads : {found : Found} {y : AreaIndex} → Loadable a b limit found y t → load (roomOf t) a b limit ≡ Accepted (limitedIn a b limit)
   unfolding load firstNo after
   ready-loads w = rw (w .accepts .area) (→bind _ (w .accepts .file) (rw (w .room)))
 
-  pub answer-ready : {found : Found} {y : AreaIndex} {t' : Tables} → Ready a b limit found y t → t' ≡ tablesFrom (limitedIn a b limit) t
-      → out (made.Index y) t' ≡ loadIn a b limit t
-  unfolding outOf
+  pub answer-ready : {found : Found} {y : AreaIndex} {t' : Tables} → Loadable a b limit found y t → t' ≡ tablesFrom (limitedIn a b limit) t
+      → madeOut (made.Index y) t' ≡ loadIn a b limit t
+  unfolding madeOutOf
   answer-ready w h = rw (ready-loads w, h, w .numbers)

@@ -15,7 +15,7 @@ use Rattle.load.specs.declared.Decided.{Decided}
 use Rattle.load.specs.declared.Decided.the-variants as decided
 
 -- the file was accepted, and the tables have room for the limited list, whose numbers are y
-pub record Ready (a : Area) (b : List ℕ) (limit : ℕ) (found : Found) (y : AreaIndex) (t : Tables) : Type 0 where
+pub record Loadable (a : Area) (b : List ℕ) (limit : ℕ) (found : Found) (y : AreaIndex) (t : Tables) : Type 0 where
   pub accepts : Accepts a b found
   pub numbers : y ≡ numbersFrom (limitedIn a b limit)
   pub room : question3 (roomOf t) (limitedIn a b limit) ≡ true
@@ -23,4 +23,4 @@ pub record Ready (a : Area) (b : List ℕ) (limit : ℕ) (found : Found) (y : Ar
 -- what the answer of the questions says
 pub record Decision (a : Area) (b : List ℕ) (limit : ℕ) (t : Tables) (r : Decided) : Type 0 where
   pub refused : (n : ℕ) → r ≡ decided.Refused n → load (roomOf t) a b limit ≡ Refused n
-  pub ready : (found : Found) (y : AreaIndex) → r ≡ decided.Ready found y → Ready a b limit found y t
+  pub ready : (found : Found) (y : AreaIndex) → r ≡ decided.Ready found y → Loadable a b limit found y t

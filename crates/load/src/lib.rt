@@ -28,10 +28,10 @@ ghost use Rattle.rules.specs.File.{encodeFrameHeader, over};
 ghost use Rattle.rules.specs.Hints.{thin};
 ghost use Rattle.tables.specs.Tables.{encodeKept, keptIn};
 ghost use Rattle.tables.specs.Files.{placeAt, framesRead};
-ghost use Rattle.tables.specs.Index.{tables, storeOf, tablesFrom, out};
+ghost use Rattle.tables.specs.Index.{tables, storeOf, tablesFrom, madeOut};
 ghost use Rattle.load.specs.Limit.{Accepts, limitedIn, lengthHere, Moved};
 ghost use Rattle.load.specs.Load.{loadIn};
-ghost use Rattle.load.specs.Steps.{Ready, Decision};
+ghost use Rattle.load.specs.Steps.{Loadable, Decision};
 
 // The refusal number, or what a file says with the numbers of its limited list, for which there is room.
 pub enum Decided {
@@ -105,7 +105,7 @@ pub fn commit(
     hints: &mut [u8],
     confirmed: &mut [u8],
 )
-    requires { ⌜ Ready area (now bytes) limit found y (tables (now checkpoints) (now frames) (now store) (now parts) (now malformed) (now hints) (now confirmed)) ⌝ }
+    requires { ⌜ Loadable area (now bytes) limit found y (tables (now checkpoints) (now frames) (now store) (now parts) (now malformed) (now hints) (now confirmed)) ⌝ }
     ensures { λ _. ⌜ tables (now (checkpoints .exit)) (now (frames .exit)) (now (store .exit)) (now (parts .exit)) (now (malformed .exit)) (now (hints .exit)) (now (confirmed .exit)) ≡ tablesFrom (limitedIn area (now (bytes .entry)) limit) (tables (now (checkpoints .entry)) (now (frames .entry)) (now (store .entry)) (now (parts .entry)) (now (malformed .entry)) (now (hints .entry)) (now (confirmed .entry))) ⌝ }
 {
     let x = found.index;
@@ -216,7 +216,7 @@ pub fn from_bytes(
     hints: &mut [u8],
     confirmed: &mut [u8],
 ) -> Made
-    ensures { λ r. ⌜ out r (tables (now (checkpoints .exit)) (now (frames .exit)) (now (store .exit)) (now (parts .exit)) (now (malformed .exit)) (now (hints .exit)) (now (confirmed .exit))) ≡ loadIn area (now (bytes .entry)) limit (tables (now (checkpoints .entry)) (now (frames .entry)) (now (store .entry)) (now (parts .entry)) (now (malformed .entry)) (now (hints .entry)) (now (confirmed .entry))) ⌝ }
+    ensures { λ r. ⌜ madeOut r (tables (now (checkpoints .exit)) (now (frames .exit)) (now (store .exit)) (now (parts .exit)) (now (malformed .exit)) (now (hints .exit)) (now (confirmed .exit))) ≡ loadIn area (now (bytes .entry)) limit (tables (now (checkpoints .entry)) (now (frames .entry)) (now (store .entry)) (now (parts .entry)) (now (malformed .entry)) (now (hints .entry)) (now (confirmed .entry))) ⌝ }
 {
     let decided = decide(
         area,

@@ -22,14 +22,14 @@ use Rattle.rules.proofs.Tests.{test}
 use Rattle.laws.specs.Passes.{Begins}
 use Rattle.laws.proofs.Layouts.{confirmation-layout}
 use Rattle.tables.specs.Tables.{checkpointsIn, partsIn, encodeKept, confirmationsIn}
-use Rattle.tables.specs.Index.{Tables, tables, indexIn, storeOf, numbersFrom, tablesCleared, Out, out, outOf, endIn, endFrom, idFrom}
+use Rattle.tables.specs.Index.{Tables, tables, indexIn, storeOf, numbersFrom, tablesCleared, MadeOut, madeOut, madeOutOf, endIn, endFrom, idFrom}
 use Rattle.rules.specs.declared.Made.the-variants as made
 use Rattle.merge.specs.Merge.{mergeRefusal, furtherIn, hintsWritten, mergeIn}
 use Rattle.merge.proofs.questions.Refusal.{further-is, asked-after}
 use Rattle.parts.specs.declared.Counts.{Counts}
 use Rattle.parts.specs.Parts.{partTables, storedIn, Held, held, heldFrom}
 use Rattle.merge.specs.Numbers.{numbersBy}
-use Rattle.merge.specs.Steps.{Appended, Taken, partsTaken, Listed, listed, clearedUpTo, hintsJoined, outIndex, mergedIn}
+use Rattle.merge.specs.Steps.{Appended, LsnsTaken, partsTaken, CountedTable, countedTable, clearedUpTo, hintsJoined, outIndex, mergedIn}
 
 -- ---- answer and tables
 ends : {r r' : AreaIndex} {a a' b b' c c' d d' e e' f f' g g' : List ℕ} → r ≡ r' → a ≡ a' → b ≡ b' → c ≡ c' → d ≡ d' → e ≡ e' → f ≡ f' → g ≡ g'
@@ -98,8 +98,8 @@ module _ (x y : AreaIndex) (t u : Tables) {go : Bool} (g : go ≡ furtherIn x y)
       (ek : k ≡ cond go (y .checkpoints) 0) (eh : h ≡ cond go (y .parts) 0)
       (p1 : Appended (x .checkpoints) k (x .checkpoints) (t .checkpoints) (u .checkpoints) n cs)
       (p2 : held c (partTables fs st ps) ≡ partsTaken x (y .frames) h (partTables (t .frames) (t .store) (t .parts)) (partTables (u .frames) (u .store) (u .parts)))
-      (p3 : Taken go (x .malformed) (y .malformed) (t .malformed) (u .malformed) m ms)
-      (p4 : listed s hs ≡ hintsJoined (x .area) (x .most) (x .hints) (y .hints) (t .hints) (u .hints))
+      (p3 : LsnsTaken go (x .malformed) (y .malformed) (t .malformed) (u .malformed) m ms)
+      (p4 : countedTable s hs ≡ hintsJoined (x .area) (x .most) (x .hints) (y .hints) (t .hints) (u .hints))
       (p5 : Begins 16 encodeConfirmation (keepAll (isChecked (x .fingerprint)) (x .most) (confirmationsIn (x .confirmed) (t .confirmed)) (confirmationsIn (y .confirmed) (u .confirmed))) d (t .confirmed) ks)
       (p6 : r ≡ numbersBy x y go n c m s d) where
     abbrev after-index : Index
@@ -108,7 +108,7 @@ module _ (x y : AreaIndex) (t u : Tables) {go : Bool} (g : go ≡ furtherIn x y)
     parts-done : held c (partTables fs st ps) ≡ heldFrom after-stored (partTables (t .frames) (t .store) (t .parts))
     parts-done = p2 ∙ rw (stored-are eh)
 
-    hints-here : listed s hs ≡ clearedUpTo (hintsWritten x y) (after-index .hinting .hints) (t .hints)
+    hints-here : countedTable s hs ≡ clearedUpTo (hintsWritten x y) (after-index .hinting .hints) (t .hints)
     unfolding hintsJoined hintsWritten merged
     hints-here = p4
 
@@ -130,7 +130,7 @@ module _ (x y : AreaIndex) (t u : Tables) {go : Bool} (g : go ≡ furtherIn x y)
         let e4 : c .frames ≡ length (after-scan .frames) = ap (λ (h : Held). h .counts .frames) parts-done in
         let e5 : c .parts ≡ length (after-scan .parts) = ap (λ (h : Held). h .counts .parts) parts-done in
         let e6 : m ≡ length (after-scan .malformed) = p3 .count ∙ ap length malformed-are in
-        let e7 : s ≡ length (after-index .hinting .hints) = ap (λ (h : Listed). h .count) hints-here in
+        let e7 : s ≡ length (after-index .hinting .hints) = ap (λ (h : CountedTable). h .count) hints-here in
         let e8 = confirmed-count in
         let e9 = ending-is in
         p6 ∙ (λ i. record {
@@ -160,20 +160,20 @@ module _ (x y : AreaIndex) (t u : Tables) {go : Bool} (g : go ≡ furtherIn x y)
         let e3 : ps ≡ over (bytesOf encodeHeld (after-scan .parts)) (t .parts) = ap (λ (h : Held). h .tables .parts) parts-done in
         let e4 : ms ≡ over (bytesOf encodeLsn (after-scan .malformed)) (t .malformed) = p3 .bytes ∙ rw malformed-are in
         let e5 : hs ≡ over (bytesOf encodeKept (after-index .hinting .hints) ++ replicate ((hintsWritten x y - length (after-index .hinting .hints)) * 8) 0) (t .hints) =
-        ap (λ (h : Listed). h .table) hints-here in
+        ap (λ (h : CountedTable). h .table) hints-here in
         let e6 = confirmed-bytes in
         ends q e0 e1 e2 e3 e4 e5 e6
 
 -- ---- the call
 module _ (x : AreaIndex) (t : Tables) (y : AreaIndex) (u : Tables) {n : ℕ} (e : n ≡ mergeRefusal x t y u) where
-  call-is : mergeIn x t y u ≡ outOf (λ z. tablesCleared (hintsWritten x y) z t) t (after n (Accepted (merged (indexIn x t) (indexIn y u))))
+  call-is : mergeIn x t y u ≡ madeOutOf (λ z. tablesCleared (hintsWritten x y) z t) t (after n (Accepted (merged (indexIn x t) (indexIn y u))))
   unfolding merge
-  call-is = ap (outOf (λ z. tablesCleared (hintsWritten x y) z t) t) (asked-after x t y u (merged (indexIn x t) (indexIn y u)) e)
+  call-is = ap (madeOutOf (λ z. tablesCleared (hintsWritten x y) z t) t) (asked-after x t y u (merged (indexIn x t) (indexIn y u)) e)
 
-  pub merge-refused : (n ≡ 0 → ⊥) → out (made.Refused n) t ≡ mergeIn x t y u
-  unfolding after outOf
+  pub merge-refused : (n ≡ 0 → ⊥) → madeOut (made.Refused n) t ≡ mergeIn x t y u
+  unfolding after madeOutOf
   merge-refused h = sym (call-is ∙ rw (ne-eqb n 0 h))
 
-  pub merge-done : {o : Out} → n ≡ 0 → o ≡ mergedIn x t y u → o ≡ mergeIn x t y u
-  unfolding after outOf mergedIn
+  pub merge-done : {o : MadeOut} → n ≡ 0 → o ≡ mergedIn x t y u → o ≡ mergeIn x t y u
+  unfolding after madeOutOf mergedIn
   merge-done h q = q ∙ sym (call-is ∙ rw (eq-eqb n 0 h))

@@ -5,16 +5,16 @@ use lib.Dec.{eqb, ltb}
 use Rattle.rules.specs.declared.AreaIndex.{AreaIndex}
 use Rattle.rules.specs.Merge.{merge, mergeNumber}
 use Rattle.rules.specs.Tests.{isSome}
-use Rattle.tables.specs.Index.{Tables, roomOf, indexIn, kindsIn, kinded, tablesCleared, Out, outOf, endIn, kindedNumber}
+use Rattle.tables.specs.Index.{Tables, roomOf, indexIn, kindsIn, kinded, tablesCleared, MadeOut, madeOutOf, endIn, kindedNumber}
 
 -- up to which record number the hint table is written: both lists' hints, before they are thinned; at M = 0 the own ones stay
 unfoldable pub hintsWritten : AreaIndex → AreaIndex → ℕ
 hintsWritten x y = cond (eqb (x .most) 0) (x .hints) (x .hints + y .hints)
 
 -- the answer, and the own tables afterwards
-abbrev pub mergeIn : AreaIndex → Tables → AreaIndex → Tables → Out
+abbrev pub mergeIn : AreaIndex → Tables → AreaIndex → Tables → MadeOut
 mergeIn x t y u =
-    outOf (λ z. tablesCleared (hintsWritten x y) z t) t
+    madeOutOf (λ z. tablesCleared (hintsWritten x y) z t) t
     (kinded (kindsIn x t && kindsIn y u) (merge (roomOf t) (indexIn x t) (roomOf u) (indexIn y u)))
 
 -- the other list goes further, by the numbers

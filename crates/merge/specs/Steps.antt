@@ -17,7 +17,7 @@ use Rattle.rules.specs.Sections.{hintsOk}
 use Rattle.rules.specs.PartRule.{addParts}
 use Rattle.rules.specs.Hints.{joinedHints, unkept}
 use Rattle.rules.specs.File.{encodeCheckpoint, encodeLsn, over}
-use Rattle.tables.specs.Index.{Tables, tables, indexIn, numbersFrom, tablesCleared, Out, out}
+use Rattle.tables.specs.Index.{Tables, tables, indexIn, numbersFrom, tablesCleared, MadeOut, madeOut}
 use Rattle.index.specs.Steps.{Passes}
 use Rattle.tables.specs.Tables.{checkpointsIn, lsnsIn, framesIn, partsIn, encodeKept, keptIn}
 use Rattle.parts.specs.declared.Counts.{Counts}
@@ -74,8 +74,8 @@ pub record Takes (n m : ℕ) (t u : List ℕ) : Type 0 where
   pub other : m * 4 ≤ length u
   pub room : m * 4 ≤ length t
 
-abbrev pub Taken : Bool → ℕ → ℕ → List ℕ → List ℕ → ℕ → List ℕ → Type 0
-Taken go n m t u r t' = Put encodeLsn (cond go (lsnsIn m u) (lsnsIn n t)) r t t'
+abbrev pub LsnsTaken : Bool → ℕ → ℕ → List ℕ → List ℕ → ℕ → List ℕ → Type 0
+LsnsTaken go n m t u r t' = Put encodeLsn (cond go (lsnsIn m u) (lsnsIn n t)) r t t'
 
 -- ---- frames and parts
 -- of another list, f frames and h parts
@@ -97,26 +97,26 @@ pub record HintsReady (a : Area) (n m : ℕ) (t u : List ℕ) : Type 0 where
   pub rising : hintsOk a (keptIn m u) ≡ true
 
 -- a count, and a table
-pub record Listed : Type 0 where
+pub record CountedTable : Type 0 where
   pub count : ℕ
   pub table : List ℕ
 
-abbrev pub listed : ℕ → List ℕ → Listed
-listed n t = record { count = n; table = t }
+abbrev pub countedTable : ℕ → List ℕ → CountedTable
+countedTable n t = record { count = n; table = t }
 
 -- hints hs at the start of a table, which is cleared behind them up to record number w
-abbrev pub clearedUpTo : ℕ → List Hint → List ℕ → Listed
-clearedUpTo w hs t = listed (length hs) (over (bytesOf encodeKept hs ++ replicate ((w - length hs) * 8) 0) t)
+abbrev pub clearedUpTo : ℕ → List Hint → List ℕ → CountedTable
+clearedUpTo w hs t = countedTable (length hs) (over (bytesOf encodeKept hs ++ replicate ((w - length hs) * 8) 0) t)
 
 abbrev pub writtenTo : ℕ → ℕ → ℕ → ℕ
 writtenTo most n m = cond (eqb most 0) n (n + m)
 
-unfoldable pub hintsJoined : Area → ℕ → ℕ → ℕ → List ℕ → List ℕ → Listed
+unfoldable pub hintsJoined : Area → ℕ → ℕ → ℕ → List ℕ → List ℕ → CountedTable
 hintsJoined a most n m t u = clearedUpTo (writtenTo most n m) (joinedHints a most (keptIn n t) (unkept (keptIn m u))) t
 
-abbrev pub outIndex : AreaIndex → Tables → Out
-outIndex x t = out (made.Index x) t
+abbrev pub outIndex : AreaIndex → Tables → MadeOut
+outIndex x t = madeOut (made.Index x) t
 
-unfoldable pub mergedIn : AreaIndex → Tables → AreaIndex → Tables → Out
+unfoldable pub mergedIn : AreaIndex → Tables → AreaIndex → Tables → MadeOut
 mergedIn x t y u =
     outIndex (numbersFrom (merged (indexIn x t) (indexIn y u))) (tablesCleared (hintsWritten x y) (merged (indexIn x t) (indexIn y u)) t)

@@ -18,7 +18,7 @@ use index::is_checked;
 use rules::AreaIndex;
 use rules::Made;
 ghost use mathlib.Core.Path.{_≡_};
-ghost use Rattle.tables.specs.Index.{tables, out};
+ghost use Rattle.tables.specs.Index.{tables, madeOut};
 ghost use Rattle.merge.specs.Steps.{Joins, outIndex, mergedIn};
 ghost use Rattle.merge.specs.Merge.{mergeIn};
 
@@ -100,7 +100,7 @@ pub fn merge(
     other_hints: &[u8],
     other_confirmed: &[u8],
 ) -> Made
-    ensures { λ r. ⌜ out r (tables (now (checkpoints .exit)) (now (frames .exit)) (now (store .exit)) (now (parts .exit)) (now (malformed .exit)) (now (hints .exit)) (now (confirmed .exit))) ≡ mergeIn x (tables (now (checkpoints .entry)) (now (frames .entry)) (now (store .entry)) (now (parts .entry)) (now (malformed .entry)) (now (hints .entry)) (now (confirmed .entry))) y (tables (now («other_checkpoints» .entry)) (now («other_frames» .entry)) (now («other_store» .entry)) (now («other_parts» .entry)) (now («other_malformed» .entry)) (now («other_hints» .entry)) (now («other_confirmed» .entry))) ⌝ }
+    ensures { λ r. ⌜ madeOut r (tables (now (checkpoints .exit)) (now (frames .exit)) (now (store .exit)) (now (parts .exit)) (now (malformed .exit)) (now (hints .exit)) (now (confirmed .exit))) ≡ mergeIn x (tables (now (checkpoints .entry)) (now (frames .entry)) (now (store .entry)) (now (parts .entry)) (now (malformed .entry)) (now (hints .entry)) (now (confirmed .entry))) y (tables (now («other_checkpoints» .entry)) (now («other_frames» .entry)) (now («other_store» .entry)) (now («other_parts» .entry)) (now («other_malformed» .entry)) (now («other_hints» .entry)) (now («other_confirmed» .entry))) ⌝ }
 {
     let number = merge_refuses(
         x,

@@ -12,7 +12,7 @@ use rules::Area;
 use rules::AreaIndex;
 ghost use mathlib.Core.Path.{_≡_};
 ghost use Rattle.parts.specs.Parts.{partTables, held};
-ghost use Rattle.merge.specs.Steps.{Appends, Appended, Takes, Taken, PartsReady, partsTaken, HintsReady, hintsJoined, listed};
+ghost use Rattle.merge.specs.Steps.{Appends, Appended, Takes, LsnsTaken, PartsReady, partsTaken, HintsReady, hintsJoined, countedTable};
 
 // The other's checkpoints from number i on behind the n of t. Answers how many there are then.
 pub fn append_checkpoints(t: &mut [u8], n: u32, other: &[u8], m: u32, i: u32) -> u32
@@ -29,7 +29,7 @@ pub fn append_checkpoints(t: &mut [u8], n: u32, other: &[u8], m: u32, i: u32) ->
 // The other's malformed LSNs over those of t, where go holds. Answers how many there are then.
 pub fn take_malformed(t: &mut [u8], n: u32, other: &[u8], m: u32, go: bool) -> u32
     requires { ⌜ Takes n m (now t) (now other) ⌝ }
-    ensures { λ r. ⌜ Taken go n m (now (t .entry)) (now (other .entry)) r (now (t .exit)) ⌝ }
+    ensures { λ r. ⌜ LsnsTaken go n m (now (t .entry)) (now (other .entry)) r (now (t .exit)) ⌝ }
 {
     let k = taken(go, m);
     copy_first(t, other, k as usize * 4);
@@ -74,7 +74,7 @@ pub fn take_parts(
 // The m hints of another list joined to the n held ones.
 pub fn join_hints(area: Area, most: u32, hints: &mut [u8], n: u32, other: &[u8], m: u32) -> u32
     requires { ⌜ HintsReady area n m (now hints) (now other) ⌝ }
-    ensures { λ r. ⌜ listed r (now (hints .exit)) ≡ hintsJoined area most n m (now (hints .entry)) (now (other .entry)) ⌝ }
+    ensures { λ r. ⌜ countedTable r (now (hints .exit)) ≡ hintsJoined area most n m (now (hints .entry)) (now (other .entry)) ⌝ }
 {
     let e = m as usize * 8;
     merge_hints(area, most, n, hints, &other[0..e])

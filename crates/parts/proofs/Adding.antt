@@ -35,7 +35,7 @@ use Rattle.index.proofs.Store.{store-part}
 use Rattle.parts.specs.declared.Counts.{Counts}
 use Rattle.parts.specs.declared.Source.{Source}
 use Rattle.parts.specs.Parts.{PartTables, storedIn, countsOf, storedOver, Held, held, heldFrom}
-use Rattle.parts.specs.Steps.{Ready, Room, wanted, InOrder, Lent, offsetTo, heldPiece, addedBy}
+use Rattle.parts.specs.Steps.{CountsReady, Room, wanted, InOrder, Lent, offsetTo, heldPiece, addedBy}
 use Rattle.parts.proofs.Frames.{count}
 use Rattle.parts.proofs.Stored.{stays}
 use Rattle.parts.proofs.Steps.{Typed, Fits, Step, step-part, stored-again, stands-there, next-room}
@@ -201,7 +201,7 @@ module _ (budget f h : ℕ) (o t0 : PartTables) (choice : Choice budget (framesI
       }
 
   -- as `add_one` counts: the tables are those of c
-  counted : {c : Counts} {t : PartTables} → Ready budget c t → c ≡ countsOf (storedIn (c .frames) (c .parts) t)
+  counted : {c : Counts} {t : PartTables} → CountsReady budget c t → c ≡ countsOf (storedIn (c .frames) (c .parts) t)
   counted {c} {t} r =
       rw (count (c .frames) (t .frames) (t .store), records-length 24 decodeHeld (c .parts) (t .parts), ← r .bytes)
 

@@ -20,7 +20,7 @@ use Rattle.tables.specs.Tables.{partsIn}
 use Rattle.tables.proofs.Tests.{leb-left}
 use Rattle.parts.specs.declared.Counts.{Counts}
 use Rattle.parts.specs.Parts.{PartTables, storedIn}
-use Rattle.parts.specs.Steps.{Ready, joinsIn}
+use Rattle.parts.specs.Steps.{CountsReady, joinsIn}
 use Rattle.parts.proofs.Frames.{lastHeader, last-start, last-length, last-used, last-bytes}
 
 -- the last part
@@ -30,7 +30,7 @@ unfolding lastOr
 last-part h t l e =
     e ∙ rw (records-length 24 decodeHeld h t) (sym (records-at 24 decodeHeld h t (h - 1) noHeld (omega arith)))
 
-module _ {budget : ℕ} {c : Counts} {t : PartTables} (r : Ready budget c t) {last : FrameHeader}
+module _ {budget : ℕ} {c : Counts} {t : PartTables} (r : CountsReady budget c t) {last : FrameHeader}
     (is : last ≡ lastHeader (c .frames) (t .frames)) where
   -- the last frame's bytes are in the store
   pub last-inside : {new : Bool} (start : ℕ) → new ≡ (eqb (c .parts) 0 || ltb (last .start) start) → new ≡ false

@@ -32,7 +32,7 @@ use Rattle.index.proofs.Store.{store-snoc}
 use Rattle.parts.specs.declared.Counts.{Counts}
 use Rattle.parts.specs.declared.Placed.{Placed}
 use Rattle.parts.specs.Parts.{PartTables, storedIn, held, heldFrom, countsOf}
-use Rattle.parts.specs.Steps.{Ready, Room, placedIn, Puts, putIn}
+use Rattle.parts.specs.Steps.{CountsReady, Room, placedIn, Puts, putIn}
 use Rattle.parts.proofs.Frames.{count, lastHeader, last-length, frames-last}
 use Rattle.parts.proofs.Rule.{last-inside, opens-is}
 
@@ -65,7 +65,7 @@ drop-min l xs =
     rw (q, drop-of-length-le xs {i = length xs} (omega arith), drop-of-length-le xs {i = l} (omega arith)))
 
 -- ---- tables that are ready
-module _ {budget : ℕ} {c : Counts} {t : PartTables} (r : Ready budget c t) (k : kindsOk (c .parts) (t .parts) ≡ true)
+module _ {budget : ℕ} {c : Counts} {t : PartTables} (r : CountsReady budget c t) (k : kindsOk (c .parts) (t .parts) ≡ true)
     (bf : Bytes (t .frames)) (bp : Bytes (t .parts)) where
   abbrev stored : Stored
   stored = storedIn (c .frames) (c .parts) t

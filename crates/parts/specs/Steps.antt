@@ -20,7 +20,7 @@ use Rattle.parts.specs.declared.Placed.{Placed}
 use Rattle.parts.specs.Parts.{PartTables, partTables, storedIn, Held, held, heldFrom}
 
 -- the tables have the records that are counted, the store the budget; a held part has a frame
-pub record Ready (budget : ℕ) (c : Counts) (t : PartTables) : Type 0 where
+pub record CountsReady (budget : ℕ) (c : Counts) (t : PartTables) : Type 0 where
   pub frames : c .frames * 8 ≤ length (t .frames)
   pub parts : c .parts * 24 ≤ length (t .parts)
   pub store : budget ≤ length (t .store)
@@ -30,7 +30,7 @@ pub record Ready (budget : ℕ) (c : Counts) (t : PartTables) : Type 0 where
 
 -- and have space for n more; kinds are 0 or 1
 pub record Room (n budget : ℕ) (c : Counts) (t : PartTables) : Type 0 where
-  pub ready : Ready budget c t
+  pub ready : CountsReady budget c t
   pub kinds : kindsOk (c .parts) (t .parts) ≡ true
   pub frames : (c .frames + n) * 8 ≤ length (t .frames)
   pub parts : (c .parts + n) * 24 ≤ length (t .parts)

@@ -28,7 +28,7 @@ ghost use Rattle.rules.specs.Values.{maxFrame, noHeld, used};
 ghost use Rattle.rules.specs.PartRule.{stores, addPart, addParts};
 ghost use Rattle.tables.specs.Tables.{headersIn, headerAt, framesIn, partsIn};
 ghost use Rattle.parts.specs.Parts.{partTables, storedIn, pieceIn, held, heldFrom};
-ghost use Rattle.parts.specs.Steps.{Ready, Room, joinsIn, placedIn, Puts, putIn, Lent, offsetTo, wanted, heldPiece, addedBy};
+ghost use Rattle.parts.specs.Steps.{CountsReady, Room, joinsIn, placedIn, Puts, putIn, Lent, offsetTo, wanted, heldPiece, addedBy};
 
 // How many frames and parts tables hold, and the bytes of the frames together.
 pub struct Counts {
@@ -118,7 +118,7 @@ pub fn stores(
     store: &[u8],
     parts: &[u8],
 ) -> bool
-    requires { ⌜ Ready budget c (partTables (now frames) (now store) (now parts)) ⌝ }
+    requires { ⌜ CountsReady budget c (partTables (now frames) (now store) (now parts)) ⌝ }
     ensures { λ r. ⌜
         r ≡ stores budget (storedIn (c .frames) (c .parts)
         (partTables (now (frames .entry)) (now (store .entry)) (now (parts .entry)))) (pieceIn p (now (bytes .entry))) ⌝ }

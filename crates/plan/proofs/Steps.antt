@@ -23,12 +23,12 @@ use Rattle.tables.specs.Index.{Tables, indexIn, refusal, endIn}
 use Rattle.plan.specs.Plan.{plannedOf, planIn}
 use Rattle.index.specs.Steps.{Passes}
 use Rattle.plan.specs.Search.{lastIn}
-use Rattle.plan.specs.Steps.{Ready, resumeIn, withinOf, planOf}
+use Rattle.plan.specs.Steps.{PlanReads, resumeIn, withinOf, planOf}
 use Rattle.index.proofs.Four.{kinded-index}
 use Rattle.index.proofs.Questions.{range, passes-long, checkpoints-hold}
 use Rattle.plan.proofs.Rising.{rising}
 
-pub ready : {x : AreaIndex} {t : Tables} → Passes x t → Ready x (t .checkpoints) (t .frames) (t .parts)
+pub ready : {x : AreaIndex} {t : Tables} → Passes x t → PlanReads x (t .checkpoints) (t .frames) (t .parts)
 ready {x} {t} p =
     let r = range (x .area) (p .roomy .area) in
     let l = passes-long p in

@@ -13,7 +13,7 @@ use Rattle.tables.specs.Index.{Tables, indexIn}
 use Rattle.plan.specs.Search.{Rising}
 
 -- what a plan reads of the tables
-pub record Ready (x : AreaIndex) (cs fs ps : List ℕ) : Type 0 where
+pub record PlanReads (x : AreaIndex) (cs fs ps : List ℕ) : Type 0 where
   pub start : x .area .start ≤ 4294967295
   pub checkpoints : x .checkpoints * 24 ≤ length cs
   pub frames : x .frames * 8 ≤ length fs

@@ -25,7 +25,7 @@ ghost use Rattle.rules.specs.Plan.{offsetOf, assemblyOf, bytesAt};
 ghost use Rattle.tables.specs.Tables.{framesIn, partsIn};
 ghost use Rattle.tables.specs.Index.{tables};
 ghost use Rattle.plan.specs.Plan.{plannedOf, planIn, liesIn};
-ghost use Rattle.plan.specs.Steps.{Ready, storedOf, resumeIn, withinOf, planOf};
+ghost use Rattle.plan.specs.Steps.{PlanReads, storedOf, resumeIn, withinOf, planOf};
 
 // Where the bytes of frame number g begin in the store.
 fn offset_of(frames: &[u8], f: usize, g: u32) -> u64
@@ -75,7 +75,7 @@ fn assembly_of(frames: &[u8], f: usize, parts: &[u8], h: usize, j: u32) -> Assem
 }
 
 fn resume(x: AreaIndex, j: u32, checkpoints: &[u8], frames: &[u8], parts: &[u8]) -> Plan
-    requires { ⌜ Ready x (now checkpoints) (now frames) (now parts) ⌝ }
+    requires { ⌜ PlanReads x (now checkpoints) (now frames) (now parts) ⌝ }
     ensures { λ r. ⌜
         ((store malformed hints confirmed : List ℕ)
         → r ≡ resumeIn x (tables (now (checkpoints .entry)) (now (frames .entry)) store (now (parts .entry)) malformed
@@ -95,7 +95,7 @@ fn resume(x: AreaIndex, j: u32, checkpoints: &[u8], frames: &[u8], parts: &[u8])
 
 // The end state apart.
 fn plan_within(x: AreaIndex, first: u32, checkpoints: &[u8], frames: &[u8], parts: &[u8]) -> Plan
-    requires { ⌜ Ready x (now checkpoints) (now frames) (now parts) ⌝ }
+    requires { ⌜ PlanReads x (now checkpoints) (now frames) (now parts) ⌝ }
     ensures { λ r. ⌜
         ((store malformed hints confirmed : List ℕ)
         → r ≡ withinOf x (tables (now (checkpoints .entry)) (now (frames .entry)) store (now (parts .entry)) malformed
@@ -110,7 +110,7 @@ fn plan_within(x: AreaIndex, first: u32, checkpoints: &[u8], frames: &[u8], part
 }
 
 fn plan_in(x: AreaIndex, first: u32, checkpoints: &[u8], frames: &[u8], parts: &[u8]) -> Plan
-    requires { ⌜ Ready x (now checkpoints) (now frames) (now parts) ⌝ }
+    requires { ⌜ PlanReads x (now checkpoints) (now frames) (now parts) ⌝ }
     ensures { λ r. ⌜
         ((store malformed hints confirmed : List ℕ)
         → r ≡ planOf x (tables (now (checkpoints .entry)) (now (frames .entry)) store (now (parts .entry)) malformed

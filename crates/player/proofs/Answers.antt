@@ -10,7 +10,7 @@ use Rattle.rules.specs.declared.First.{First}
 use Rattle.rules.specs.FirstRecord.{firstRecord}
 use Rattle.rules.specs.Tests.{Accepted}
 use Rattle.blocks.specs.Blocks.{indexWords, isIndex}
-use Rattle.tables.specs.Index.{Tables, out}
+use Rattle.tables.specs.Index.{Tables, madeOut}
 use Rattle.rules.specs.declared.Made.{Made}
 use Rattle.index.specs.Index.{madeOf, newIn, boundIn}
 use Rattle.plan.specs.Plan.{plannedOf, planIn}
@@ -62,7 +62,7 @@ module _ (b b' : List ℕ) (n : ℕ) (l : 192 ≤ length b) where
   new-done a x k budget spacing most t r p e z = long-enough b _ _ l (rw (e, z) at p)
 
   pub load-done : (a x : Area) (file : List ℕ) (limit : ℕ) (t t' : Tables) (r : Made) → called n b' ≡ into indexWords b (madeOf r)
-      → out r t' ≡ loadIn x file limit t → x ≡ a → calledOver n b' t' ≡ loadCall b a file limit t
+      → madeOut r t' ≡ loadIn x file limit t → x ≡ a → calledOver n b' t' ≡ loadCall b a file limit t
   unfolding loadCall
   load-done a x file limit t t' r p e z = long-enough b _ _ l (rw (← z, ← e, p))
 
@@ -80,12 +80,12 @@ module _ (b b' : List ℕ) (n : ℕ) (l : isIndex b ≡ true) where
   fingerprint-done x v t r p e z = is-head _ _ _ l (rw (e, z) at p)
 
   pub add-hints-done : (x : AreaIndex) (list : List ℕ) (t t' : Tables) (r : Made) → called n b' ≡ into indexWords b (madeOf r)
-      → out r t' ≡ addHintsIn x t list → x ≡ headIndex b → calledOver n b' t' ≡ addHintsCall b list t
+      → madeOut r t' ≡ addHintsIn x t list → x ≡ headIndex b → calledOver n b' t' ≡ addHintsCall b list t
   unfolding addHintsCall
   add-hints-done x list t t' r p e z = is-head _ _ _ l (rw (← z, ← e, p))
 
   pub merge-done : (g : List ℕ) → isIndex g ≡ true → (x y : AreaIndex) → y ≡ headIndex g → (t u t' : Tables) (r : Made)
-      → called n b' ≡ into indexWords b (madeOf r) → out r t' ≡ mergeIn x t y u → x ≡ headIndex b → calledOver n b' t' ≡ mergeCall b g t u
+      → called n b' ≡ into indexWords b (madeOf r) → madeOut r t' ≡ mergeIn x t y u → x ≡ headIndex b → calledOver n b' t' ≡ mergeCall b g t u
   unfolding mergeCall
   merge-done g m x y w t u t' r p e z = is-head _ _ _ l (is-head _ _ _ m (rw (← z, ← w, ← e, p)))
 

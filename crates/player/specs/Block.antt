@@ -17,7 +17,7 @@ use Rattle.rules.specs.Tests.{Answer, Refused, Accepted}
 use Rattle.rules_jump.specs.Names.{planRule, planRuleNumber}
 use Rattle.rules_view.specs.View.{workshop}
 use Rattle.rules.specs.declared.Brings.{Brings}
-use Rattle.blocks.specs.Blocks.{indexFrom, recorderFrom, hintRecorderFrom, wordsIn, blockOf, firstTold, isBlock}
+use Rattle.blocks.specs.Blocks.{indexRead, recorderRead, hintRecorderRead, wordsIn, blockOf, firstTold, isBlock}
 use Rattle.blocks.specs.declared.Told.{Told}
 use Rattle.rules.specs.declared.Saved.{Saved}
 use Rattle.rules.specs.declared.Saved.the-variants as saved
@@ -47,22 +47,22 @@ unfoldable pub inBlock : {A : Type 0} → List ℕ → A → A → A
 inBlock b short r = inHead (isBlock b) short r
 
 -- 52 where the role is not the workshop's (change request 10), asked before all else
-unfoldable pub asWorkshop : {A : Type 0} → ℕ → A → A → A
-asWorkshop role refused r = inHead (eqb role workshop) refused r
+unfoldable pub inWorkshop : {A : Type 0} → ℕ → A → A → A
+inWorkshop role refused r = inHead (eqb role workshop) refused r
 
 -- ---- from blocks
 unfoldable pub headIndex : List ℕ → AreaIndex
-headIndex b = indexFrom (wordsIn 24 b)
+headIndex b = indexRead (wordsIn 24 b)
 
 unfoldable pub headRecorder : List ℕ → Recorder
-headRecorder b = recorderFrom (wordsIn 24 b)
+headRecorder b = recorderRead (wordsIn 24 b)
 
 unfoldable pub headHintRecorder : List ℕ → HintRecorder
-headHintRecorder b = hintRecorderFrom (wordsIn 24 b)
+headHintRecorder b = hintRecorderRead (wordsIn 24 b)
 
 -- an area's seven numbers
-abbrev pub areaFrom : ℕ → ℕ → ℕ → ℕ → ℕ → ℕ → ℕ → Area
-areaFrom slot channels ks ke sectors s e =
+abbrev pub givenArea : ℕ → ℕ → ℕ → ℕ → ℕ → ℕ → ℕ → Area
+givenArea slot channels ks ke sectors s e =
     record { key = record { slot = slot; start = ks; end = ke; channels = channels; sectors = sectors }; start = s; end = e }
 
 -- ---- words of answers

@@ -10,7 +10,7 @@ use Rattle.rules.specs.Tests.{Accepted, Answer, Refused}
 use Rattle.rules.specs.File.{bit}
 use Rattle.rules_view.specs.View.{isRole}
 use Rattle.blocks.specs.Blocks.{indexWords, isIndex}
-use Rattle.tables.specs.Index.{Tables, Out}
+use Rattle.tables.specs.Index.{Tables, MadeOut}
 use Rattle.index.specs.Index.{madeOf, newIn, boundIn}
 use Rattle.plan.specs.Plan.{planIn}
 use Rattle.load.specs.Load.{loadIn}
@@ -19,7 +19,7 @@ use Rattle.adds.specs.Adds.{addsIn}
 use Rattle.add_hints.specs.AddHints.{addHintsIn}
 use Rattle.save.specs.Save.{saveIn}
 use Rattle.sizes.specs.Sizes.{newSizes, fileSizes, fileArea, fileLength}
-use Rattle.player.specs.Block.{Called, called, into, inBlock, inHead, asWorkshop, headIndex, planWords, firstWords, sizeWords, areaWords, bringsWords, savedInto, oneWord}
+use Rattle.player.specs.Block.{Called, called, into, inBlock, inHead, inWorkshop, headIndex, planWords, firstWords, sizeWords, areaWords, bringsWords, savedInto, oneWord}
 use Rattle.coarsen.specs.Coarsen.{coarseIn}
 use Rattle.drawer.specs.Drawer.{mergeAllIn}
 use Rattle.lacks.specs.Lacks.{lacksIn}
@@ -56,7 +56,7 @@ withTables c t = record { call = c; tables = t }
 abbrev pub calledOver : ℕ → List ℕ → Tables → CalledOver
 calledOver n b t = withTables (called n b) t
 
-abbrev pub outInto : List ℕ → Out → CalledOver
+abbrev pub outInto : List ℕ → MadeOut → CalledOver
 outInto head o = withTables (into indexWords head (madeOf (o .answer))) (o .tables)
 
 unfoldable pub loadCall : List ℕ → Area → List ℕ → ℕ → Tables → CalledOver
@@ -95,13 +95,13 @@ addHintsCall head list t = inHead (isIndex head) (calledOver 3 head t) (outInto 
 
 -- ---- what the workshop alone may call (change request 10)
 unfoldable pub loadCallAs : ℕ → List ℕ → Area → List ℕ → ℕ → Tables → CalledOver
-loadCallAs role head a file limit t = asWorkshop role (calledOver 52 head t) (loadCall head a file limit t)
+loadCallAs role head a file limit t = inWorkshop role (calledOver 52 head t) (loadCall head a file limit t)
 
 unfoldable pub saveCallAs : ℕ → List ℕ → Tables → List ℕ → Called
-saveCallAs role head t out = asWorkshop role (called 52 out) (saveCall head t out)
+saveCallAs role head t out = inWorkshop role (called 52 out) (saveCall head t out)
 
 unfoldable pub mergeCallAs : ℕ → List ℕ → List ℕ → Tables → Tables → CalledOver
-mergeCallAs role head other t u = asWorkshop role (calledOver 52 head t) (mergeCall head other t u)
+mergeCallAs role head other t u = inWorkshop role (calledOver 52 head t) (mergeCall head other t u)
 
 -- the block and the tables u are the coarser list's
 unfoldable pub coarseCall : List ℕ → ℕ → List ℕ → Tables → Tables → CalledOver
@@ -115,7 +115,7 @@ mergeAllCall head ls b limit t u =
 
 -- what the workshop alone may call (change request 10)
 unfoldable pub mergeAllCallAs : ℕ → List ℕ → List ℕ → List ℕ → ℕ → Tables → Tables → CalledOver
-mergeAllCallAs role head ls b limit t u = asWorkshop role (calledOver 52 head t) (mergeAllCall head ls b limit t u)
+mergeAllCallAs role head ls b limit t u = inWorkshop role (calledOver 52 head t) (mergeAllCall head ls b limit t u)
 
 -- how many of each thing are lacking; 1 for each of what there is once at most
 unfoldable pub lacksWords : Lacks → List ℕ

@@ -37,7 +37,7 @@ ghost use Rattle.index.specs.Index.{madeOf};
 ghost use Rattle.plan.specs.Plan.{plannedOf};
 ghost use Rattle.adds.specs.Adds.{addsOf};
 ghost use Rattle.sizes.specs.Sizes.{sizedOf, fileAreaOf};
-ghost use Rattle.player.specs.Block.{called, into, planArray, ruleWord, headIndex, headRecorder, headHintRecorder, areaFrom, assemblyWords, planWords, firstWords, sizeWords, areaWords, bringsWords, oneWord, savedNumber};
+ghost use Rattle.player.specs.Block.{called, into, planArray, ruleWord, headIndex, headRecorder, headHintRecorder, givenArea, assemblyWords, planWords, firstWords, sizeWords, areaWords, bringsWords, oneWord, savedNumber};
 ghost use Rattle.player.specs.Steps.{resumeWords};
 
 // ---- from blocks
@@ -72,7 +72,7 @@ pub fn area_from(
     start: u64,
     end: u64,
 ) -> Area
-    ensures { λ r. ⌜ r ≡ areaFrom slot channels «key_start» «key_end» sectors start end ⌝ }
+    ensures { λ r. ⌜ r ≡ givenArea slot channels «key_start» «key_end» sectors start end ⌝ }
 {
     let key = AreaKey {
         slot,

@@ -20,7 +20,7 @@ use blocks::read::is_index;
 ghost use mathlib.Core.Path.{_≡_};
 ghost use Rattle.fnv.specs.Fnv.{fnv64};
 ghost use Rattle.tables.specs.Index.{tables};
-ghost use Rattle.player.specs.Block.{called, areaFrom};
+ghost use Rattle.player.specs.Block.{called, givenArea};
 ghost use Rattle.player.specs.Player.{calledOver, mergeCallAs, addsCall, addHintsCall, newCall, loadCallAs, fingerprintCall, planCall, saveCallAs, lengthCall, sizesCall, fileSizesCall, fileAreaCall, firstCall};
 
 // ---- sums, sectors and sizes
@@ -61,7 +61,7 @@ pub extern "C" fn seek_raw_sizes(
     answer: &mut [u8],
 ) -> u32
     ensures { λ r. ⌜ called r (now (answer .exit))
-        ≡ sizesCall (now (answer .entry)) (areaFrom slot channels «key_start» «key_end» sectors start end)
+        ≡ sizesCall (now (answer .entry)) (givenArea slot channels «key_start» «key_end» sectors start end)
         interval budget most ⌝ }
 {
     if answer.len() < HEAD_BYTES {
@@ -101,7 +101,7 @@ pub extern "C" fn seek_raw_file_sizes(
 ) -> u32
     ensures { λ r. ⌜ called r (now (answer .exit))
         ≡ fileSizesCall (now (answer .entry))
-        (areaFrom slot channels «key_start» «key_end» sectors start end) (now (file .entry)) limit ⌝ }
+        (givenArea slot channels «key_start» «key_end» sectors start end) (now (file .entry)) limit ⌝ }
 {
     if answer.len() < HEAD_BYTES {
         return 3;
@@ -135,7 +135,7 @@ pub extern "C" fn seek_raw_new(
     confirmed: &[u8],
 ) -> u32
     ensures { λ r. ⌜ called r (now (head .exit))
-        ≡ newCall (now (head .entry)) (areaFrom slot channels «key_start» «key_end» sectors start end)
+        ≡ newCall (now (head .entry)) (givenArea slot channels «key_start» «key_end» sectors start end)
         interval budget spacing most
         (tables (now (checkpoints .entry)) (now (frames .entry)) (now (store .entry)) (now (parts .entry))
         (now (malformed .entry)) (now (hints .entry)) (now (confirmed .entry))) ⌝ }
@@ -187,7 +187,7 @@ pub extern "C" fn seek_raw_load(
         (tables (now (checkpoints .exit)) (now (frames .exit)) (now (store .exit)) (now (parts .exit))
         (now (malformed .exit)) (now (hints .exit)) (now (confirmed .exit)))
         ≡ loadCallAs role (now (head .entry))
-        (areaFrom slot channels «key_start» «key_end» sectors start end) (now (file .entry)) limit
+        (givenArea slot channels «key_start» «key_end» sectors start end) (now (file .entry)) limit
         (tables (now (checkpoints .entry)) (now (frames .entry)) (now (store .entry)) (now (parts .entry))
         (now (malformed .entry)) (now (hints .entry)) (now (confirmed .entry))) ⌝ }
 {

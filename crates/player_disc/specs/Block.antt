@@ -8,8 +8,8 @@ use Rattle.player.specs.Block.{Called, called, two}
 use Rattle.rules.specs.declared.TableSizes.{TableSizes}
 use Rattle.rules_disc.specs.declared.Contents.{Contents}
 use Rattle.rules_disc.specs.declared.Contents.the-variants.{Broken, Lists}
-use Rattle.rules_disc.specs.declared.Place.{Place}
-use Rattle.rules_disc.specs.declared.Place.the-variants.{Absent, At}
+use Rattle.rules_disc.specs.declared.SlotEntry.{SlotEntry}
+use Rattle.rules_disc.specs.declared.SlotEntry.the-variants.{Absent, At}
 use Rattle.rules_disc.specs.declared.Listed.{Listed}
 use Rattle.rules_disc.specs.declared.Listed.the-variants as listed
 use Rattle.rules_disc.specs.declared.Loaded.{Loaded}
@@ -19,7 +19,7 @@ use Rattle.player_disc.specs.declared.block.PlaceWords.{PlaceWords}
 
 -- ---- the contents table
 -- 1, offset and length of a list that is there, else 0
-unfoldable pub placeWords : Place → PlaceWords
+unfoldable pub placeWords : SlotEntry → PlaceWords
 placeWords Absent = record { present = 0; offset = 0; len = 0 }
 placeWords (At e) = record { present = 1; offset = e .offset; len = e .len }
 
@@ -34,9 +34,9 @@ contentsInto answer Broken = called 54 answer
 contentsInto answer (Lists p q) = called 0 (over (blockOf (contentsWords (placeWords p) (placeWords q))) answer)
 
 -- ---- sizes
-unfoldable pub present : Option TableSizes → ℕ
-present none = 0
-present (some s) = 1
+unfoldable pub isPresent : Option TableSizes → ℕ
+isPresent none = 0
+isPresent (some s) = 1
 
 unfoldable pub sizesOr0 : Option TableSizes → TableSizes
 sizesOr0 none = record { checkpoints = 0; frames = 0; store = 0; parts = 0; malformed = 0; hints = 0; confirmed = 0 }
@@ -50,7 +50,7 @@ slotWords s p t q =
 
 -- the sizes of slot 0 and whether its list is there, then the same of slot 1
 unfoldable pub discSizeWords : DiscSizes → List ℕ
-discSizeWords d = slotWords (sizesOr0 (d .slot0)) (present (d .slot0)) (sizesOr0 (d .slot1)) (present (d .slot1))
+discSizeWords d = slotWords (sizesOr0 (d .slot0)) (isPresent (d .slot0)) (sizesOr0 (d .slot1)) (isPresent (d .slot1))
 
 -- ---- loading: three blocks, the heads of both slots and the answer
 pub record CalledLists : Type 0 where

@@ -4,7 +4,7 @@ use mathlib.Core.List.{List}
 use Rattle.rules.specs.declared.Area.{Area}
 use Rattle.blocks.specs.Blocks.{isIndex}
 use Rattle.tables.specs.Index.{Tables}
-use Rattle.player.specs.Block.{Called, called, into, inBlock, inHead, asWorkshop, headIndex, savedInto}
+use Rattle.player.specs.Block.{Called, called, into, inBlock, inHead, inWorkshop, headIndex, savedInto}
 use Rattle.disc_load.specs.DiscLoad.{contentsIn, DiscOut, loadDiscIn, discSizes}
 use Rattle.disc_save.specs.DiscSave.{saveOneIn, saveBothIn, oneLength, bothLength}
 use Rattle.player_disc.specs.Block.{CalledLists, calledLists, contentsInto, discSizeWords, loadedInto}
@@ -50,11 +50,11 @@ discLoadCall head other a0 a1 file limit answer t u =
 
 -- ---- what the workshop alone may call (change request 10)
 unfoldable pub discSaveCallAs : ℕ → List ℕ → Tables → List ℕ → Called
-discSaveCallAs role head t out = asWorkshop role (called 52 out) (discSaveCall head t out)
+discSaveCallAs role head t out = inWorkshop role (called 52 out) (discSaveCall head t out)
 
 unfoldable pub discSaveBothCallAs : ℕ → List ℕ → List ℕ → Tables → Tables → List ℕ → Called
-discSaveBothCallAs role head other t u out = asWorkshop role (called 52 out) (discSaveBothCall head other t u out)
+discSaveBothCallAs role head other t u out = inWorkshop role (called 52 out) (discSaveBothCall head other t u out)
 
 unfoldable pub discLoadCallAs : ℕ → List ℕ → List ℕ → Area → Area → List ℕ → ℕ → List ℕ → Tables → Tables → CalledDisc
 discLoadCallAs role head other a0 a1 file limit answer t u =
-    asWorkshop role (calledDisc (calledLists 52 head other answer) t u) (discLoadCall head other a0 a1 file limit answer t u)
+    inWorkshop role (calledDisc (calledLists 52 head other answer) t u) (discLoadCall head other a0 a1 file limit answer t u)

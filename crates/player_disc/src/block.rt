@@ -6,14 +6,14 @@ use rules_disc::Contents;
 use rules_disc::DiscSized;
 use rules_disc::Listed;
 use rules_disc::Loaded;
-use rules_disc::Place;
+use rules_disc::SlotEntry;
 use rules_disc::SlotSizes;
 ghost use mathlib.Core.Path.{_≡_};
 ghost use Prim.Native.Nat.{_≤_};
 ghost use lib.ListN.{length};
 ghost use Rattle.player.specs.Block.{called, into, two};
 ghost use Rattle.disc_load.specs.DiscLoad.{slotSizesOf, discSizedOf};
-ghost use Rattle.player_disc.specs.Block.{placeWords, contentsWords, contentsInto, present, sizesOr0, slotWords, discSizeWords, calledLists, listedInto, loadedInto};
+ghost use Rattle.player_disc.specs.Block.{placeWords, contentsWords, contentsInto, isPresent, sizesOr0, slotWords, discSizeWords, calledLists, listedInto, loadedInto};
 
 // ---- the contents table
 // Whether a slot is listed, its offset and length.
@@ -23,16 +23,16 @@ pub struct PlaceWords {
     pub len: u64,
 }
 
-fn place_words(place: Place) -> PlaceWords
+fn place_words(place: SlotEntry) -> PlaceWords
     ensures { λ r. ⌜ r ≡ placeWords place ⌝ }
 {
     match place {
-        Place::Absent => PlaceWords {
+        SlotEntry::Absent => PlaceWords {
             present: 0,
             offset: 0,
             len: 0,
         },
-        Place::At(e) => PlaceWords {
+        SlotEntry::At(e) => PlaceWords {
             present: 1,
             offset: e.offset as u64,
             len: e.len as u64,
@@ -88,7 +88,7 @@ pub fn put_contents(answer: &mut [u8], contents: Contents) -> u32
 
 // ---- sizes
 fn is_present(slot: SlotSizes) -> u64
-    ensures { λ r. ⌜ r ≡ present (slotSizesOf slot) ⌝ }
+    ensures { λ r. ⌜ r ≡ isPresent (slotSizesOf slot) ⌝ }
 {
     match slot {
         SlotSizes::Absent => 0,

@@ -11,7 +11,7 @@ use player::block::index_in;
 use player::block::saved_number;
 ghost use mathlib.Core.Path.{_≡_};
 ghost use Rattle.tables.specs.Index.{tables};
-ghost use Rattle.player.specs.Block.{called, areaFrom};
+ghost use Rattle.player.specs.Block.{called, givenArea};
 ghost use Rattle.player_disc.specs.Block.{calledLists};
 ghost use Rattle.player_disc.specs.PlayerDisc.{discContentsCall, discSizesCall, discLengthCall, discLengthBothCall, discSaveCallAs, discSaveBothCallAs, calledDisc, discLoadCallAs};
 
@@ -52,8 +52,8 @@ pub extern "C" fn seek_raw_disc_sizes(
 ) -> u32
     ensures { λ r. ⌜ called r (now (answer .exit))
         ≡ discSizesCall (now (answer .entry))
-        (areaFrom slot0 channels0 «key_start0» «key_end0» sectors0 start0 end0)
-        (areaFrom slot1 channels1 «key_start1» «key_end1» sectors1 start1 end1) (now (file .entry)) limit
+        (givenArea slot0 channels0 «key_start0» «key_end0» sectors0 start0 end0)
+        (givenArea slot1 channels1 «key_start1» «key_end1» sectors1 start1 end1) (now (file .entry)) limit
         ⌝ }
 {
     if answer.len() < HEAD_BYTES {
@@ -126,8 +126,8 @@ pub extern "C" fn seek_raw_disc_load(
         (now («other_parts» .exit)) (now («other_malformed» .exit)) (now («other_hints» .exit))
         (now («other_confirmed» .exit)))
         ≡ discLoadCallAs role (now (head .entry)) (now (other .entry))
-        (areaFrom slot0 channels0 «key_start0» «key_end0» sectors0 start0 end0)
-        (areaFrom slot1 channels1 «key_start1» «key_end1» sectors1 start1 end1) (now (file .entry)) limit
+        (givenArea slot0 channels0 «key_start0» «key_end0» sectors0 start0 end0)
+        (givenArea slot1 channels1 «key_start1» «key_end1» sectors1 start1 end1) (now (file .entry)) limit
         (now (answer .entry))
         (tables (now (checkpoints .entry)) (now (frames .entry)) (now (store .entry)) (now (parts .entry))
         (now (malformed .entry)) (now (hints .entry)) (now (confirmed .entry)))

@@ -13,10 +13,10 @@ use Rattle.blocks.specs.Blocks.{isIndex, isRecorder}
 use Rattle.tables.specs.Index.{Tables}
 use Rattle.rules.specs.declared.Recorded.{Recorded}
 use Rattle.tables.specs.Recorder.{RecorderTables}
-use Rattle.recorder.specs.Recorder.{startedIn, finishedIn, recorderOut, recordIn, dueAt, checkpointAt}
+use Rattle.recorder.specs.Recorder.{startedIn, finishedIn, recorderOut, recordIn, dueAt, checkpointLsn}
 use Rattle.rules.specs.declared.Boundary.{Boundary}
 use Rattle.rules.specs.declared.Absorbed.{Absorbed}
-use Rattle.absorb.specs.Absorb.{out, absorbIn}
+use Rattle.absorb.specs.Absorb.{absorbedOut, absorbIn}
 use Rattle.player_record.specs.Block.{calledBoth, absorbedInto, boundaryOf, boundaryWords}
 use Rattle.player.specs.Block.{called, into, headIndex, headRecorder}
 use Rattle.player.proofs.block.Blocks.{long-enough, is-head}
@@ -44,13 +44,13 @@ module _ (b a a' : List ℕ) (n : ℕ) (l : 192 ≤ length a) (q : Boundary) (p 
   unfolding dueCall
   due-done g r e z = is-head _ _ _ g (long-enough a _ _ l (rw (e, z) at p))
 
-  pub boundary-done : isIndex b ≡ true → (x : AreaIndex) (j : ℕ) → q ≡ checkpointAt x j → x ≡ headIndex b → called n a' ≡ boundaryCall b j a
+  pub boundary-done : isIndex b ≡ true → (x : AreaIndex) (j : ℕ) → q ≡ checkpointLsn x j → x ≡ headIndex b → called n a' ≡ boundaryCall b j a
   unfolding boundaryCall
   boundary-done g x j e z = is-head _ _ _ g (long-enough a _ _ l (rw (e, z) at p))
 
 -- ---- a list and a recorder
 module _ (h h' b b' : List ℕ) (n : ℕ) (g : isIndex h ≡ true) (l : isRecorder b ≡ true) (x : AreaIndex) (r : Recorder) (t : Tables) (u : RecorderTables) where
   pub absorb-done : (t' : Tables) (i j : ImageId) (given : List ℕ) (q : Absorbed) → calledBoth n h' b' ≡ absorbedInto h b q
-      → out q t' ≡ absorbIn x t i given r u → x ≡ headIndex h → r ≡ headRecorder b → i ≡ j → calledAbsorbed n h' b' t' ≡ absorbCall h b j given t u
+      → absorbedOut q t' ≡ absorbIn x t i given r u → x ≡ headIndex h → r ≡ headRecorder b → i ≡ j → calledAbsorbed n h' b' t' ≡ absorbCall h b j given t u
   unfolding absorbCall
   absorb-done t' i j given q p e z y w = is-head _ _ _ g (is-head _ _ _ l (rw (← z, ← y, ← w, ← e, p)))

@@ -10,13 +10,13 @@ use Rattle.rules.specs.Tests.{numberOf}
 use Rattle.blocks.specs.Blocks.{recorderWords, hintRecorderWords, isIndex, isRecorder, isHintRecorder}
 use Rattle.tables.specs.Index.{Tables}
 use Rattle.tables.specs.Recorder.{RecorderTables}
-use Rattle.recorder.specs.Recorder.{startedIn, finishedIn, recordIn, dueAt, checkpointAt}
+use Rattle.recorder.specs.Recorder.{startedIn, finishedIn, recordIn, dueAt, checkpointLsn}
 use Rattle.absorb.specs.Absorb.{absorbIn}
 use Rattle.player.specs.Block.{Called, called, into, inBlock, inHead, headIndex, headRecorder, headHintRecorder}
 use Rattle.player_record.specs.Block.{CalledBoth, calledBoth, recordedOf, absorbedInto, boundaryOf, boundaryWords, seenOf, sawOf, sectorWords, createdOf, createdWords, hintWords, takenInto, keptInto}
 use Rattle.index.specs.Index.{madeOf}
 use Rattle.hint.specs.Hint.{hintIn}
-use Rattle.hint_recorder.specs.HintRecorder.{Out, SawOut, hintRecorderIn, seeIn, flushIn, takeIn}
+use Rattle.hint_recorder.specs.HintRecorder.{SeenOut, SawOut, createdIn, seeIn, flushIn, takeIn}
 use Rattle.confirmations.specs.Confirmations.{keepIn}
 use Rattle.keep_hint.specs.KeepHint.{keepHintIn}
 
@@ -60,7 +60,7 @@ dueCall block answer =
 -- the LSN of a list's checkpoint by its number
 unfoldable pub boundaryCall : List ℕ → ℕ → List ℕ → Called
 boundaryCall head j answer =
-    inHead (isIndex head) (called 3 answer) (inBlock answer (called 3 answer) (into boundaryWords answer (boundaryOf (checkpointAt (headIndex head) j))))
+    inHead (isIndex head) (called 3 answer) (inBlock answer (called 3 answer) (into boundaryWords answer (boundaryOf (checkpointLsn (headIndex head) j))))
 
 -- ---- absorb
 -- the head, the recorder's block, and the list's tables; the recorder's are only read
@@ -83,7 +83,7 @@ absorbCall head block image given t u =
 -- the block is the hint recorder's
 unfoldable pub hintRecorderCall : List ℕ → List ℕ → Tables → Called
 hintRecorderCall head block t =
-    inHead (isIndex head) (called 3 block) (inBlock block (called 3 block) (into createdWords block (createdOf (hintRecorderIn (headIndex head) t))))
+    inHead (isIndex head) (called 3 block) (inBlock block (called 3 block) (into createdWords block (createdOf (createdIn (headIndex head) t))))
 
 -- with the hint recorder's list
 pub record CalledList : Type 0 where
@@ -96,7 +96,7 @@ withList c t = record { call = c; list = t }
 abbrev pub calledList : ℕ → List ℕ → List ℕ → CalledList
 calledList n b t = withList (called n b) t
 
-abbrev pub seenInto : List ℕ → Out → CalledList
+abbrev pub seenInto : List ℕ → SeenOut → CalledList
 seenInto block o = withList (into hintRecorderWords block (seenOf (o .answer))) (o .list)
 
 -- words 7 to 10 of the block tell the sector's first record
@@ -119,17 +119,17 @@ pub record CalledKept : Type 0 where
   pub call : CalledBoth
   pub tables : Tables
 
-abbrev pub withTables : CalledBoth → Tables → CalledKept
-withTables c t = record { call = c; tables = t }
+abbrev pub withKept : CalledBoth → Tables → CalledKept
+withKept c t = record { call = c; tables = t }
 
 abbrev pub calledKept : ℕ → List ℕ → List ℕ → Tables → CalledKept
-calledKept n b a t = withTables (calledBoth n b a) t
+calledKept n b a t = withKept (calledBoth n b a) t
 
 unfoldable pub keepCall : List ℕ → Confirmation → List ℕ → Tables → CalledKept
 keepCall head c answer t =
     let o = keepIn (headIndex head) t c in
     inHead (isIndex head) (calledKept 3 head answer t)
-    (inBlock answer (calledKept 3 head answer t) (withTables (keptInto head answer (o .answer)) (o .tables)))
+    (inBlock answer (calledKept 3 head answer t) (withKept (keptInto head answer (o .answer)) (o .tables)))
 
 -- a number and the tables, where no block is written
 pub record CalledTables : Type 0 where

@@ -27,7 +27,7 @@ use rules_jump::start_rule_number;
 ghost use mathlib.Core.Path.{_≡_};
 ghost use Prim.Native.Nat.{_≤_};
 ghost use lib.ListN.{length};
-ghost use Rattle.blocks.specs.Blocks.{imageFrom, recorderWords, hintRecorderWords};
+ghost use Rattle.blocks.specs.Blocks.{imageRead, recorderWords, hintRecorderWords};
 ghost use Rattle.rules.specs.Tests.{numberOf};
 ghost use Rattle.index.specs.Index.{madeOf};
 ghost use Rattle.hint.specs.Hint.{namedOf, answerOf};
@@ -72,7 +72,7 @@ pub fn frame_from(mark: u8, start: u64, number: u32, kind: u8, remaining: i32) -
 
 // A mark of 0 is no image id, anything else one.
 pub fn image_given(mark: u8, image: u64) -> ImageId
-    ensures { λ r. ⌜ r ≡ imageFrom mark image ⌝ }
+    ensures { λ r. ⌜ r ≡ imageRead mark image ⌝ }
 {
     if mark == 0 {
         return ImageId::Anonymous;

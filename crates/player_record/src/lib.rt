@@ -14,7 +14,7 @@ use player::block::index_in;
 use player::block::recorder_in;
 use rules::EndState;
 ghost use mathlib.Core.Path.{_≡_};
-ghost use Rattle.blocks.specs.Blocks.{imageFrom};
+ghost use Rattle.blocks.specs.Blocks.{imageRead};
 ghost use Rattle.tables.specs.Index.{tables};
 ghost use Rattle.tables.specs.Recorder.{recorderTables};
 ghost use Rattle.player.specs.Block.{called};
@@ -201,7 +201,7 @@ pub extern "C" fn seek_raw_absorb(
     ensures { λ r. ⌜ calledAbsorbed r (now (head .exit)) (now (block .exit))
         (tables (now (checkpoints .exit)) (now (frames .exit)) (now (store .exit)) (now (parts .exit))
         (now (malformed .exit)) (now (hints .entry)) (now (confirmed .entry)))
-        ≡ absorbCall (now (head .entry)) (now (block .entry)) (imageFrom mark image) (now (given .entry))
+        ≡ absorbCall (now (head .entry)) (now (block .entry)) (imageRead mark image) (now (given .entry))
         (tables (now (checkpoints .entry)) (now (frames .entry)) (now (store .entry)) (now (parts .entry))
         (now (malformed .entry)) (now (hints .entry)) (now (confirmed .entry)))
         (recorderTables (now («new_checkpoints» .entry)) (now («new_frames» .entry))

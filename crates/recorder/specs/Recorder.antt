@@ -59,8 +59,8 @@ boundaryAt a k budget j wanted =
     (cond (numbersOk k budget) (cond (wanted && ltb j (boundaries a k)) (boundary.Lsn (lsnOf a k j)) boundary.Nothing) (boundary.Refused 2)) (boundary.Refused 1)
 
 -- the LSN of checkpoint number j
-abbrev pub checkpointAt : AreaIndex → ℕ → Boundary
-checkpointAt x j = boundaryAt (x .area) (x .interval) (x .budget) j true
+abbrev pub checkpointLsn : AreaIndex → ℕ → Boundary
+checkpointLsn x j = boundaryAt (x .area) (x .interval) (x .budget) j true
 
 -- the LSN that 5 asks for; none where every boundary is passed, or the recorder is finished or stopped
 abbrev pub dueAt : Recorder → Boundary

@@ -10,7 +10,7 @@ use rules::Recorder;
 use sections::area_boundaries;
 use sections::lsn_at;
 ghost use mathlib.Core.Path.{_≡_};
-ghost use Rattle.recorder.specs.Recorder.{boundaryAt, checkpointAt, dueAt};
+ghost use Rattle.recorder.specs.Recorder.{boundaryAt, checkpointLsn, dueAt};
 
 // Boundary number j, where it is wanted.
 fn boundary_at(area: Area, interval: u32, budget: u64, j: u64, wanted: bool) -> Boundary
@@ -32,7 +32,7 @@ fn boundary_at(area: Area, interval: u32, budget: u64, j: u64, wanted: bool) -> 
 
 // The LSN of an index's checkpoint number j, held or not.
 pub fn checkpoint_lsn(x: AreaIndex, j: u32) -> Boundary
-    ensures { λ r. ⌜ r ≡ checkpointAt x j ⌝ }
+    ensures { λ r. ⌜ r ≡ checkpointLsn x j ⌝ }
 {
     let area = x.area;
     boundary_at(area, x.interval, x.budget, j as u64, true)

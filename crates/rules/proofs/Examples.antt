@@ -15,7 +15,7 @@ use Rattle.rules.specs.examples.Marks.{markNumbers, maybeMarks, marks, m
 use Rattle.rules.specs.examples.Starred.{numbersOf, knownNumbers, firstNumbers, hintNumbers, confirmedNumbers, planNumbers, hintedNumbers, indexNumbers, partNumbers, keptNumbers, Hold, starred, traps}
 use Rattle.rules.specs.File.{headerFields, fieldAt, readHeader, writeFields, encodeCheckpoint, decodeCheckpoint, encodeFrameHeader, encodeFrame, unsigned32, signed32, kindNumber, kindOf, encodeHeld, decodeHeld, encodeLsn, decodeLsn, encodeHint, decodeHint, encodeConfirmation, decodeConfirmation, orZero, endOrZero, bit, hasHinting, versionOf, headerOf, hintSection, confirmedSection, bodyOf, saved, savedLength, save}
 use Rattle.rules.specs.FirstRecord.{timeAt, firstRecord, recordNumber}
-use Rattle.rules.specs.Hints.{spaced, seenRecord, see, flushedList, flush, takeList, insert, countOf, rise, riseAt, gap, sooner, rank, kept, thin, inArea, insertAll, limitedTo, joinedHints, question13, addHints, unkept, placeOf, question53, withMark, keepHint, heldConfirmation, lastOnes, keep, keepAll, question14, keepConfirmation, larger, largerOf, largestOf, near, confirmedAt, hintPlace, firstFrom, runFrom, densityBefore, local, denser, orHint, upperEnd, hintedLocally, hintedLater, hintedAt, hint}
+use Rattle.rules.specs.Hints.{spaced, seenRecord, see, flushedList, flush, takeList, insert, countOf, rise, riseAt, gap, smaller, rank, kept, thin, inArea, insertAll, limitedTo, joinedHints, question13, addHints, unkept, placeOf, question53, withMark, keepHint, heldConfirmation, lastOnes, keep, keepAll, question14, keepConfirmation, larger, largerOf, largestOf, near, confirmedAt, hintPlace, firstFrom, runFrom, densityBefore, local, denser, orHint, upperEnd, hintedLocally, hintedLater, hintedAt, hint}
 use Rattle.rules.specs.Load.{readEach, readRecord, readFrame, readPart, headerNumber, endNumber, decodeHintHeader, adds, hintNumber, mostOk, mayConfirm, readHintSection, confirmedNumber, readConfirmedSection, readSections, fileNumber, fromBytes, fitting, within, unmarked, limited, load}
 use Rattle.rules.specs.Merge.{question41, question42, question43, further, mergedScan, heldFrom, mergedFingerprint, merged, mergeNumber, merge}
 use Rattle.rules.specs.PartRule.{opens, joins, growth, stores, addPart, addParts}
@@ -29,7 +29,7 @@ use Rattle.rules.specs.Values.{used, boundaries, frontierOf, counted, st
 
 -- the definitions that an evaluation sees through
 unfoldable pub evaluated : ℕ
-unfolding placesOf scanNumbers restNumbers merges partRule files fingerprintNumbers fingerprints additions confirmations hints absorbedNumbers absorbs modeNumbers checkpointNumbers recorderNumbers recorders tailNumbers seenNumbers takenNumbers spacingNumbers knownNumbers firstRecords hintRecorders new bindFingerprint recorder hintRecorder numbersOf firstNumbers hintNumbers confirmedNumbers planNumbers hintedNumbers indexNumbers partNumbers keptNumbers starred traps headerFields fieldAt readHeader writeFields encodeCheckpoint decodeCheckpoint encodeFrameHeader encodeFrame unsigned32 signed32 kindNumber kindOf encodeHeld decodeHeld encodeLsn decodeLsn encodeHint decodeHint encodeConfirmation decodeConfirmation orZero endOrZero bit hasHinting versionOf headerOf hintSection confirmedSection bodyOf saved savedLength save timeAt firstRecord recordNumber spaced seenRecord see flushedList flush takeList insert countOf rise riseAt gap sooner rank kept thin inArea insertAll limitedTo joinedHints question13 addHints unkept placeOf question53 withMark keepHint heldConfirmation lastOnes keep keepAll question14 keepConfirmation larger largerOf largestOf near confirmedAt hintPlace firstFrom runFrom densityBefore local denser orHint upperEnd hintedLocally hintedLater hintedAt hint readEach readRecord readFrame readPart headerNumber endNumber decodeHintHeader adds hintNumber mostOk mayConfirm readHintSection confirmedNumber readConfirmedSection readSections fileNumber fromBytes fitting within unmarked limited load question41 question42 question43 further mergedScan heldFrom mergedFingerprint merged mergeNumber merge opens joins growth stores addPart addParts lastNotAbove assemblyOf planFrom planOr planned startOf plan bytesAt areaOk numbersOk scanRoom hintingRoom heldOk scanOk hintingOk question1 question2 question3 question4 endOf recorderQuestion1 recorderQuestion2 recorderQuestion3 recorderQuestion4 isRunning question5 question6 question7 backOf assembled recordAt finish sameCounts question8 question9 question10 question11 below question12 drained isStopped absorb countsOk checkpointOk checkpointsOk frameOk framesOk follows belongs partOk reached partsOk endOk endingOk risingOk rising malformedOk hintsOk isKept keptCount marksOk confirmationsOk all each walk lastOr isSome orElse agree agrees firstNo after bind numberOf used boundaries frontierOf counted stated isChecked sameKind sameKey sameArea sameCheckpoint sameEnd encode decode numberAt sameBytes bytesOf fnvFrom
+unfolding placesOf scanNumbers restNumbers merges partRule files fingerprintNumbers fingerprints additions confirmations hints absorbedNumbers absorbs modeNumbers checkpointNumbers recorderNumbers recorders tailNumbers seenNumbers takenNumbers spacingNumbers knownNumbers firstRecords hintRecorders new bindFingerprint recorder hintRecorder numbersOf firstNumbers hintNumbers confirmedNumbers planNumbers hintedNumbers indexNumbers partNumbers keptNumbers starred traps headerFields fieldAt readHeader writeFields encodeCheckpoint decodeCheckpoint encodeFrameHeader encodeFrame unsigned32 signed32 kindNumber kindOf encodeHeld decodeHeld encodeLsn decodeLsn encodeHint decodeHint encodeConfirmation decodeConfirmation orZero endOrZero bit hasHinting versionOf headerOf hintSection confirmedSection bodyOf saved savedLength save timeAt firstRecord recordNumber spaced seenRecord see flushedList flush takeList insert countOf rise riseAt gap smaller rank kept thin inArea insertAll limitedTo joinedHints question13 addHints unkept placeOf question53 withMark keepHint heldConfirmation lastOnes keep keepAll question14 keepConfirmation larger largerOf largestOf near confirmedAt hintPlace firstFrom runFrom densityBefore local denser orHint upperEnd hintedLocally hintedLater hintedAt hint readEach readRecord readFrame readPart headerNumber endNumber decodeHintHeader adds hintNumber mostOk mayConfirm readHintSection confirmedNumber readConfirmedSection readSections fileNumber fromBytes fitting within unmarked limited load question41 question42 question43 further mergedScan heldFrom mergedFingerprint merged mergeNumber merge opens joins growth stores addPart addParts lastNotAbove assemblyOf planFrom planOr planned startOf plan bytesAt areaOk numbersOk scanRoom hintingRoom heldOk scanOk hintingOk question1 question2 question3 question4 endOf recorderQuestion1 recorderQuestion2 recorderQuestion3 recorderQuestion4 isRunning question5 question6 question7 backOf assembled recordAt finish sameCounts question8 question9 question10 question11 below question12 drained isStopped absorb countsOk checkpointOk checkpointsOk frameOk framesOk follows belongs partOk reached partsOk endOk endingOk risingOk rising malformedOk hintsOk isKept keptCount marksOk confirmationsOk all each walk lastOr isSome orElse agree agrees firstNo after bind numberOf used boundaries frontierOf counted stated isChecked sameKind sameKey sameArea sameCheckpoint sameEnd encode decode numberAt sameBytes bytesOf fnvFrom
 evaluated = 0
 
 -- 01's starred examples

@@ -57,11 +57,11 @@ flush n r =
     (Accepted (record { spacing = r .spacing; last = r .last; tail = none; list = flushedList (r .tail) (r .list) }))
 
 -- the list that is taken, and the recorder afterwards
-pub record Taken : Type 0 where
+pub record TakenHints : Type 0 where
   pub list : List Hint
   pub recorder : HintRecorder
 
-unfoldable pub takeList : ℕ → HintRecorder → Answer Taken
+unfoldable pub takeList : ℕ → HintRecorder → Answer TakenHints
 takeList n r =
     after (firstNo (hintRecorderFour n r []))
     (Accepted (record { list = r .list; recorder = record { spacing = r .spacing; last = r .last; tail = r .tail; list = [] } }))
@@ -93,12 +93,12 @@ unfoldable pub gap : List Hint → ℕ → ℕ
 gap hs i = cond (isKept (getD hs i noHint)) (suc max32) (riseAt hs i)
 
 -- is (gap, place) at k smaller than at i?
-unfoldable pub sooner : List Hint → ℕ → ℕ → Bool
-sooner hs i k = ltb (gap hs k) (gap hs i) || (eqb (gap hs k) (gap hs i) && ltb k i)
+unfoldable pub smaller : List Hint → ℕ → ℕ → Bool
+smaller hs i k = ltb (gap hs k) (gap hs i) || (eqb (gap hs k) (gap hs i) && ltb k i)
 
 -- how many pairs are smaller than that at i
 unfoldable pub rank : List Hint → ℕ → ℕ
-rank hs i = countOf (sooner hs i) (length hs)
+rank hs i = countOf (smaller hs i) (length hs)
 
 -- of the first n hints those whose places p keeps
 unfoldable pub kept : (ℕ → Bool) → List Hint → ℕ → List Hint

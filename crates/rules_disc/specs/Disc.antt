@@ -53,9 +53,9 @@ entryOf s [] = none
 entryOf s (e ∷ es) = cond (eqb (e .slot) s) (some e) (entryOf s es)
 
 -- the body that an entry names
-unfoldable pub bodyOf : List ℕ → Option Entry → Option (List ℕ)
-bodyOf b none = none
-bodyOf b (some e) = some (take (e .len) (drop (e .offset) b))
+unfoldable pub bodyAt : List ℕ → Option Entry → Option (List ℕ)
+bodyAt b none = none
+bodyAt b (some e) = some (take (e .len) (drop (e .offset) b))
 
 -- ---- loading
 -- the lists of a disc, by slot
@@ -75,8 +75,8 @@ loadBody l a limit (some b) = bind (load l a b limit) (λ x. Accepted (some x))
 -- the bodies in the order of their slots: the first failing body's own number, its 3 included; all lists or none
 unfoldable pub loadBodies : Lengths → Lengths → Area → Area → List ℕ → ℕ → Answer Disc
 loadBodies l m a0 a1 b limit =
-    bind (loadBody l a0 limit (bodyOf b (entryOf 0 (entriesIn b))))
-    (λ x. bind (loadBody m a1 limit (bodyOf b (entryOf 1 (entriesIn b)))) (λ y. Accepted (record { slot0 = x; slot1 = y })))
+    bind (loadBody l a0 limit (bodyAt b (entryOf 0 (entriesIn b))))
+    (λ x. bind (loadBody m a1 limit (bodyAt b (entryOf 1 (entriesIn b)))) (λ y. Accepted (record { slot0 = x; slot1 = y })))
 
 -- Load a disc file under the areas of slots 0 and 1, in tables of the lengths l and m: 1 of both, 54, then the bodies
 unfoldable pub loadDisc : Lengths → Lengths → Area → Area → List ℕ → ℕ → Answer Disc
@@ -108,14 +108,14 @@ unfoldable pub discLength : List Index → ℕ
 discLength xs = tableSize (length xs) + bodiesLength xs
 
 -- 54 of lists to be saved: do slots rise from s on, so that no two share one, and do offset and length of each fit four bytes?
-unfoldable pub listed : ℕ → List Entry → Bool
-listed s [] = true
-listed s (e ∷ es) = all (leb s (e .slot) ∷ leb (e .offset) max32 ∷ leb (e .len) max32 ∷ listed (e .slot + 1) es ∷ [])
+unfoldable pub entriesOk : ℕ → List Entry → Bool
+entriesOk s [] = true
+entriesOk s (e ∷ es) = all (leb s (e .slot) ∷ leb (e .offset) max32 ∷ leb (e .len) max32 ∷ entriesOk (e .slot + 1) es ∷ [])
 
 -- 1 to 4, 54, 40: is the output long enough? What lies past the length stays.
 unfoldable pub saveLists : Four → List Index → ℕ → Answer (List ℕ)
 saveLists p xs out =
-    after (firstNo (askFour p (ask (listed 0 (contentsOf xs)) 54 ∷ ask (leb (discLength xs) out) 40 ∷ []))) (Accepted (discBytes xs))
+    after (firstNo (askFour p (ask (entriesOk 0 (contentsOf xs)) 54 ∷ ask (leb (discLength xs) out) 40 ∷ []))) (Accepted (discBytes xs))
 
 -- Save one list
 unfoldable pub saveOne : Lengths → Index → ℕ → Answer (List ℕ)

@@ -11,7 +11,7 @@ use Rattle.rules.specs.Tests.{Answer, numberOf}
 use Rattle.rules.specs.Values.{Index}
 use Rattle.rules.specs.Create.{emptyIndex}
 use Rattle.rules.specs.examples.Starred.{ample, short, area, checkpoint, indexOf, three, empty, numbersOf, Example, example}
-use Rattle.rules_disc.specs.Disc.{entry, Disc, discBytes, listed, saveOne, saveBoth, loadDisc}
+use Rattle.rules_disc.specs.Disc.{entry, Disc, discBytes, entriesOk, saveOne, saveBoth, loadDisc}
 
 -- ---- values
 -- the multichannel area of the same disc
@@ -61,7 +61,7 @@ discs =
     -- 1 to 4 before 54, of both lists
     ∷ example (numberOf (saveBoth ample three short three 300) ∷ []) (3 ∷ [])
     -- "one needs an offset or length above four bytes"
-    ∷ example (cond (listed 0 (entry 0 28 4294967295 ∷ [])) 1 0 ∷ cond (listed 0 (entry 0 28 4294967296 ∷ [])) 1 0 ∷ cond (listed 0 (entry 0 28 10 ∷ entry 1 4294967296 10 ∷ [])) 1 0 ∷ [])
+    ∷ example (cond (entriesOk 0 (entry 0 28 4294967295 ∷ [])) 1 0 ∷ cond (entriesOk 0 (entry 0 28 4294967296 ∷ [])) 1 0 ∷ cond (entriesOk 0 (entry 0 28 10 ∷ entry 1 4294967296 10 ∷ [])) 1 0 ∷ [])
     (1 ∷ 0 ∷ 0 ∷ [])
     -- both lists, the list of one slot, that of the other
     ∷ example (opened pair) (0 ∷ 4 ∷ 2 ∷ [])

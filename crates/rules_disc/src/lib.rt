@@ -11,7 +11,7 @@ pub struct Entry {
 }
 
 // The entry of a slot, where the contents table lists it.
-pub enum Place {
+pub enum SlotEntry {
     Absent,
     At(Entry),
 }
@@ -19,7 +19,7 @@ pub enum Place {
 // What the contents table of a file says: it breaks its rules, or the entries of slots 0 and 1.
 pub enum Contents {
     Broken,
-    Lists(Place, Place),
+    Lists(SlotEntry, SlotEntry),
 }
 
 // The list of a slot: none in the file, or the numbers of the list that the slot's tables then hold.

@@ -12,25 +12,24 @@ use Rattle.rules.specs.declared.Area.{Area}
 use Rattle.rules.specs.Values.{sameArea}
 use Rattle.rules.proofs.Tests.{choose, →all}
 use Rattle.rules_shelf.specs.declared.ShelfRecord.{ShelfRecord}
-use Rattle.rules_shelf.specs.Shelf.{noRecord, areaOf, sum, placeOf, among, noTwo, dropAt, stampAt, older}
-use Rattle.rules_shelf.specs.Shelf.{oldestOf, oldest, roomy, makeRoom}
+use Rattle.rules_shelf.specs.Shelf.{noRecord, areaOf, sum, areaPlace, among, noTwo, dropAt, stampAt, older, oldestOf, oldest, roomy, makeRoom}
 
 -- ---- the place of an area
-pub place-le : (a : Area) (rs : List ShelfRecord) → placeOf a rs ≤ length rs
-unfolding placeOf
+pub place-le : (a : Area) (rs : List ShelfRecord) → areaPlace a rs ≤ length rs
+unfolding areaPlace
 place-le a [] = omega arith
 place-le a (r ∷ rs) =
-    choose (λ (n : ℕ). n ≤ suc (length rs)) (sameArea (areaOf r) a) 0 (suc (placeOf a rs)) (λ _. omega arith)
+    choose (λ (n : ℕ). n ≤ suc (length rs)) (sameArea (areaOf r) a) 0 (suc (areaPlace a rs)) (λ _. omega arith)
     (λ _. let h = place-le a rs in omega arith)
 
 module _ (a : Area) (rs : List ShelfRecord) (i : ℕ) (l : i < length rs) where
-  pub place-here : sameArea (areaOf (getD rs i noRecord)) a ≡ true → placeOf a (drop i rs) ≡ 0
-  unfolding placeOf
+  pub place-here : sameArea (areaOf (getD rs i noRecord)) a ≡ true → areaPlace a (drop i rs) ≡ 0
+  unfolding areaPlace
   place-here e = rw (drop-cons rs i noRecord l, e)
 
   pub place-later : sameArea (areaOf (getD rs i noRecord)) a ≡ false
-      → placeOf a (drop i rs) ≡ suc (placeOf a (drop (suc i) rs))
-  unfolding placeOf
+      → areaPlace a (drop i rs) ≡ suc (areaPlace a (drop (suc i) rs))
+  unfolding areaPlace
   place-later e = rw (drop-cons rs i noRecord l, e)
 
 -- ---- no area under two

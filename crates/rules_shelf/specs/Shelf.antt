@@ -43,8 +43,8 @@ recordOf a len stamp =
     }
 
 -- the first records of a table, as many as are present
-abbrev pub present : Shelf → List ShelfRecord → List ShelfRecord
-present x t = take (x .present) t
+abbrev pub presentRecords : Shelf → List ShelfRecord → List ShelfRecord
+presentRecords x t = take (x .present) t
 
 -- the sum of lengths
 unfoldable pub sum : List ShelfRecord → ℕ
@@ -53,13 +53,13 @@ sum (r ∷ rs) = r .len + sum rs
 
 -- ---- areas
 -- the place of the first record of an area, the number of records where there is none
-unfoldable pub placeOf : Area → List ShelfRecord → ℕ
-placeOf a [] = 0
-placeOf a (r ∷ rs) = cond (sameArea (areaOf r) a) 0 (suc (placeOf a rs))
+unfoldable pub areaPlace : Area → List ShelfRecord → ℕ
+areaPlace a [] = 0
+areaPlace a (r ∷ rs) = cond (sameArea (areaOf r) a) 0 (suc (areaPlace a rs))
 
 -- is there a record of this area?
 unfoldable pub among : Area → List ShelfRecord → Bool
-among a rs = ltb (placeOf a rs) (length rs)
+among a rs = ltb (areaPlace a rs) (length rs)
 
 -- is no area under two of them?
 unfoldable pub noTwo : List ShelfRecord → Bool
@@ -73,7 +73,7 @@ dropAt i rs = take i rs ++ drop (suc i) rs
 
 -- without the record of an area
 unfoldable pub without : Area → List ShelfRecord → List ShelfRecord
-without a rs = dropAt (placeOf a rs) rs
+without a rs = dropAt (areaPlace a rs) rs
 
 abbrev pub stampAt : List ShelfRecord → ℕ → ℕ
 stampAt rs i = getD rs i noRecord .stamp
@@ -112,7 +112,7 @@ unfoldable pub restamped : List ShelfRecord → ℕ → ℕ → List ShelfRecord
 restamped rs i stamp = set rs i (recordOf (areaOf (getD rs i noRecord)) (getD rs i noRecord .len) stamp)
 
 unfoldable pub jumped : Shelf → List ShelfRecord → Area → List ShelfRecord
-jumped x rs a = restamped rs (placeOf a rs) (x .count + 1)
+jumped x rs a = restamped rs (areaPlace a rs) (x .count + 1)
 
 -- ---- the questions
 -- 4: at most 64 present, no area under two of them, their sum within the limit
@@ -140,17 +140,17 @@ pub record After : Type 0 where
   pub table : List ShelfRecord
 
 -- new are present, one more call is counted, and past them the table is as it was
-abbrev pub counted : Shelf → List ShelfRecord → Shelf
-counted x new = record { present = length new; count = x .count + 1; limit = x .limit }
+abbrev pub callCounted : Shelf → List ShelfRecord → Shelf
+callCounted x new = record { present = length new; count = x .count + 1; limit = x .limit }
 
-abbrev pub over : List ShelfRecord → List ShelfRecord → List ShelfRecord
-over new t = new ++ drop (length new) t
+abbrev pub recordsOver : List ShelfRecord → List ShelfRecord → List ShelfRecord
+recordsOver new t = new ++ drop (length new) t
 
 abbrev pub holding : Shelf → List ShelfRecord → List ShelfRecord → After
-holding x t new = record { shelf = counted x new; table = over new t }
+holding x t new = record { shelf = callCounted x new; table = recordsOver new t }
 
 unfoldable pub enter : Shelf → List ShelfRecord → Area → ℕ → Answer After
-enter x t a len = bind (entering x (length t) (present x t) a len) (λ new. Accepted (holding x t new))
+enter x t a len = bind (entering x (length t) (presentRecords x t) a len) (λ new. Accepted (holding x t new))
 
 unfoldable pub heldBy : Shelf → List ShelfRecord → Option (List ShelfRecord) → Option After
 heldBy x t none = none
@@ -158,4 +158,4 @@ heldBy x t (some new) = some (holding x t new)
 
 -- none where the area is not present
 unfoldable pub jump : Shelf → List ShelfRecord → Area → Answer (Option After)
-jump x t a = bind (jumping x (length t) (present x t) a) (λ o. Accepted (heldBy x t o))
+jump x t a = bind (jumping x (length t) (presentRecords x t) a) (λ o. Accepted (heldBy x t o))

@@ -3,7 +3,7 @@ use mathlib.Core.Path.{refl}
 use Rattle.field.specs.Records.{records}
 use Rattle.rules.specs.examples.Starred.{Hold}
 use Rattle.rules.proofs.Examples.{evaluated}
-use Rattle.rules_disc.specs.Disc.{encodeEntry, decodeEntry, laid, contentsOk, entryOf, bodyOf, slotArea, loadBody, loadBodies, loadDisc, entriesFrom, discBytes, bodiesLength, discLength, listed, saveLists, saveOne, bySlot, saveBoth}
+use Rattle.rules_disc.specs.Disc.{encodeEntry, decodeEntry, laid, contentsOk, entryOf, bodyAt, slotArea, loadBody, loadBodies, loadDisc, entriesFrom, discBytes, bodiesLength, discLength, entriesOk, saveLists, saveOne, bySlot, saveBoth}
 use Rattle.rules_drawer.specs.Drawer.{question44, loadFiles, pairNumber, firstOf, pairsWith, pairsNumber, mergeEach, mergeLists, mergeAll}
 use Rattle.rules_view.specs.View.{seenFrom, listenerOf, backingsOf, lengthsOf, workshopOf, readHead, headOf, encodeSeen, decodeSeen, seenBytes, listenerBytes, readTotals, totalsOf, encodeBacking, decodeBacking, encodeHeldLength, decodeHeldLength, encodeMark, workshopBytes, listenerFrom, seenIn, readListener, withMarks, workshopFrom, workshopSize, readWorkshop, isRole, viewBytes, viewLength, view, viewSize}
 use Rattle.rules_view.specs.Roles.{asWorkshop}
@@ -14,5 +14,5 @@ unfolding evaluated records seenFrom listenerOf backingsOf lengthsOf workshopOf 
 views-hold = refl
 
 pub roles-hold : Hold roles
-unfolding evaluated records encodeEntry decodeEntry laid contentsOk entryOf bodyOf slotArea loadBody loadBodies loadDisc entriesFrom discBytes bodiesLength discLength listed saveLists saveOne bySlot saveBoth question44 loadFiles pairNumber firstOf pairsWith pairsNumber mergeEach mergeLists mergeAll asWorkshop roles
+unfolding evaluated records encodeEntry decodeEntry laid contentsOk entryOf bodyAt slotArea loadBody loadBodies loadDisc entriesFrom discBytes bodiesLength discLength entriesOk saveLists saveOne bySlot saveBoth question44 loadFiles pairNumber firstOf pairsWith pairsNumber mergeEach mergeLists mergeAll asWorkshop roles
 roles-hold = refl

@@ -145,8 +145,8 @@ headOf role v =
       count = length (v .checkpoints);
     }
 
-abbrev pub areaFrom : Head → Area
-areaFrom h =
+abbrev pub headArea : Head → Area
+headArea h =
     record {
       key = record { slot = h .slot; start = h .keyStart; end = h .keyEnd; channels = h .channels; sectors = h .sectors };
       start = h .start;
@@ -228,7 +228,7 @@ workshopBytes w =
 -- of the head h, and the bytes b behind it
 unfoldable pub listenerFrom : Head → List ℕ → Listener
 listenerFrom h b =
-    record { area = areaFrom h; interval = h .interval; complete = eqb (h .complete) 1; checkpoints = records 8 decodeSeen (h .count) b }
+    record { area = headArea h; interval = h .interval; complete = eqb (h .complete) 1; checkpoints = records 8 decodeSeen (h .count) b }
 
 unfoldable pub seenIn : List ℕ → Listener
 seenIn b = listenerFrom (readHead b) (drop 88 b)

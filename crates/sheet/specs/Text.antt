@@ -8,13 +8,13 @@ use lib.ListN.{length, set, take}
 use Rattle.rules.specs.File.{over}
 
 -- as much of a text as an output has room for
-abbrev pub fitting : List ℕ → List ℕ → List ℕ
-fitting out text = take (length out) text
+abbrev pub fittingText : List ℕ → List ℕ → List ℕ
+fittingText out text = take (length out) text
 
 -- n bytes were written over the start of out: the text, as much of it as there is room for
 pub record Written (out after : List ℕ) (n : ℕ) (text : List ℕ) : Type 0 where
-  pub bytes : after ≡ over (fitting out text) out
-  pub count : n ≡ length (fitting out text)
+  pub bytes : after ≡ over (fittingText out text) out
+  pub count : n ≡ length (fittingText out text)
 
 -- ---- steps: an output and where the next byte goes, which stays at the end once it is there
 pub record Output : Type 0 where

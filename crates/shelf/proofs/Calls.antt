@@ -16,11 +16,11 @@ use Rattle.rules.specs.Questions.{areaOk}
 use Rattle.rules.proofs.Tests.{test}
 use Rattle.rules_shelf.specs.declared.Shelf.{Shelf}
 use Rattle.rules_shelf.specs.declared.ShelfRecord.{ShelfRecord}
-use Rattle.rules_shelf.specs.Shelf.{noRecord, areaOf, present, dropAt, shelfOk, questions, entering, jumping, over, holding, enter, heldBy, jump}
+use Rattle.rules_shelf.specs.Shelf.{noRecord, areaOf, presentRecords, dropAt, shelfOk, questions, entering, jumping, recordsOver, holding, enter, heldBy, jump}
 use Rattle.shelf.specs.declared.Change.{Change}
 use Rattle.shelf.specs.declared.Kept.{Kept}
 use Rattle.shelf.specs.declared.ShelfAnswer.{ShelfAnswer}
-use Rattle.shelf.specs.Shelf.{answer, someOf, clamp, Out, out, outOf, enterCall, jumpCall}
+use Rattle.shelf.specs.Shelf.{answer, someOf, clamp, ShelfOut, shelfOut, shelfOutOf, enterCall, jumpCall}
 use Rattle.shelf.specs.Steps.{told, newOf, Changes, Sound, Stands, listOf, written}
 use Rattle.shelf.proofs.Laws.{list-length}
 
@@ -82,7 +82,7 @@ too-many x room a qs e d =
 
 -- all that are present were taken, or the call is refused whatever was taken
 taken-all : (x : Shelf) (ys : List ShelfRecord) (a : Area) (qs : List Ask)
-    → (take (clamp x (length ys)) ys ≡ present x ys) ⊎ Fixed x (length ys) a qs
+    → (take (clamp x (length ys)) ys ≡ presentRecords x ys) ⊎ Fixed x (length ys) a qs
 unfolding clamp
 taken-all x ys a qs =
     test (leb 64 (length ys))
@@ -100,21 +100,21 @@ unfolding after
 refused-by n m y e h = rw (← e) (rw (ne-eqb n 0 h))
 
 enter-same : (x : Shelf) (ys : List ShelfRecord) (a : Area) (len : ℕ)
-    → entering x (length ys) (take (clamp x (length ys)) ys) a len ≡ entering x (length ys) (present x ys) a len
+    → entering x (length ys) (take (clamp x (length ys)) ys) a len ≡ entering x (length ys) (presentRecords x ys) a len
 unfolding entering
 enter-same x ys a len =
     ⊎-elim (λ e. ap (λ (rs : List ShelfRecord). entering x (length ys) rs a len) e)
     (λ f. refused-by (f .number) _ _ (f .every (take (clamp x (length ys)) ys)) (f .refuses)
-    ∙ sym (refused-by (f .number) _ _ (f .every (present x ys)) (f .refuses)))
+    ∙ sym (refused-by (f .number) _ _ (f .every (presentRecords x ys)) (f .refuses)))
     (taken-all x ys a (ask (leb len (x .limit)) 50 ∷ []))
 
 jump-same : (x : Shelf) (ys : List ShelfRecord) (a : Area) → jumping x (length ys) (take (clamp x (length ys)) ys)
-    a ≡ jumping x (length ys) (present x ys) a
+    a ≡ jumping x (length ys) (presentRecords x ys) a
 unfolding jumping
 jump-same x ys a =
     ⊎-elim (λ e. ap (λ (rs : List ShelfRecord). jumping x (length ys) rs a) e)
     (λ f. refused-by (f .number) _ _ (f .every (take (clamp x (length ys)) ys)) (f .refuses)
-    ∙ sym (refused-by (f .number) _ _ (f .every (present x ys)) (f .refuses)))
+    ∙ sym (refused-by (f .number) _ _ (f .every (presentRecords x ys)) (f .refuses)))
     (taken-all x ys a [])
 
 -- ---- what is written fits the table
@@ -154,7 +154,7 @@ module _ (c : Change) (x : Shelf) (r : Answer (Option (List ShelfRecord))) (ys :
 
   written-out : (b : Kept) (m : ℕ) (zs : List ShelfRecord) (v : ShelfAnswer) → (b .all ≡ c .all) × (b .n ≡ c .n)
       → m ≡ b .n → zs ≡ written m (b .all) ys → v ≡ c .answer
-      → out v zs ≡ out (told x r) (over (newOf r) ys)
+      → shelfOut v zs ≡ shelfOut (told x r) (recordsOver (newOf r) ys)
   written-out b m zs v e d w a =
       let f = h .few in
       let l = change-fits c x r (length ys) h g in
@@ -164,34 +164,34 @@ module _ (c : Change) (x : Shelf) (r : Answer (Option (List ShelfRecord))) (ys :
       let t : length (newOf r) ≡ c .n = sym (ap length (h .new)) ∙ n in
       let z : written (c .n) (c .all) ys ≡ take (c .n) (c .all) ++ drop (c .n) ys = written-is (c .n) (c .all) ys
       (omega arith) l in
-      let s : zs ≡ over (newOf r) ys =
+      let s : zs ≡ recordsOver (newOf r) ys =
       w ∙ ap₂ (λ (i : ℕ) (q : List ShelfRecord). written i q ys) k (e .0) ∙ z
       ∙ ap₂ (λ (p : List ShelfRecord) (i : ℕ). p ++ drop i ys) (h .new) (sym t) in
-      ap₂ out (a ∙ h .answers) s
+      ap₂ shelfOut (a ∙ h .answers) s
 
 told-enter : (x : Shelf) (ys : List ShelfRecord) (y : Answer (List ShelfRecord))
-    → out (told x (someOf y)) (over (newOf (someOf y)) ys) ≡ outOf x ys
+    → shelfOut (told x (someOf y)) (recordsOver (newOf (someOf y)) ys) ≡ shelfOutOf x ys
     (someOf (bind y (λ new. Accepted (holding x ys new))))
-unfolding told newOf someOf outOf bind
+unfolding told newOf someOf shelfOutOf bind
 told-enter x ys (Refused n) = refl
 told-enter x ys (Accepted new) = refl
 
 told-jump : (x : Shelf) (ys : List ShelfRecord) (y : Answer (Option (List ShelfRecord)))
-    → out (told x y) (over (newOf y) ys) ≡ outOf x ys (bind y (λ o. Accepted (heldBy x ys o)))
-unfolding told newOf outOf bind heldBy
+    → shelfOut (told x y) (recordsOver (newOf y) ys) ≡ shelfOutOf x ys (bind y (λ o. Accepted (heldBy x ys o)))
+unfolding told newOf shelfOutOf bind heldBy
 told-jump x ys (Refused n) = refl
 told-jump x ys (Accepted none) = refl
 told-jump x ys (Accepted (some new)) = refl
 
 -- a call whose change answers answerOf of the records that were taken, and which is to give called
 pub record Answered (x : Shelf) (ys : List ShelfRecord) (answerOf : List ShelfRecord
-    → Answer (Option (List ShelfRecord))) (called : Out) : Type 0 where
+    → Answer (Option (List ShelfRecord))) (called : ShelfOut) : Type 0 where
   pub no-room : (rs : List ShelfRecord) → leb 64 (length ys) ≡ false → newOf (answerOf rs) ≡ []
   pub gives : (rs : List ShelfRecord) → rs ≡ take (clamp x (length ys)) ys
-      → out (told x (answerOf rs)) (over (newOf (answerOf rs)) ys) ≡ called
+      → shelfOut (told x (answerOf rs)) (recordsOver (newOf (answerOf rs)) ys) ≡ called
 
 module _ {x : Shelf} {ys : List ShelfRecord} {answerOf : List ShelfRecord → Answer (Option (List ShelfRecord))}
-    {called : Out} (l : Answered x ys answerOf called)
+    {called : ShelfOut} (l : Answered x ys answerOf called)
     {n : ℕ} {a : Kept} {c : Change} (t : n ≡ clamp x (length ys)) (s : Stands a (take n ys))
     (h : Changes c x (answerOf (listOf a))) {b : Kept} {m : ℕ}
     (e : (b .all ≡ c .all) × (b .n ≡ c .n)) (d : m ≡ b .n) where
@@ -199,7 +199,7 @@ module _ {x : Shelf} {ys : List ShelfRecord} {answerOf : List ShelfRecord → An
   fits-table = changed-fits c x _ ys h (l .no-room (listOf a)) b m e d
 
   pub gives-out : {zs : List ShelfRecord} {v : ShelfAnswer} → zs ≡ written m (b .all) ys → v ≡ c .answer
-      → out v zs ≡ called
+      → shelfOut v zs ≡ called
   gives-out {zs} {v} w u =
       written-out c x _ ys h (l .no-room (listOf a)) b m zs v e d w u
       ∙ l .gives (listOf a) (s .same ∙ ap (λ (i : ℕ). take i ys) t)
@@ -217,7 +217,7 @@ module _ (x : Shelf) (ys : List ShelfRecord) (g : ShelfRecord) where
     no-room = λ rs. enter-room x (length ys) rs (areaOf g) (g .len);
     gives = λ rs e.
         told-enter x ys (entering x (length ys) rs (areaOf g) (g .len))
-        ∙ ap (λ (y : Answer (List ShelfRecord)). outOf x ys (someOf (bind y (λ new. Accepted (holding x ys new)))))
+        ∙ ap (λ (y : Answer (List ShelfRecord)). shelfOutOf x ys (someOf (bind y (λ new. Accepted (holding x ys new)))))
         (ap (λ (rs : List ShelfRecord). entering x (length ys) rs (areaOf g) (g .len)) e
         ∙ enter-same x ys (areaOf g) (g .len));
   }
@@ -228,7 +228,7 @@ module _ (x : Shelf) (ys : List ShelfRecord) (g : ShelfRecord) where
     no-room = λ rs. jump-room x (length ys) rs (areaOf g);
     gives = λ rs e.
         told-jump x ys (jumping x (length ys) rs (areaOf g))
-        ∙ ap (λ (y : Answer (Option (List ShelfRecord))). outOf x ys (bind y (λ o. Accepted (heldBy x ys o))))
+        ∙ ap (λ (y : Answer (Option (List ShelfRecord))). shelfOutOf x ys (bind y (λ o. Accepted (heldBy x ys o))))
         (ap (λ (rs : List ShelfRecord). jumping x (length ys) rs (areaOf g)) e ∙ jump-same x ys (areaOf g));
   }
 

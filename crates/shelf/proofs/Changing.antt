@@ -48,7 +48,7 @@ use Rattle.shelf.specs.declared.Change.{Change}
 use Rattle.shelf.specs.declared.Kept.{Kept}
 use Rattle.shelf.specs.declared.ShelfAnswer.{ShelfAnswer}
 use Rattle.shelf.specs.Steps.{Changes, Sound, listOf}
-use Rattle.shelf.specs.Shelf.{clamp as clampOf, Out, out}
+use Rattle.shelf.specs.Shelf.{clamp as clampOf, ShelfOut, shelfOut}
 use Rattle.shelf.proofs.Kept as U
 use Rattle.shelf.proofs.Kept.Laws as U′
 use Rattle.shelf.proofs.Change as Ch
@@ -130,7 +130,7 @@ module _ {M : Type 1} (𝓤 : URA M) (H : Heap 𝓤) (A : Atoms 𝓤) (W : Given
     (known-count : Meets 𝓤 H A count-of.signature (𝓣 .C #count-of) (count-of.spec 𝓤 H A mem run))
     (known-answer : Meets 𝓤 H A answer-of.signature (𝓣 .C #answer-of) (answer-of.spec 𝓤 H A mem run)) where
   module _ (change : Name) (answerOf : Shelf → List ShelfRecord → ShelfRecord → List ShelfRecord
-      → Answer (Option (List ShelfRecord))) (called : Shelf → List ShelfRecord → ShelfRecord → Out)
+      → Answer (Option (List ShelfRecord))) (called : Shelf → List ShelfRecord → ShelfRecord → ShelfOut)
       (law : (x : Shelf) (ys : List ShelfRecord) (g : ShelfRecord) → Answered x ys (answerOf x ys g) (called x ys g))
       (changes : Clauses 𝓤 enter-change.ended) (known-change : Meets 𝓤 H A enter-change.signature (𝓣 .C change)
       (closing 𝓤 H A enter-change.ended changes))
@@ -141,7 +141,7 @@ module _ {M : Type 1} (𝓤 : URA M) (H : Heap 𝓤) (A : Atoms 𝓤) (W : Given
       (changes tt (a, (length ys, (x, (g, tt)))) .ensures gh r e) (fact 𝓤 (Changes r x (answerOf x ys g (listOf a))))))
       (c : Clauses 𝓤 enters.ended)
       (ensures : (κ : Lft) (a : Arg) (gh : c (κ, tt) a .ghost) (r : ShelfAnswer) (zs : List ShelfRecord)
-      → out r zs ≡ called (a .1 .0) (a .0 .now) (a .1 .1 .0)
+      → shelfOut r zs ≡ called (a .1 .0) (a .0 .now) (a .1 .1 .0)
       → ent 𝓤 (emp 𝓤) (c (κ, tt) a .ensures gh r (atExit enters.ended (κ, tt) a (zs, (tt, (tt, tt)))))) where
     module _ (κ : Lft) (q : Share) (b o : ℕ) (γ : GName) (ys : List ShelfRecord) (x : Shelf) (g : ShelfRecord) where
       abbrev s : Val
@@ -166,7 +166,7 @@ module _ {M : Type 1} (𝓤 : URA M) (H : Heap 𝓤) (A : Atoms 𝓤) (W : Given
         abbrev Post : Val → SProp 𝓤
         Post = walkOf 𝓤 H A enters.ended stayed c .post (((κ, tt), (q, tt), tt, arg, at), gh)
 
-        exits : (zs : List ShelfRecord) (r : ShelfAnswer) (v : Val) → out r zs ≡ called x ys g → length zs ≡ length ys
+        exits : (zs : List ShelfRecord) (r : ShelfAnswer) (v : Val) → shelfOut r zs ≡ called x ys g → length zs ≡ length ys
             → Is X x (vx ∷ []) → Is R g (vg ∷ [])
             → ent 𝓤 (⋆ 𝓤 H A ((‵ (flft κ q) ⊛ ‵ ftrue) ∷ ‵ (finally R γ zs) ∷ ‵ (E .own r (v ∷ [])) ∷ [])) (Post v)
         exits zs r v e l gx gg =

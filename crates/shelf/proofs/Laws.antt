@@ -16,7 +16,7 @@ use Rattle.rules.specs.Values.{max64, sameArea}
 use Rattle.rules.specs.Tests.{all, Ask, ask, firstNo, Answer, Refused, Accepted, after}
 use Rattle.rules.proofs.Tests.{test, never, all→, asked as asked-yes}
 use Rattle.rules_shelf.specs.declared.ShelfRecord.{ShelfRecord}
-use Rattle.rules_shelf.specs.Shelf.{noRecord, areaOf, recordOf, sum, placeOf, among, noTwo, dropAt, without, older, oldestOf, oldest, roomy, makeRoom, staying, entered, restamped, jumped, questions, entering, jumpedIn, jumping}
+use Rattle.rules_shelf.specs.Shelf.{noRecord, areaOf, recordOf, sum, areaPlace, among, noTwo, dropAt, without, older, oldestOf, oldest, roomy, makeRoom, staying, entered, restamped, jumped, questions, entering, jumpedIn, jumping}
 use Rattle.rules_shelf.proofs.Laws.{place-later, place-here, no-two-step, sum-at, sum-take-suc, drop-length, drop-none}
 use Rattle.rules_shelf.proofs.Laws.{take-drop, take-before, drop-next, oldest-le, oldest-lt, oldest-take, made}
 use Rattle.rules_shelf.proofs.Laws.{made-more, roomy-none}
@@ -82,7 +82,7 @@ list-at k i l = getD-take (k .n) (k .all) i noRecord l
 pub record Seeking (k : Kept) (a : Area) (from i : ℕ) : Type 0 where
   pub sound : Sound k
   pub inside : i ≤ k .n
-  pub same : i + placeOf a (drop i (listOf k)) ≡ from + placeOf a (drop from (listOf k))
+  pub same : i + areaPlace a (drop i (listOf k)) ≡ from + areaPlace a (drop from (listOf k))
 
 pub seek-start : (k : Kept) (a : Area) (from : ℕ) → Sound k → from ≤ k .n → Seeking k a from from
 seek-start k a from h l = record { sound = h; inside = l; same = refl }
@@ -96,26 +96,26 @@ module _ {k : Kept} {a : Area} {from i : ℕ} {r : ShelfRecord} {b : Bool} (s : 
       → Seeking k a from (i + 1)
   seek-on l e t f =
       let w : i < length (listOf k) = rw (list-length k (s .sound)) l in
-      let p : placeOf a (drop i (listOf k)) ≡ suc (placeOf a (drop (suc i) (listOf k))) = place-later a (listOf k) i w
+      let p : areaPlace a (drop i (listOf k)) ≡ suc (areaPlace a (drop (suc i) (listOf k))) = place-later a (listOf k) i w
       (seek-is l e t ∙ f) in
       let q = s .same in
       record { sound = s .sound; inside = omega arith; same = rw (add-one i) (omega arith) }
 
   pub seek-stop : i < k .n → r ≡ getD (k .all) i noRecord → b ≡ sameArea (areaOf r) a → b ≡ true
-      → (i ≡ from + placeOf a (drop from (listOf k))) × (i ≤ k .n)
+      → (i ≡ from + areaPlace a (drop from (listOf k))) × (i ≤ k .n)
   seek-stop l e t f =
       let w : i < length (listOf k) = rw (list-length k (s .sound)) l in
-      let p : placeOf a (drop i (listOf k)) ≡ 0 = place-here a (listOf k) i w (seek-is l e t ∙ f) in
+      let p : areaPlace a (drop i (listOf k)) ≡ 0 = place-here a (listOf k) i w (seek-is l e t ∙ f) in
       let q = s .same in
       (omega arith, s .inside)
 
 pub seek-end : {k : Kept} {a : Area} {from i : ℕ} → Seeking k a from i → k .n ≤ i
-    → (k .n ≡ from + placeOf a (drop from (listOf k))) × (k .n ≤ k .n)
-unfolding placeOf
+    → (k .n ≡ from + areaPlace a (drop from (listOf k))) × (k .n ≤ k .n)
+unfolding areaPlace
 seek-end {k} {a} {from} {i} s l =
     let m : length (listOf k) ≤ i = rw (list-length k (s .sound)) l in
     let z : drop i (listOf k) ≡ [] = drop-of-length-le (listOf k) m in
-    let p : placeOf a (drop i (listOf k)) ≡ 0 = ap (placeOf a) z in
+    let p : areaPlace a (drop i (listOf k)) ≡ 0 = ap (areaPlace a) z in
     let q = s .same in
     let v = s .inside in
     (omega arith, omega arith)
@@ -130,7 +130,7 @@ pub pair-start : (k : Kept) → Sound k → Pairing k 0
 pair-start k h = record { sound = h; inside = omega arith; same = refl }
 
 module _ {k : Kept} {i p : ℕ} {r : ShelfRecord} (s : Pairing k i) (l : i < k .n) (e : r ≡ getD (k .all) i noRecord)
-    (t : p ≡ i + 1 + placeOf (areaOf r) (drop (i + 1) (listOf k))) where
+    (t : p ≡ i + 1 + areaPlace (areaOf r) (drop (i + 1) (listOf k))) where
   behind : Area → Bool
   behind a = among a (drop (suc i) (listOf k))
 
@@ -142,8 +142,8 @@ module _ {k : Kept} {i p : ℕ} {r : ShelfRecord} (s : Pairing k i) (l : i < k .
       no-two-step (listOf k) i w ∙ ap (λ (x : ShelfRecord). not (among (areaOf x) (drop (suc i) (listOf k))) && noTwo
       (drop (suc i) (listOf k))) z
 
-  place-is : p ≡ suc i + placeOf (areaOf r) (drop (suc i) (listOf k))
-  place-is = t ∙ ap (λ (j : ℕ). j + placeOf (areaOf r) (drop j (listOf k))) (add-one i)
+  place-is : p ≡ suc i + areaPlace (areaOf r) (drop (suc i) (listOf k))
+  place-is = t ∙ ap (λ (j : ℕ). j + areaPlace (areaOf r) (drop j (listOf k))) (add-one i)
 
   length-is : length (drop (suc i) (listOf k)) ≡ k .n - suc i
   length-is = length-drop (suc i) (listOf k) ∙ ap (λ (m : ℕ). m - suc i) (list-length k (s .sound))
@@ -153,7 +153,7 @@ module _ {k : Kept} {i p : ℕ} {r : ShelfRecord} (s : Pairing k i) (l : i < k .
   pair-on h =
       let q = place-is in
       let v = length-is in
-      let o : length (drop (suc i) (listOf k)) ≤ placeOf (areaOf r) (drop (suc i) (listOf k)) = omega arith in
+      let o : length (drop (suc i) (listOf k)) ≤ areaPlace (areaOf r) (drop (suc i) (listOf k)) = omega arith in
       let f : behind (areaOf r) ≡ false = le-ltb _ _ o in
       record { sound = s .sound; inside = omega arith; same = rw (add-one i) (sym (pair-is ∙ rw f) ∙ s .same) }
 
@@ -162,7 +162,7 @@ module _ {k : Kept} {i p : ℕ} {r : ShelfRecord} (s : Pairing k i) (l : i < k .
   pair-stop h =
       let q = place-is in
       let v = length-is in
-      let o : placeOf (areaOf r) (drop (suc i) (listOf k)) < length (drop (suc i) (listOf k)) = omega arith in
+      let o : areaPlace (areaOf r) (drop (suc i) (listOf k)) < length (drop (suc i) (listOf k)) = omega arith in
       let f : behind (areaOf r) ≡ true = lt-ltb _ _ o in
       sym (pair-is ∙ rw f) ∙ s .same
 
@@ -330,7 +330,7 @@ oldest-on rs i {best} {x} e d =
     (rw (add-one i) w, omega arith)
 
 -- ---- without the record of an area
-module _ (k : Kept) (a : Area) {i : ℕ} (e : i ≡ placeOf a (listOf k)) where
+module _ (k : Kept) (a : Area) {i : ℕ} (e : i ≡ areaPlace a (listOf k)) where
   pub without-some : {b : Kept} → Stands b (dropAt i (listOf k)) → Stands b (without a (listOf k))
   unfolding without
   without-some h = rw (← e) h
@@ -338,8 +338,8 @@ module _ (k : Kept) (a : Area) {i : ℕ} (e : i ≡ placeOf a (listOf k)) where
   pub without-none : Sound k → k .n ≤ i → Stands k (without a (listOf k))
   unfolding without
   without-none h l =
-      let m : length (listOf k) ≤ placeOf a (listOf k) = let n = list-length k h in omega arith in
-      record { sound = h; same = sym (drop-none (placeOf a (listOf k)) (listOf k) m) }
+      let m : length (listOf k) ≤ areaPlace a (listOf k) = let n = list-length k h in omega arith in
+      record { sound = h; same = sym (drop-none (areaPlace a (listOf k)) (listOf k) m) }
 
 pub roomy-is : (k : Kept) (room : ℕ) {t : Bool} → Sound k → t ≡ leb (sum (listOf k)) room
     → (ltb (k .n) 64 && t) ≡ roomy room (listOf k)
@@ -456,21 +456,21 @@ module _ (x : Shelf) (room : ℕ) (k : Kept) (a : Area) {n : ℕ} (e : n ≡ fir
   pub jump-fits : n ≡ 0 → x .count < max64
   jump-fits h = ltb-true (x .count) max64 (asked-yes (questions x room (listOf k) a []) refl (sym e ∙ h) .1 .1 .1 .0)
 
-  pub jump-absent : n ≡ 0 → Sound k → {i : ℕ} → i ≡ placeOf a (listOf k) → i ≡ k .n
+  pub jump-absent : n ≡ 0 → Sound k → {i : ℕ} → i ≡ areaPlace a (listOf k) → i ≡ k .n
       → jumping x room (listOf k) a ≡ Accepted none
   unfolding jumpedIn among
   jump-absent h s {i} d m =
       let z = list-length k s in
-      let o : length (listOf k) ≤ placeOf a (listOf k) = omega arith in
-      jump-is h ∙ rw (le-ltb (placeOf a (listOf k)) (length (listOf k)) o)
+      let o : length (listOf k) ≤ areaPlace a (listOf k) = omega arith in
+      jump-is h ∙ rw (le-ltb (areaPlace a (listOf k)) (length (listOf k)) o)
 
-  pub jump-done : n ≡ 0 → Sound k → {i : ℕ} → i ≡ placeOf a (listOf k) → i < k .n
+  pub jump-done : n ≡ 0 → Sound k → {i : ℕ} → i ≡ areaPlace a (listOf k) → i < k .n
       → jumping x room (listOf k) a ≡ Accepted (some (restamped (listOf k) i (x .count + 1)))
   unfolding jumpedIn among jumped
   jump-done h s {i} d m =
       let z = list-length k s in
-      let o : placeOf a (listOf k) < length (listOf k) = omega arith in
-      jump-is h ∙ rw (lt-ltb (placeOf a (listOf k)) (length (listOf k)) o, ← d)
+      let o : areaPlace a (listOf k) < length (listOf k) = omega arith in
+      jump-is h ∙ rw (lt-ltb (areaPlace a (listOf k)) (length (listOf k)) o, ← d)
 
 pub oldest-end : (rs : List ShelfRecord) (n : ℕ) {best i : ℕ} → best ≡ oldestOf rs i → best ≤ i → i ≡ n
     → (best ≡ oldestOf rs n) × (best ≤ n)

@@ -12,28 +12,28 @@ abbrev pub answer : ℕ → ℕ → ℕ → ℕ → ShelfAnswer
 answer number absent present count = record { number = number; absent = absent; present = present; count = count }
 
 -- what a call answers, and the table afterwards
-pub record Out : Type 0 where
+pub record ShelfOut : Type 0 where
   pub answer : ShelfAnswer
   pub table : List ShelfRecord
 
-abbrev pub out : ShelfAnswer → List ShelfRecord → Out
-out r t = record { answer = r; table = t }
+abbrev pub shelfOut : ShelfAnswer → List ShelfRecord → ShelfOut
+shelfOut r t = record { answer = r; table = t }
 
 -- a refusal and an absent area leave numbers and table
-unfoldable pub outOf : Shelf → List ShelfRecord → Answer (Option After) → Out
-outOf x t (Refused n) = out (answer n 0 (x .present) (x .count)) t
-outOf x t (Accepted none) = out (answer 0 1 (x .present) (x .count)) t
-outOf x t (Accepted (some y)) = out (answer 0 0 (y .shelf .present) (y .shelf .count)) (y .table)
+unfoldable pub shelfOutOf : Shelf → List ShelfRecord → Answer (Option After) → ShelfOut
+shelfOutOf x t (Refused n) = shelfOut (answer n 0 (x .present) (x .count)) t
+shelfOutOf x t (Accepted none) = shelfOut (answer 0 1 (x .present) (x .count)) t
+shelfOutOf x t (Accepted (some y)) = shelfOut (answer 0 0 (y .shelf .present) (y .shelf .count)) (y .table)
 
 unfoldable pub someOf : {A : Type 0} → Answer A → Answer (Option A)
 someOf (Refused n) = Refused n
 someOf (Accepted a) = Accepted (some a)
 
-unfoldable pub enterCall : Shelf → List ShelfRecord → ShelfRecord → Out
-enterCall x t g = outOf x t (someOf (enter x t (areaOf g) (g .len)))
+unfoldable pub enterCall : Shelf → List ShelfRecord → ShelfRecord → ShelfOut
+enterCall x t g = shelfOutOf x t (someOf (enter x t (areaOf g) (g .len)))
 
-unfoldable pub jumpCall : Shelf → List ShelfRecord → ShelfRecord → Out
-jumpCall x t g = outOf x t (jump x t (areaOf g))
+unfoldable pub jumpCall : Shelf → List ShelfRecord → ShelfRecord → ShelfOut
+jumpCall x t g = shelfOutOf x t (jump x t (areaOf g))
 
 -- how many records are taken of a table of room records
 unfoldable pub clamp : Shelf → ℕ → ℕ

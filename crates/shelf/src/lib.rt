@@ -18,7 +18,7 @@ ghost use lib.ListN.{getD, drop, set, replicate};
 ghost use Rattle.rules.specs.Questions.{areaOk};
 ghost use Rattle.rules.specs.Tests.{ask, firstNo};
 ghost use Rattle.rules.specs.Values.{sameArea, max64};
-ghost use Rattle.rules_shelf.specs.Shelf.{noRecord, areaOf, recordOf, sum, placeOf, noTwo, dropAt, oldestOf, roomy, makeRoom, without, entered, restamped, shelfOk, questions, entering, jumping};
+ghost use Rattle.rules_shelf.specs.Shelf.{noRecord, areaOf, recordOf, sum, areaPlace, noTwo, dropAt, oldestOf, roomy, makeRoom, without, entered, restamped, shelfOk, questions, entering, jumping};
 ghost use Rattle.shelf.specs.Steps.{Sound, Stands, listOf, Changes};
 ghost use Rattle.shelf.specs.Shelf.{answer, someOf, clamp};
 
@@ -130,7 +130,7 @@ pub fn nth(a: Kept, i: usize) -> ShelfRecord
 // The place of the first record of an area from a place on, n where there is none.
 fn place_from(a: Kept, from: usize, g: ShelfRecord) -> usize
     requires { ⌜ (Sound a) × (from ≤ a .n) ⌝ }
-    ensures { λ r. ⌜ (r ≡ from + placeOf (areaOf g) (drop from (listOf a))) × (r ≤ a .n) ⌝ }
+    ensures { λ r. ⌜ (r ≡ from + areaPlace (areaOf g) (drop from (listOf a))) × (r ≤ a .n) ⌝ }
 {
     let n = a.n;
     let mut i = from;
@@ -147,7 +147,7 @@ fn place_from(a: Kept, from: usize, g: ShelfRecord) -> usize
 // The place of the record of an area, n where there is none.
 pub fn place(a: Kept, g: ShelfRecord) -> usize
     requires { ⌜ Sound a ⌝ }
-    ensures { λ r. ⌜ (r ≡ placeOf (areaOf g) (listOf a)) × (r ≤ a .n) ⌝ }
+    ensures { λ r. ⌜ (r ≡ areaPlace (areaOf g) (listOf a)) × (r ≤ a .n) ⌝ }
 {
     place_from(a, 0, g)
 }

@@ -18,9 +18,9 @@ ghost use mathlib.Core.Path.{_≡_};
 ghost use mathlib.Core.List.{_++_};
 ghost use Prim.Native.Nat.{_+_, _<_, _≤_};
 ghost use lib.ListN.{length, take, drop, set};
-ghost use Rattle.rules_shelf.specs.Shelf.{areaOf, placeOf, dropAt};
+ghost use Rattle.rules_shelf.specs.Shelf.{areaOf, areaPlace, dropAt};
 ghost use Rattle.shelf.specs.Steps.{Stands, written};
-ghost use Rattle.shelf.specs.Shelf.{out, enterCall, jumpCall};
+ghost use Rattle.shelf.specs.Shelf.{shelfOut, enterCall, jumpCall};
 
 // Record number i replaced by r.
 pub fn replace(s: &mut [ShelfRecord], i: usize, r: ShelfRecord)
@@ -59,7 +59,7 @@ pub fn write_records(s: &mut [ShelfRecord], a: Kept, n: usize)
 // The place of the record of an area among the first n, n where there is none.
 pub fn search(s: &mut [ShelfRecord], n: usize, g: ShelfRecord) -> usize
     requires { ⌜ (n ≤ 64) × (n ≤ length (now s)) ⌝ }
-    ensures { λ r. ⌜ (r ≡ placeOf (areaOf g) (take n (now (s .entry)))) × (now (s .exit) ≡ now (s .entry)) ⌝ }
+    ensures { λ r. ⌜ (r ≡ areaPlace (areaOf g) (take n (now (s .entry)))) × (now (s .exit) ≡ now (s .entry)) ⌝ }
 {
     let a = take_records(s, n);
     place(a, g)
@@ -85,7 +85,7 @@ pub extern "C" fn seek_raw_shelf_enter(
     shelf: Shelf,
     g: ShelfRecord,
 ) -> ShelfAnswer
-    ensures { λ r. ⌜ out r (now (s .exit)) ≡ enterCall shelf (now (s .entry)) g ⌝ }
+    ensures { λ r. ⌜ shelfOut r (now (s .exit)) ≡ enterCall shelf (now (s .entry)) g ⌝ }
 {
     let room = s.len();
     let n = clamped(shelf, room);
@@ -104,7 +104,7 @@ pub extern "C" fn seek_raw_shelf_jump(
     shelf: Shelf,
     g: ShelfRecord,
 ) -> ShelfAnswer
-    ensures { λ r. ⌜ out r (now (s .exit)) ≡ jumpCall shelf (now (s .entry)) g ⌝ }
+    ensures { λ r. ⌜ shelfOut r (now (s .exit)) ≡ jumpCall shelf (now (s .entry)) g ⌝ }
 {
     let room = s.len();
     let n = clamped(shelf, room);

@@ -10,7 +10,7 @@ use lib.Seq.{drop-drop, length-take-le}
 use Rattle.field.specs.Number.{numberAt}
 use Rattle.field.proofs.Number.{number-drop}
 use Rattle.rules.specs.Values.{frameAt}
-use Rattle.tables.specs.Files.{placeAt, framesRead, listed}
+use Rattle.tables.specs.Files.{placeAt, framesRead, eachRead}
 
 pub place-first : (b : List ℕ) (at : ℕ) → at ≡ placeAt b at 0
 unfolding placeAt
@@ -33,7 +33,7 @@ read-step : (b : List ℕ) (at : ℕ) → drop (numberAt 4 (drop at b) 4) (drop 
 read-step b at = rw number-drop (simp drop-drop)
 
 pub read-start : (f i : ℕ) (b : List ℕ) (at : ℕ) → i < f → frameAt (framesRead f (drop at b)) i .start ≡ numberAt 4 b (placeAt b at i)
-unfolding listed placeAt
+unfolding eachRead placeAt
 read-start zero i b at h = let z : ⊥ = omega arith in absurd z
 read-start (suc f) zero b at h = number-drop 4 at b 0 ∙ rw add-zero
 read-start (suc f) (suc i) b at h =
@@ -41,7 +41,7 @@ read-start (suc f) (suc i) b at h =
     ap (λ (t : List ℕ). frameAt (framesRead f t) i .start) (read-step b at) ∙ read-start f i b (at + 8 + numberAt 4 b (at + 4)) h' ∙ rw (place-shift b at i)
 
 pub read-length : (f i : ℕ) (b : List ℕ) (at : ℕ) → i < f → placeAt b at f ≤ length b → length (frameAt (framesRead f (drop at b)) i .bytes) ≡ numberAt 4 b (placeAt b at i + 4)
-unfolding listed
+unfolding eachRead
 read-length zero i b at h l = let z : ⊥ = omega arith in absurd z
 read-length (suc f) zero b at h l =
     let g : at + 8 + numberAt 4 b (at + 4) ≤ placeAt b at (suc f) = rw (← place-first b at) at (place-inside b at (suc f) 0 h) in
@@ -53,6 +53,6 @@ read-length (suc f) (suc i) b at h l =
     ap (λ (t : List ℕ). length (frameAt (framesRead f t) i .bytes)) (read-step b at) ∙ read-length f i b (at + 8 + numberAt 4 b (at + 4)) h' l' ∙ rw (place-shift b at i)
 
 pub read-count : (f : ℕ) (b : List ℕ) → length (framesRead f b) ≡ f
-unfolding listed
+unfolding eachRead
 read-count zero b = refl
 read-count (suc f) b = ap suc (read-count f _)

@@ -16,7 +16,7 @@ use Rattle.rules.specs.Values.{Frame}
 use Rattle.rules.specs.File.{decodeHeld}
 use Rattle.rules.specs.Tests.{walk, Answer, Refused, Accepted, ask, firstNo, after, bind, numberOf}
 use Rattle.rules.specs.Load.{Read, read, readEach, readRecord, readFrame, readPart}
-use Rattle.tables.specs.Files.{listed, behindEach, frameHere, frameFollows}
+use Rattle.tables.specs.Files.{eachRead, behindEach, frameHere, frameFollows}
 
 -- an answer behind xs
 abbrev pub prefix : {A : Type 0} → List A → Answer (Read (List A)) → Answer (Read (List A))
@@ -127,8 +127,8 @@ module _ {S A : Type 0} {r : S → List ℕ → Answer (Read A)} {v : List ℕ �
   front-zero (Accepted t) g e = refl
 
   -- n things that were read
-  pub read-each : (n : ℕ) (s : S) (b : List ℕ) → numberOf (readEach r next n s b) ≡ 0 → readEach r next n s b ≡ read (listed v follows n b) (behindEach follows n b)
-  unfolding readEach bind listed behindEach
+  pub read-each : (n : ℕ) (s : S) (b : List ℕ) → numberOf (readEach r next n s b) ≡ 0 → readEach r next n s b ≡ read (eachRead v follows n b) (behindEach follows n b)
+  unfolding readEach bind eachRead behindEach
   read-each zero s b e = refl
   read-each (suc n) s b e =
       let f = k .steady s b (front-zero (r s b) _ e) in
@@ -148,8 +148,8 @@ unfolding readPart
 steady-part a k cs fs = record { steady = λ s b e. after-zero _ _ e }
 
 -- records are listed so, and frames are
-pub listed-records : {A : Type 0} (w : ℕ) (d : List ℕ → A) (n : ℕ) (b : List ℕ) → listed (λ t. d (take w t)) (drop w) n b ≡ records w d n b
-unfolding listed records
+pub listed-records : {A : Type 0} (w : ℕ) (d : List ℕ → A) (n : ℕ) (b : List ℕ) → eachRead (λ t. d (take w t)) (drop w) n b ≡ records w d n b
+unfolding eachRead records
 listed-records w d zero b = refl
 listed-records w d (suc n) b = rw (listed-records w d n (drop w b))
 

@@ -16,9 +16,9 @@ placeAt b at zero = at
 placeAt b at (suc i) = placeAt b at i + 8 + numberAt 4 b (placeAt b at i + 4)
 
 -- n things in bytes: v reads each, and follows is what it leaves
-unfoldable pub listed : {A : Type 0} → (List ℕ → A) → (List ℕ → List ℕ) → ℕ → List ℕ → List A
-listed v follows zero b = []
-listed v follows (suc n) b = v b ∷ listed v follows n (follows b)
+unfoldable pub eachRead : {A : Type 0} → (List ℕ → A) → (List ℕ → List ℕ) → ℕ → List ℕ → List A
+eachRead v follows zero b = []
+eachRead v follows (suc n) b = v b ∷ eachRead v follows n (follows b)
 
 -- the bytes behind them
 unfoldable pub behindEach : (List ℕ → List ℕ) → ℕ → List ℕ → List ℕ
@@ -33,4 +33,4 @@ abbrev pub frameFollows : List ℕ → List ℕ
 frameFollows b = drop (numberAt 4 b 4) (drop 8 b)
 
 abbrev pub framesRead : ℕ → List ℕ → List Frame
-framesRead f b = listed frameHere frameFollows f b
+framesRead f b = eachRead frameHere frameFollows f b

@@ -22,8 +22,8 @@ unfoldable pub tailIn : Tail → Option Hint
 tailIn tail.Empty = none
 tailIn (tail.Hint h) = some h
 
-abbrev pub recorderIn : HintRecorder → List ℕ → values.HintRecorder
-recorderIn r t =
+abbrev pub hintRecorderIn : HintRecorder → List ℕ → values.HintRecorder
+hintRecorderIn r t =
     record { spacing = r .spacing; last = lastIn (r .last); tail = tailIn (r .tail); list = hintsIn (r .count) t }
 
 -- ---- the numbers of a value
@@ -35,6 +35,6 @@ unfoldable pub tailFrom : Option Hint → Tail
 tailFrom none = tail.Empty
 tailFrom (some h) = tail.Hint h
 
-abbrev pub numbersFrom : values.HintRecorder → HintRecorder
-numbersFrom r =
+abbrev pub hintRecorderFrom : values.HintRecorder → HintRecorder
+hintRecorderFrom r =
     record { spacing = r .spacing; last = lastFrom (r .last); tail = tailFrom (r .tail); count = length (r .list) }

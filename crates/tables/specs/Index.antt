@@ -178,17 +178,17 @@ tablesCleared w x t =
     }
 
 -- ---- the answer of a call that gives an index, and the tables afterwards
-pub record Out : Type 0 where
+pub record MadeOut : Type 0 where
   pub answer : Made
   pub tables : Tables
 
-abbrev pub out : Made → Tables → Out
-out r t = record { answer = r; tables = t }
+abbrev pub madeOut : Made → Tables → MadeOut
+madeOut r t = record { answer = r; tables = t }
 
 -- a refusal changes no table; an accepted list is put into them
-unfoldable pub outOf : (Index → Tables) → Tables → Answer Index → Out
-outOf put t (Refused n) = out (made.Refused n) t
-outOf put t (Accepted x) = out (made.Index (numbersFrom x)) (put x)
+unfoldable pub madeOutOf : (Index → Tables) → Tables → Answer Index → MadeOut
+madeOutOf put t (Refused n) = madeOut (made.Refused n) t
+madeOutOf put t (Accepted x) = madeOut (made.Index (numbersFrom x)) (put x)
 
 -- ---- readers
 -- the frontier; 1

@@ -24,7 +24,7 @@ use Rattle.tables.specs.Index.{Tables, roomOf, indexIn, kindsIn, orFour, idIn}
 use Rattle.index.proofs.Lent.{sized-in}
 use Rattle.index.proofs.Standing.{stands, kinds-from}
 use Rattle.tables.specs.Recorder.{RecorderTables, recorderRoom, recorderIn, recorderKinds, recorderFrom}
-use Rattle.absorb.specs.Absorb.{absorbed, kindedBoth, outOf, absorbIn}
+use Rattle.absorb.specs.Absorb.{absorbed, kindedBoth, absorbedOutOf, absorbIn}
 use Rattle.absorb.specs.Absorb as absorbing
 use Rattle.tables.specs.Tables.{givenIn}
 use Rattle.theorems.specs.Terms.{Valid, ValidRecorder}
@@ -92,14 +92,14 @@ module _ (x : AreaIndex) (t : Tables) (image : ImageId) (given : List ℕ) (r : 
   abbrev answer : Absorbed
   answer = absorb (roomOf t) own (recorderRoom u) read (idIn image) (givenIn given)
 
-  abbrev left : absorbing.Out
+  abbrev left : absorbing.AbsorbedOut
   left = absorbIn x t image given r u
 
   -- what is answered is the rules' answer, put into the tables
-  pub rules-answer : (n : ℕ) → (1 ≤ n → n ≤ 4 → ⊥) → left .answer .number ≡ n → ((kindsIn x t && recorderKinds r u) ≡ true) × (answer .number ≡ n) × (left ≡ outOf t answer)
-  unfolding absorbIn outOf
+  pub rules-answer : (n : ℕ) → (1 ≤ n → n ≤ 4 → ⊥) → left .answer .number ≡ n → ((kindsIn x t && recorderKinds r u) ≡ true) × (answer .number ≡ n) × (left ≡ absorbedOutOf t answer)
+  unfolding absorbIn absorbedOutOf
   rules-answer n h e =
-      let k = kinded-both→ (kindsIn x t && recorderKinds r u) own read answer n h e in (k .0, k .1, ap (outOf t) (kinded-yes (kindsIn x t && recorderKinds r u) own read answer (k .0)))
+      let k = kinded-both→ (kindsIn x t && recorderKinds r u) own read answer n h e in (k .0, k .1, ap (absorbedOutOf t) (kinded-yes (kindsIn x t && recorderKinds r u) own read answer (k .0)))
 
   -- the recorder that it leaves stands in the recorder's tables
   recorder-left : recorderKinds r u ≡ true → (n : ℕ) → let a = absorbedBy n own read (idIn image) (givenIn given) in
@@ -111,7 +111,7 @@ module _ (x : AreaIndex) (t : Tables) (image : ImageId) (given : List ℕ) (r : 
       (λ e. (mode-back r u Stopped, mode-kinds r u Stopped k)) (λ e. (mode-back r u (r .mode), mode-kinds r u (r .mode) k)))
 
   recorder-of : (n : ℕ) → (1 ≤ n → n ≤ 4 → ⊥) → left .answer .number ≡ n → ValidRecorder (recorderRoom u) (answer .recorder) → StandsRecorder (left .answer .recorder) u
-  unfolding outOf absorb
+  unfolding absorbedOutOf absorb
   recorder-of n h e v =
       let k = rules-answer n h e in
       let l = recorder-left (and-right (kindsIn x t) (recorderKinds r u) (k .0)) (absorbNumber (roomOf t) own (recorderRoom u) read (idIn image) (givenIn given)) in
@@ -142,7 +142,7 @@ module _ (x : AreaIndex) (t : Tables) (image : ImageId) (given : List ℕ) (r : 
         (λ e. own-sized) (λ e. →all _ (joined-sized (own .scan) read (takenMalformed (own .scan) read (givenIn given)) (s .0) (recorder-sized r u b), (s .1 .0, (s .1 .1 .0, tt)))) own-sized
 
     pub absorb-left : left .answer .number ≡ 0 → AbsorbLeft
-    unfolding outOf
+    unfolding absorbedOutOf
     absorb-left e =
         let h : 1 ≤ 0 → 0 ≤ 4 → ⊥ = λ c d. omega arith in
         let k = rules-answer 0 h e in

@@ -36,7 +36,7 @@ use Rattle.field.proofs.Records.{records-length}
 use Rattle.rules.proofs.Tests.{never, both, asks, →asked, →bind, numberOf-accepted}
 use Rattle.rules_disc.specs.Disc.{slotArea, contentsOk, bodiesLength, discLength, bySlot}
 use Rattle.laws.proofs.Length.{savedLength-is}
-use Rattle.tables.specs.Index.{Tables, roomOf, indexIn, kindsIn, kindedNumber, refusal, idIn, numbersFrom, tablesFrom, frontierIn, outOf, lowest}
+use Rattle.tables.specs.Index.{Tables, roomOf, indexIn, kindsIn, kindedNumber, refusal, idIn, numbersFrom, tablesFrom, frontierIn, madeOutOf, lowest}
 use Rattle.tables.specs.Lent.{TableBytes}
 use Rattle.index.specs.Index.{numbersOf, newIn, boundIn}
 use Rattle.index.proofs.Back.{numbers-back}
@@ -50,9 +50,9 @@ use Rattle.absorb.specs.Absorb.{absorbed, kindedBoth, absorbIn}
 use Rattle.absorb.specs.Absorb as absorbing
 use Rattle.tables.specs.Tables.{givenIn, hintsOf}
 use Rattle.rules.specs.declared.Saw.the-variants as sawAs
-use Rattle.hint_recorder.specs.HintRecorder.{hintRecorderIn, seeIn, flushIn, takeIn}
+use Rattle.hint_recorder.specs.HintRecorder.{createdIn, seeIn, flushIn, takeIn}
 use Rattle.hint_recorder.specs.HintRecorder as hinting
-use Rattle.tables.specs.HintRecorder as hintRecorderTable
+use Rattle.tables.specs.HintRecorder.{hintRecorderIn, lastFrom, tailFrom}
 use Rattle.add_hints.specs.AddHints.{addHintsIn}
 use Rattle.keep_hint.specs.KeepHint.{keepHintIn}
 use Rattle.confirmations.specs.Confirmations.{keepIn}
@@ -83,16 +83,16 @@ use Rattle.theorems.proofs.disc.AcceptsInTables.{disc-save-accepts-in, 
 never-0 : {P : Type 0} (ns : List ℕ) (m n : ℕ) → m ≡ n → m ≡ 0 → among ns 0 ≡ false → among ns n ≡ true → P
 never-0 ns m n e z f h = let q : n ≡ 0 = sym e ∙ z in never (rw q at h) f
 
-saw-refused : (t : List ℕ) (a : Answer rules.SeenSector) (n : ℕ) → hinting.sawOf t a .answer ≡ sawAs.Refused n → numberOf a ≡ n
-unfolding hinting.sawOf numberOf
+saw-refused : (t : List ℕ) (a : Answer rules.SeenSector) (n : ℕ) → hinting.sawOutOf t a .answer ≡ sawAs.Refused n → numberOf a ≡ n
+unfolding hinting.sawOutOf numberOf
 saw-refused t (Refused m) n e = cc
 saw-refused t (Accepted v) n e = let z : _≡_ {A = ℕ} 0 1 = cc in let f : ⊥ = omega arith in absurd f
 
 see-accepted : (r : HintRecorder) (t : List ℕ) (lsn : ℕ) (sector : List ℕ) → ValidHintRecorderIn r t → (n : ℕ) → seeIn r t lsn sector .answer ≢ sawAs.Refused n
 unfolding seeIn among
 see-accepted r t lsn sector v n e =
-    never-0 (3 ∷ 4 ∷ []) _ n (saw-refused t (see (length t / 8) (hintRecorderTable.recorderIn r t) lsn sector) n e)
-    (numberOf-accepted _ _ (refuses-nothing .sees (length t / 8) (hintRecorderTable.recorderIn r t) lsn sector v)) refl (demand1 .see r t lsn sector .number n e)
+    never-0 (3 ∷ 4 ∷ []) _ n (saw-refused t (see (length t / 8) (hintRecorderIn r t) lsn sector) n e)
+    (numberOf-accepted _ _ (refuses-nothing .sees (length t / 8) (hintRecorderIn r t) lsn sector v)) refl (demand1 .see r t lsn sector .number n e)
 
 -- ---- 1 to 4 are answered yes
 no-number : (x : AreaIndex) (t : Tables) → ValidIn x t → refusal x t ≡ 0
@@ -149,13 +149,13 @@ module _ (x : AreaIndex) (t : Tables) (image : ImageId) (given : List ℕ) (r : 
   absorb-accepted : isStopped (r .mode) ≡ false → let i = indexIn x t in let s = recorderIn r u in let id = idIn image in let ms = givenIn given in
       question8 i id ≡ true → question9 i s ≡ true → question10 i s ≡ true → question11 i s ≡ true → question12 i s id ms ≡ true
       → let y = absorbedIndex i s id ms in
-      absorbIn x t image given r u ≡ absorbing.out (absorbed 0 (numbersFrom y) (recorderFrom (emptied s))) (tablesFrom y t)
-  unfolding absorbIn absorbing.outOf kindedBoth
+      absorbIn x t image given r u ≡ absorbing.absorbedOut (absorbed 0 (numbersFrom y) (recorderFrom (emptied s))) (tablesFrom y t)
+  unfolding absorbIn absorbing.absorbedOutOf kindedBoth
   absorb-accepted m q8 q9 q10 q11 q12 =
       rw (both-kinds, refuses-nothing .absorbs (roomOf t) (indexIn x t) (recorderRoom u) (recorderIn r u) (idIn image) (givenIn given) (v .valid) (w .valid) m q8 q9 q10 q11 q12) refl
 
-  absorb-stopped : TableBytes t → isStopped (r .mode) ≡ true → absorbIn x t image given r u ≡ absorbing.out (absorbed 0 x r) t
-  unfolding absorbIn absorbing.outOf kindedBoth
+  absorb-stopped : TableBytes t → isStopped (r .mode) ≡ true → absorbIn x t image given r u ≡ absorbing.absorbedOut (absorbed 0 x r) t
+  unfolding absorbIn absorbing.absorbedOutOf kindedBoth
   absorb-stopped b m =
       rw (
         both-kinds,
@@ -167,7 +167,7 @@ module _ (x : AreaIndex) (t : Tables) (image : ImageId) (given : List ℕ) (r : 
 
 -- ---- each call
 pub refuses-nothing-in : RefusesNothingIn
-unfolding newIn boundIn keepIn keeping.outOf seeIn flushIn takeIn hinting.outOf hinting.sawOf hinting.takenOf frontierIn boundaryAt newSizes fileSizes fileArea fold contentsIn contentsFrom discSizes bothSizes after firstNo numbersOf startedIn recorderOf hintRecorderIn hinting.createdOf hintRecorderTable.lastFrom hintRecorderTable.tailFrom addHintsIn keepHintIn hintIn planIn saveIn saveOut outOf isAccepted listsOf lineRow fileRow
+unfolding newIn boundIn keepIn keeping.keptOutOf seeIn flushIn takeIn hinting.seenOutOf hinting.sawOutOf hinting.takenFrom frontierIn boundaryAt newSizes fileSizes fileArea fold contentsIn contentsFrom discSizes bothSizes after firstNo numbersOf startedIn recorderOf createdIn hinting.createdFrom lastFrom tailFrom addHintsIn keepHintIn hintIn planIn saveIn saveOut madeOutOf isAccepted listsOf lineRow fileRow
 refuses-nothing-in =
     record {
       made = λ t a k budget spacing most q1 q2 q3. rw (refuses-nothing .made (roomOf t) a k budget spacing most q1 q2 q3) refl;
@@ -218,9 +218,9 @@ refuses-nothing-in =
       absorbs = absorb-accepted;
       stopped = λ x t image given r u v b w m. absorb-stopped x t image given r u v w b m;
       sees = see-accepted;
-      seen = λ r t lsn sector s e. ap (hinting.sawOf t) e;
-      flushes = λ r t v. ap (hinting.outOf t) (refuses-nothing .flushes (length t / 8) (hintRecorderTable.recorderIn r t) v);
-      takes = λ r t v. ap hinting.takenOf (refuses-nothing .takes (length t / 8) (hintRecorderTable.recorderIn r t) v);
+      seen = λ r t lsn sector s e. ap (hinting.sawOutOf t) e;
+      flushes = λ r t v. ap (hinting.seenOutOf t) (refuses-nothing .flushes (length t / 8) (hintRecorderIn r t) v);
+      takes = λ r t v. ap hinting.takenFrom (refuses-nothing .takes (length t / 8) (hintRecorderIn r t) v);
       frontiers = λ x q. rw q refl;
       boundary = λ x j p q. rw (p, q) refl;
       due = λ r p q. rw (p, q) refl;

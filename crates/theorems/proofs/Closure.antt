@@ -23,7 +23,7 @@ use Rattle.rules.specs.Sections.{countsOk, checkpointsOk, framesOk, partsOk, re
 use Rattle.rules.specs.Questions.{areaOk, heldOk, scanOk, question1, question2, question3, question4, recorderQuestion1, recorderQuestion2, recorderQuestion3, recorderQuestion4, hintRecorderFour}
 use Rattle.rules.specs.Create.{emptyIndex, new, bindFingerprint, emptyHintRecorder, hintRecorder}
 use Rattle.rules.specs.Record.{Assembling, recorded, recordAt, finish, Absorbed, absorbNumber, absorbedBy, absorbedIndex, absorb, emptied, withMode, isStopped}
-use Rattle.rules.specs.Hints.{Taken, SeenSector, spaced, listed, tailed, seenRecord, see, flushedList, flush, takeList, unkept, addHints, keepHint, keepConfirmation, keepsNothing, question13, question14, question53, withMark}
+use Rattle.rules.specs.Hints.{TakenHints, SeenSector, spaced, listed, tailed, seenRecord, see, flushedList, flush, takeList, unkept, addHints, keepHint, keepConfirmation, keepsNothing, question13, question14, question53, withMark}
 use Rattle.rules.specs.Merge.{merge, merged}
 use Rattle.rules.specs.Load.{load, limited, fromBytes}
 use Rattle.rules.proofs.Tests.{choose, given, and-left, and-right, →all, later, asked, asked→, accepted→, accepted-eq, bind→}
@@ -255,11 +255,11 @@ module _ (n : ℕ) (r : HintRecorder) where
       let t = accepted→ _ _ s e in let v = hint-asked (t .0) in
       subst (ValidHintRecorder n) (t .1) (record { three = v .three; four = flushed-few (r .tail) (v .four) })
 
-  taken-valid : (s : Taken) → takeList n r ≡ Accepted s → ValidHintRecorder n (s .recorder)
+  taken-valid : (s : TakenHints) → takeList n r ≡ Accepted s → ValidHintRecorder n (s .recorder)
   unfolding takeList
   taken-valid s e =
       let t = accepted→ _ _ s e in let v = hint-asked (t .0) in
-      subst (λ (s : Taken). ValidHintRecorder n (s .recorder)) (t .1) (record { three = v .three; four = omega arith })
+      subst (λ (s : TakenHints). ValidHintRecorder n (s .recorder)) (t .1) (record { three = v .three; four = omega arith })
 
 -- ---- together
 pub closure : Closure

@@ -26,7 +26,7 @@ use Rattle.rules.proofs.Tests.{all→, →all, accepted→}
 use Rattle.laws.specs.Statements.{Savable}
 use Rattle.laws.proofs.hint_lists.Closure.{keptHinting, add-hints-sized, keep-hinting-sized}
 use Rattle.tables.specs.Tables.{hintsIn, framesOf, hintsOf}
-use Rattle.tables.specs.Index.{kindsOk, Tables, roomOf, indexIn, kindsIn, kinded, endIn, endFrom, idIn, idFrom, numbersFrom, tablesFrom, tablesCleared, Out, out, outOf}
+use Rattle.tables.specs.Index.{kindsOk, Tables, roomOf, indexIn, kindsIn, kinded, endIn, endFrom, idIn, idFrom, numbersFrom, tablesFrom, tablesCleared, MadeOut, madeOut, madeOutOf}
 use Rattle.rules.specs.declared.Made.the-variants as made
 use Rattle.index.specs.Index.{numbersOf, newIn, boundIn}
 use Rattle.index.proofs.Back.{withPrint, numbers-with}
@@ -65,19 +65,19 @@ numbers→ (Refused m) n e = let z : _≡_ {A = ℕ} 0 1 = cc in let f : ⊥ = o
 numbers→ (Accepted x) n e = (x, refl, cc)
 
 -- a list put into its tables
-put→ : (put : Index → Tables) (t : Tables) (r : Answer Index) (y : AreaIndex) (t' : Tables) → outOf put t r ≡ out (made.Index y) t'
+put→ : (put : Index → Tables) (t : Tables) (r : Answer Index) (y : AreaIndex) (t' : Tables) → madeOutOf put t r ≡ madeOut (made.Index y) t'
     → (v : Index) × (r ≡ Accepted v) × (numbersFrom v ≡ y) × (put v ≡ t')
-unfolding outOf isAccepted numbersAfter
-put→ put t (Refused n) y t' h = let q = ap (λ (o : Out). isAccepted (o .answer)) h in let w : _≡_ {A = ℕ} 0 1 = cc in let f : ⊥ = omega arith in absurd f
-put→ put t (Accepted v) y t' h = (v, refl, ap (λ (o : Out). numbersAfter y (o .answer)) h, ap (λ (o : Out). o .tables) h)
+unfolding madeOutOf isAccepted numbersAfter
+put→ put t (Refused n) y t' h = let q = ap (λ (o : MadeOut). isAccepted (o .answer)) h in let w : _≡_ {A = ℕ} 0 1 = cc in let f : ⊥ = omega arith in absurd f
+put→ put t (Accepted v) y t' h = (v, refl, ap (λ (o : MadeOut). numbersAfter y (o .answer)) h, ap (λ (o : MadeOut). o .tables) h)
 
-kept→ : (t : Tables) (r : Answer (Option Index)) (y : AreaIndex) (t' : Tables) → keeping.outOf t r ≡ keeping.out (kept.Index y) t'
+kept→ : (t : Tables) (r : Answer (Option Index)) (y : AreaIndex) (t' : Tables) → keeping.keptOutOf t r ≡ keeping.keptOut (kept.Index y) t'
     → (v : Index) × (r ≡ Accepted (some v)) × (numbersFrom v ≡ y) × (tablesFrom v t ≡ t')
-unfolding keeping.outOf
-kept→ t (Refused n) y t' h = let a = ap (λ (o : keeping.Out). o .answer) h in let z : _≡_ {A = ℕ} 0 1 = cc in let f : ⊥ = omega arith in absurd f
-kept→ t (Accepted none) y t' h = let a = ap (λ (o : keeping.Out). o .answer) h in let z : _≡_ {A = ℕ} 0 1 = cc in let f : ⊥ = omega arith in absurd f
+unfolding keeping.keptOutOf
+kept→ t (Refused n) y t' h = let a = ap (λ (o : keeping.KeptOut). o .answer) h in let z : _≡_ {A = ℕ} 0 1 = cc in let f : ⊥ = omega arith in absurd f
+kept→ t (Accepted none) y t' h = let a = ap (λ (o : keeping.KeptOut). o .answer) h in let z : _≡_ {A = ℕ} 0 1 = cc in let f : ⊥ = omega arith in absurd f
 kept→ t (Accepted (some v)) y t' h =
-    let a : kept.Index (numbersFrom v) ≡ kept.Index y = ap (λ (o : keeping.Out). o .answer) h in (v, refl, cc, ap (λ (o : keeping.Out). o .tables) h)
+    let a : kept.Index (numbersFrom v) ≡ kept.Index y = ap (λ (o : keeping.KeptOut). o .answer) h in (v, refl, cc, ap (λ (o : keeping.KeptOut). o .tables) h)
 
 -- ---- new: no list lies in the tables
 made-in : (t : Tables) (a : Area) (k budget spacing most : ℕ) (x : AreaIndex) → newIn t a k budget spacing most ≡ Accepted x → Stands x t
@@ -118,7 +118,7 @@ records-unkept (suc n) t = ap (λ (l : List Hint). decodeHint (take 8 t) ∷ l) 
 given-unkept : (list : List ℕ) → unkept (hintsOf list) ≡ hintsOf list
 given-unkept list = records-unkept (length list / 8) list
 
-hinted-in : (x : AreaIndex) (t : Tables) (list : List ℕ) (y : AreaIndex) (t' : Tables) → LentIn x t → addHintsIn x t list ≡ out (made.Index y) t' → Stands y t'
+hinted-in : (x : AreaIndex) (t : Tables) (list : List ℕ) (y : AreaIndex) (t' : Tables) → LentIn x t → addHintsIn x t list ≡ madeOut (made.Index y) t' → Stands y t'
 unfolding addHintsIn addHints sized
 hinted-in x t list y t' a e =
     let j = indexIn x t in
@@ -140,7 +140,7 @@ mark-sized : (r : Hinting) (lsn : ℕ) → hintingSized r ≡ true → hintingSi
 unfolding hintingSized withMark
 mark-sized r lsn e = e
 
-marked-in : (x : AreaIndex) (t : Tables) (lsn : ℕ) (y : AreaIndex) (t' : Tables) → LentIn x t → keepHintIn x t lsn ≡ out (made.Index y) t' → Stands y t'
+marked-in : (x : AreaIndex) (t : Tables) (lsn : ℕ) (y : AreaIndex) (t' : Tables) → LentIn x t → keepHintIn x t lsn ≡ madeOut (made.Index y) t' → Stands y t'
 unfolding keepHintIn keepHint sized
 marked-in x t lsn y t' a e =
     let j = indexIn x t in
@@ -159,7 +159,7 @@ kept-is true i v e = let z : _≡_ {A = ℕ} 0 1 = cc in let f : ⊥ = omega ari
 kept-is false i v e = cc
 
 confirmed-in : (x : AreaIndex) (t : Tables) (c : Confirmation) (y : AreaIndex) (t' : Tables) → LentIn x t → c .digest ≤ max64
-    → keepIn x t c ≡ keeping.out (kept.Index y) t' → Stands y t'
+    → keepIn x t c ≡ keeping.keptOut (kept.Index y) t' → Stands y t'
 unfolding keepIn keepConfirmation sized
 confirmed-in x t c y t' a l e =
     let j = indexIn x t in
@@ -175,7 +175,7 @@ confirmed-in x t c y t' a l e =
     put-stands (roomOf t) (p .0) y t t' v z (p .2) (p .3)
 
 -- ---- loading and merging
-loaded-in : (a : Area) (b : List ℕ) (limit : ℕ) (t : Tables) (y : AreaIndex) (t' : Tables) → Bytes b → loadIn a b limit t ≡ out (made.Index y) t' → Stands y t'
+loaded-in : (a : Area) (b : List ℕ) (limit : ℕ) (t : Tables) (y : AreaIndex) (t' : Tables) → Bytes b → loadIn a b limit t ≡ madeOut (made.Index y) t' → Stands y t'
 loaded-in a b limit t y t' g e =
     let p = put→ (λ z. tablesFrom z t) t (load (roomOf t) a b limit) y t' e in
     put-stands (roomOf t) (p .0) y t t' (closure .loaded (roomOf t) a b limit (p .0) g (p .1)) (load-savable (roomOf t) a b limit (p .0) g (p .1) .sizes) (p .2) (p .3)

@@ -27,7 +27,7 @@ use Rattle.rules_drawer.specs.Drawer.{lengthsIn, loadFiles, pairNumber, pairsWi
 use Rattle.rules_drawer.proofs.Pairs.{first-of→, →first-of, mergeable→}
 use Rattle.rules_drawer.proofs.Files.{behind→, →behind, refused-after}
 use Rattle.rules.specs.declared.Made.the-variants as made
-use Rattle.tables.specs.Index.{Tables, roomOf, indexIn, kindsIn, kindedNumber, refusal, numbersFrom, tablesFrom, tablesCleared, out, outOf}
+use Rattle.tables.specs.Index.{Tables, roomOf, indexIn, kindsIn, kindedNumber, refusal, numbersFrom, tablesFrom, tablesCleared, madeOut, madeOutOf}
 use Rattle.index.proofs.Back.{numbers-back}
 use Rattle.index.proofs.Lent.{sized-in}
 use Rattle.index.proofs.Questions.{passes, passes-kinds}
@@ -115,7 +115,7 @@ module _ (x : AreaIndex) (t : Tables) (ls b : List ℕ) (limit : ℕ) (u : Table
   unfolding listsOf
   lists-are g = rw (g .loaded)
 
-  pub leaves : (y : AreaIndex) (t' : Tables) → LentIn x t → Bytes b → mergeAllIn x t ls b limit u ≡ out (made.Index y) t' → SetLeft x t ls b limit u y t'
+  pub leaves : (y : AreaIndex) (t' : Tables) → LentIn x t → Bytes b → mergeAllIn x t ls b limit u ≡ madeOut (made.Index y) t' → SetLeft x t ls b limit u y t'
   leaves y t' a h e =
       let r = out→ _ t x y t' _ e in
       let p = after→ (refusal x t) _ (r .0) (r .1) in
@@ -134,7 +134,7 @@ module _ (x : AreaIndex) (t : Tables) (ls b : List ℕ) (limit : ℕ) (u : Table
       }
 
   pub accepts : (z : Index) → LentIn x t → Bytes b → kindsIn x t ≡ true → InTurn (roomOf t) mine (roomOf u) (lengthsIn ls) b limit z → SetAnswers x t ls b limit u z
-  unfolding refusal kindedNumber outOf
+  unfolding refusal kindedNumber madeOutOf
   accepts z a h k i =
       let e = set-is-turns (roomOf t) (roomOf u) mine z (lengthsIn ls) b limit h .1 i in
       let g = gathered→ (roomOf t) (roomOf u) mine z (lengthsIn ls) b limit e in
@@ -143,7 +143,7 @@ module _ (x : AreaIndex) (t : Tables) (ls b : List ℕ) (limit : ℕ) (u : Table
       let s = stood-set z a h k g in
       record {
         after = mergedTables mine (g .lists) t;
-        answer = ap (outOf _ t) (→after n e) ∙ (λ j. out (made.Index (numbersFrom z)) (mergedTables mine (lists-are g j) t));
+        answer = ap (madeOutOf _ t) (→after n e) ∙ (λ j. madeOut (made.Index (numbersFrom z)) (mergedTables mine (lists-are g j) t));
         stands = s .stands;
       }
 
@@ -154,13 +154,13 @@ module _ (x : AreaIndex) (t : Tables) (ls b : List ℕ) (limit : ℕ) (u : Table
   abbrev answered : Answer Index
   answered = mergeAll (roomOf t) mine (roomOf u) (lengthsIn ls) b limit
 
-  pub own-refused : (n : ℕ) → refusal x t ≡ n → n ≢ 0 → mergeAllIn x t ls b limit u ≡ out (made.Refused n) t
-  unfolding outOf
-  own-refused n e z = ap (outOf putting t) (ap (λ (k : ℕ). after k answered) e ∙ refused-after n answered z)
+  pub own-refused : (n : ℕ) → refusal x t ≡ n → n ≢ 0 → mergeAllIn x t ls b limit u ≡ madeOut (made.Refused n) t
+  unfolding madeOutOf
+  own-refused n e z = ap (madeOutOf putting t) (ap (λ (k : ℕ). after k answered) e ∙ refused-after n answered z)
 
-  pub set-refused : (n : ℕ) → refusal x t ≡ 0 → answered ≡ Refused n → mergeAllIn x t ls b limit u ≡ out (made.Refused n) t
-  unfolding outOf
-  set-refused n e q = ap (outOf putting t) (→after e q)
+  pub set-refused : (n : ℕ) → refusal x t ≡ 0 → answered ≡ Refused n → mergeAllIn x t ls b limit u ≡ madeOut (made.Refused n) t
+  unfolding madeOutOf
+  set-refused n e q = ap (madeOutOf putting t) (→after e q)
 
 pub set-in-tables : SetInTables
 set-in-tables = record { leaves = leaves; accepts = accepts; own = own-refused; refused = set-refused }

@@ -18,7 +18,7 @@ use Rattle.rules.proofs.Tests.{test, never}
 use Rattle.laws.proofs.Length.{savedLength-is}
 use Rattle.tables.specs.Index.{indexIn, orFour, kindedNumber, kinded, refusal}
 use Rattle.rules.specs.declared.Created.the-variants as created
-use Rattle.hint_recorder.specs.HintRecorder.{createdOf, hintRecorderIn}
+use Rattle.hint_recorder.specs.HintRecorder.{createdFrom, createdIn}
 use Rattle.rules.specs.declared.Saved.the-variants as told
 use Rattle.save.specs.Save.{saveOut, saveIn}
 use Rattle.sizes.specs.Sizes.{sizesOf, fileLength}
@@ -115,9 +115,9 @@ module _ {A : Type 0} {h : HintRecorder} where
 same-spacing : (r h : HintRecorder) → created.Recorder r ≡ created.Recorder h → r .spacing ≡ h .spacing
 same-spacing r h e = cc
 
-made-by : (k : Bool) (n : ℕ) (g : Hinting) (h : HintRecorder) → createdOf (kinded k (after n (Accepted (emptyHintRecorder g)))) ≡ created.Recorder h
+made-by : (k : Bool) (n : ℕ) (g : Hinting) (h : HintRecorder) → createdFrom (kinded k (after n (Accepted (emptyHintRecorder g)))) ≡ created.Recorder h
     → 1 ≤ h .spacing
-unfolding createdOf kinded after
+unfolding createdFrom kinded after
 made-by false n g h e = not-refused _ e
 made-by true n g h e =
     test (eqb n 0)
@@ -127,5 +127,5 @@ made-by true n g h e =
     (λ z. not-refused n (rw z at e))
 
 pub made-has-spacing : MadeHasSpacing
-unfolding hintRecorderIn hintRecorder
+unfolding createdIn hintRecorder
 made-has-spacing x t h e = made-by _ _ (indexIn x t .hinting) h e

@@ -61,9 +61,9 @@ use Rattle.rules.specs.declared.Seen.the-variants as seenAs
 use Rattle.rules.specs.declared.SeenSector.{SeenSector}
 use Rattle.rules.specs.declared.Taken.the-variants as takenAs
 use Rattle.rules.specs.declared.TakenList.{TakenList}
-use Rattle.hint_recorder.specs.HintRecorder.{hintRecorderIn, seeIn, flushIn, takeIn}
+use Rattle.hint_recorder.specs.HintRecorder.{createdIn, seeIn, flushIn, takeIn}
 use Rattle.hint_recorder.specs.HintRecorder as hinting
-use Rattle.tables.specs.HintRecorder as hintRecorderTable
+use Rattle.tables.specs.HintRecorder.{hintRecorderFrom, hintRecorderIn}
 use Rattle.theorems.specs.Recorders.{StandsRecorder, RecorderBytes, SignedIn, StandsHintRecorder}
 use Rattle.theorems.proofs.Closure.{closure}
 use Rattle.theorems.proofs.MergeInTables.{kinded→}
@@ -258,22 +258,22 @@ finished-stands r u e s h =
     (stands-as v (recorderFrom v) u t (mode-back r u (Finished e)) (mode-kinds r u (Finished e) (d .0)))
 
 -- ---- hint recorders
-hints-stand : (v : values.HintRecorder) (s : HintRecorder) (t : List ℕ) → length (v .list) ≤ maxList → hintRecorderTable.numbersFrom v ≡ s → StandsHintRecorder s t
+hints-stand : (v : values.HintRecorder) (s : HintRecorder) (t : List ℕ) → length (v .list) ≤ maxList → hintRecorderFrom v ≡ s → StandsHintRecorder s t
 hints-stand v s t l e = subst (λ (r : HintRecorder). StandsHintRecorder r t) e (rw (records-length 8 decodeHint (length (v .list)) t) l)
 
-seen→ : (t : List ℕ) (a : Answer values.HintRecorder) (s : HintRecorder) (t' : List ℕ) → hinting.outOf t a ≡ hinting.out (seenAs.Recorder s) t'
-    → (v : values.HintRecorder) × (a ≡ Accepted v) × (hintRecorderTable.numbersFrom v ≡ s)
-unfolding hinting.outOf
-seen→ t (Refused n) s t' e = let a = ap (λ (o : hinting.Out). o .answer) e in let z : _≡_ {A = ℕ} 0 1 = cc in let f : ⊥ = omega arith in absurd f
-seen→ t (Accepted v) s t' e = let a : seenAs.Recorder (hintRecorderTable.numbersFrom v) ≡ seenAs.Recorder s = ap (λ (o : hinting.Out). o .answer) e in (v, refl, cc)
+seen→ : (t : List ℕ) (a : Answer values.HintRecorder) (s : HintRecorder) (t' : List ℕ) → hinting.seenOutOf t a ≡ hinting.seenOut (seenAs.Recorder s) t'
+    → (v : values.HintRecorder) × (a ≡ Accepted v) × (hintRecorderFrom v ≡ s)
+unfolding hinting.seenOutOf
+seen→ t (Refused n) s t' e = let a = ap (λ (o : hinting.SeenOut). o .answer) e in let z : _≡_ {A = ℕ} 0 1 = cc in let f : ⊥ = omega arith in absurd f
+seen→ t (Accepted v) s t' e = let a : seenAs.Recorder (hintRecorderFrom v) ≡ seenAs.Recorder s = ap (λ (o : hinting.SeenOut). o .answer) e in (v, refl, cc)
 
-saw→ : (t : List ℕ) (a : Answer rules.SeenSector) (s : SeenSector) (t' : List ℕ) → hinting.sawOf t a ≡ hinting.sawOut (sawAs.Sector s) t'
-    → (v : rules.SeenSector) × (a ≡ Accepted v) × (hintRecorderTable.numbersFrom (v .recorder) ≡ s .recorder)
-unfolding hinting.sawOf
+saw→ : (t : List ℕ) (a : Answer rules.SeenSector) (s : SeenSector) (t' : List ℕ) → hinting.sawOutOf t a ≡ hinting.sawOut (sawAs.Sector s) t'
+    → (v : rules.SeenSector) × (a ≡ Accepted v) × (hintRecorderFrom (v .recorder) ≡ s .recorder)
+unfolding hinting.sawOutOf
 saw→ t (Refused n) s t' e = let a = ap (λ (o : hinting.SawOut). o .answer) e in let z : _≡_ {A = ℕ} 0 1 = cc in let f : ⊥ = omega arith in absurd f
 saw→ t (Accepted v) s t' e =
-    let a : sawAs.Sector (record { first = v .first; recorder = hintRecorderTable.numbersFrom (v .recorder) }) ≡ sawAs.Sector s = ap (λ (o : hinting.SawOut). o .answer) e in
-    let q : record { first = v .first; recorder = hintRecorderTable.numbersFrom (v .recorder) } ≡ s = cc in
+    let a : sawAs.Sector (record { first = v .first; recorder = hintRecorderFrom (v .recorder) }) ≡ sawAs.Sector s = ap (λ (o : hinting.SawOut). o .answer) e in
+    let q : record { first = v .first; recorder = hintRecorderFrom (v .recorder) } ≡ s = cc in
     (v, refl, ap (λ (x : SeenSector). x .recorder) q)
 
 pub seen-stands : (r : HintRecorder) (t : List ℕ) (lsn : ℕ) (sector : List ℕ) (s : SeenSector) (t' : List ℕ)
@@ -281,35 +281,35 @@ pub seen-stands : (r : HintRecorder) (t : List ℕ) (lsn : ℕ) (sector : List �
 unfolding seeIn
 seen-stands r t lsn sector s t' e =
     let n = saw→ t _ s t' e in
-    hints-stand (n .0 .recorder) (s .recorder) t' (closure .seen (length t / 8) (hintRecorderTable.recorderIn r t) lsn sector (n .0) (n .1) .four) (n .2)
+    hints-stand (n .0 .recorder) (s .recorder) t' (closure .seen (length t / 8) (hintRecorderIn r t) lsn sector (n .0) (n .1) .four) (n .2)
 
-pub flushed-stands : (r : HintRecorder) (t : List ℕ) (s : HintRecorder) (t' : List ℕ) → flushIn r t ≡ hinting.out (seenAs.Recorder s) t' → StandsHintRecorder s t'
+pub flushed-stands : (r : HintRecorder) (t : List ℕ) (s : HintRecorder) (t' : List ℕ) → flushIn r t ≡ hinting.seenOut (seenAs.Recorder s) t' → StandsHintRecorder s t'
 unfolding flushIn
 flushed-stands r t s t' e =
-    let n = seen→ t _ s t' e in hints-stand (n .0) s t' (closure .flushed (length t / 8) (hintRecorderTable.recorderIn r t) (n .0) (n .1) .four) (n .2)
+    let n = seen→ t _ s t' e in hints-stand (n .0) s t' (closure .flushed (length t / 8) (hintRecorderIn r t) (n .0) (n .1) .four) (n .2)
 
-created→ : (a : Answer (Option values.HintRecorder)) (r : HintRecorder) → hinting.createdOf a ≡ createdAs.Recorder r
-    → (v : values.HintRecorder) × (a ≡ Accepted (some v)) × (hintRecorderTable.numbersFrom v ≡ r)
-unfolding hinting.createdOf
+created→ : (a : Answer (Option values.HintRecorder)) (r : HintRecorder) → hinting.createdFrom a ≡ createdAs.Recorder r
+    → (v : values.HintRecorder) × (a ≡ Accepted (some v)) × (hintRecorderFrom v ≡ r)
+unfolding hinting.createdFrom
 created→ (Refused n) r e = let z : _≡_ {A = ℕ} 0 1 = cc in let f : ⊥ = omega arith in absurd f
 created→ (Accepted none) r e = let z : _≡_ {A = ℕ} 0 1 = cc in let f : ⊥ = omega arith in absurd f
 created→ (Accepted (some v)) r e = (v, refl, cc)
 
-pub created-stands : (x : AreaIndex) (t : Tables) (r : HintRecorder) (t' : List ℕ) → hintRecorderIn x t ≡ createdAs.Recorder r → StandsHintRecorder r t'
-unfolding hintRecorderIn
+pub created-stands : (x : AreaIndex) (t : Tables) (r : HintRecorder) (t' : List ℕ) → createdIn x t ≡ createdAs.Recorder r → StandsHintRecorder r t'
+unfolding createdIn
 created-stands x t r t' e =
     let n = created→ (kinded (kindsIn x t) (hintRecorder (roomOf t) (indexIn x t))) r e in
     let d = kinded→ (kindsIn x t) (hintRecorder (roomOf t) (indexIn x t)) (some (n .0)) (n .1) in
     hints-stand (n .0) r t' (closure .hintRecording (roomOf t) (indexIn x t) (n .0) (d .1) .four) (n .2)
 
-taken→ : (a : Answer rules.Taken) (k : TakenList) → hinting.takenOf a ≡ takenAs.List k → (v : rules.Taken) × (a ≡ Accepted v) × (hintRecorderTable.numbersFrom (v .recorder) ≡ k .recorder)
-unfolding hinting.takenOf
+taken→ : (a : Answer rules.TakenHints) (k : TakenList) → hinting.takenFrom a ≡ takenAs.List k → (v : rules.TakenHints) × (a ≡ Accepted v) × (hintRecorderFrom (v .recorder) ≡ k .recorder)
+unfolding hinting.takenFrom
 taken→ (Refused n) k e = let z : _≡_ {A = ℕ} 0 1 = cc in let f : ⊥ = omega arith in absurd f
 taken→ (Accepted v) k e =
-    let q : record { count = length (v .list); recorder = hintRecorderTable.numbersFrom (v .recorder) } ≡ k = cc in (v, refl, ap (λ (l : TakenList). l .recorder) q)
+    let q : record { count = length (v .list); recorder = hintRecorderFrom (v .recorder) } ≡ k = cc in (v, refl, ap (λ (l : TakenList). l .recorder) q)
 
 pub taken-stands : (r : HintRecorder) (t : List ℕ) (k : TakenList) → takeIn r t ≡ takenAs.List k → StandsHintRecorder (k .recorder) t
 unfolding takeIn
 taken-stands r t k e =
-    let n = taken→ (takeList (length t / 8) (hintRecorderTable.recorderIn r t)) k e in
-    hints-stand (n .0 .recorder) (k .recorder) t (closure .taken (length t / 8) (hintRecorderTable.recorderIn r t) (n .0) (n .1) .four) (n .2)
+    let n = taken→ (takeList (length t / 8) (hintRecorderIn r t)) k e in
+    hints-stand (n .0 .recorder) (k .recorder) t (closure .taken (length t / 8) (hintRecorderIn r t) (n .0) (n .1) .four) (n .2)

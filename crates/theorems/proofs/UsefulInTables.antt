@@ -17,7 +17,7 @@ use Rattle.rules.proofs.Tests.{accepted→}
 use Rattle.laws.proofs.Facts.{sized→}
 use Rattle.laws.proofs.Length.{savedLength-is}
 use Rattle.laws.proofs.Question4.{saved-bytes}
-use Rattle.tables.specs.Index.{roomOf, indexIn, kindsIn, kinded, endIn, idIn, numbersFrom, outOf}
+use Rattle.tables.specs.Index.{roomOf, indexIn, kindsIn, kinded, endIn, idIn, numbersFrom, madeOutOf}
 use Rattle.index.proofs.Lent.{sized-in}
 use Rattle.index.proofs.Standing.{stands}
 use Rattle.plan.specs.Plan.{planIn}
@@ -35,7 +35,7 @@ use Rattle.theorems.proofs.disc.AcceptsInTables.{load-savable}
 
 -- ---- load
 pub load-keeps-in : LoadKeepsIn
-unfolding outOf
+unfolding madeOutOf
 load-keeps-in x t a v limit t' q =
     let i = indexIn x t in
     let s = sized-in x t (a .typed) (a .bytes) in

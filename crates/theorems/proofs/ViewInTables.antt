@@ -14,7 +14,7 @@ use Rattle.tables.specs.Index.{Tables, roomOf, indexIn, kindsIn, kinded}
 use Rattle.rules.specs.declared.Viewed.the-variants as viewed
 use Rattle.view.specs.View.{ViewOut, viewOut, inRole, viewIn, viewSizeIn}
 use Rattle.view.proofs.Layouts.{view-length}
-use Rattle.player.specs.Block.{headIndex, inHead, asWorkshop}
+use Rattle.player.specs.Block.{headIndex, inHead, inWorkshop}
 use Rattle.player.specs.Player.{loadCallAs, saveCallAs, mergeCallAs, mergeAllCallAs, viewInto, lengthNumber, viewCall, viewLengthCall}
 use Rattle.player_disc.specs.PlayerDisc.{discLoadCallAs, discSaveCallAs, discSaveBothCallAs}
 use Rattle.theorems.specs.Terms.{ValidIn}
@@ -74,7 +74,7 @@ listener-sees-in-c =
 
 -- ---- roles
 pub workshop-in-c : WorkshopInC
-unfolding loadCallAs saveCallAs mergeCallAs mergeAllCallAs discLoadCallAs discSaveCallAs discSaveBothCallAs asWorkshop inHead
+unfolding loadCallAs saveCallAs mergeCallAs mergeAllCallAs discLoadCallAs discSaveCallAs discSaveBothCallAs inWorkshop inHead
 workshop-in-c =
     record {
       load = λ head a file limit t. refl;
@@ -87,7 +87,7 @@ workshop-in-c =
     }
 
 pub listener-refused-in-c : (role : ℕ) → role ≢ workshop → ListenerRefusedInC role
-unfolding loadCallAs saveCallAs mergeCallAs mergeAllCallAs discLoadCallAs discSaveCallAs discSaveBothCallAs asWorkshop inHead
+unfolding loadCallAs saveCallAs mergeCallAs mergeAllCallAs discLoadCallAs discSaveCallAs discSaveBothCallAs inWorkshop inHead
 listener-refused-in-c role h =
     let n = ne-eqb role workshop h in
     record {

@@ -13,7 +13,7 @@ use Rattle.rules.specs.Merge.{merge}
 use Rattle.rules.specs.File.{saved}
 use Rattle.rules_jump.specs.Names.{namedHint}
 use Rattle.rules.specs.declared.Made.the-variants as made
-use Rattle.tables.specs.Index.{Tables, indexIn, out}
+use Rattle.tables.specs.Index.{Tables, indexIn, madeOut}
 use Rattle.plan.specs.Plan.{planIn}
 use Rattle.hint.specs.Hint.{hintIn}
 use Rattle.rules.specs.declared.Brings.{Brings}
@@ -53,7 +53,7 @@ OnlyImageNamed =
 abbrev pub NothingNamedInTables : Type 0
 NothingNamedInTables =
     (x : AreaIndex) (t : Tables) (y : AreaIndex) (u : Tables) (b : Brings) (z : AreaIndex) (t' : Tables) → LentIn x t → LentIn y u
-    → addsIn x t y u ≡ Accepted b → mergeIn x t y u ≡ out (made.Index z) t' → (noneNamed b ≡ true) ↔ (indexIn z t' ≡ indexIn x t)
+    → addsIn x t y u ≡ Accepted b → mergeIn x t y u ≡ madeOut (made.Index z) t' → (noneNamed b ≡ true) ↔ (indexIn z t' ≡ indexIn x t)
 
 -- the own tables answer as those after the merge do: plan and hint for every frame, the bytes of every part of the store, and the file
 pub record SameAnswersInTables (x : AreaIndex) (t : Tables) (z : AreaIndex) (t' : Tables) : Type 0 where
@@ -66,4 +66,4 @@ pub record SameAnswersInTables (x : AreaIndex) (t : Tables) (z : AreaIndex) (t' 
 abbrev pub OnlyImageNamedInTables : Type 0
 OnlyImageNamedInTables =
     (x : AreaIndex) (t : Tables) (y : AreaIndex) (u : Tables) (b : Brings) (z : AreaIndex) (t' : Tables) → LentIn x t → LentIn y u
-    → addsIn x t y u ≡ Accepted b → mergeIn x t y u ≡ out (made.Index z) t' → noneButImage b ≡ true → SameAnswersInTables x t z t'
+    → addsIn x t y u ≡ Accepted b → mergeIn x t y u ≡ madeOut (made.Index z) t' → noneButImage b ≡ true → SameAnswersInTables x t z t'

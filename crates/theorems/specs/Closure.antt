@@ -14,7 +14,7 @@ use Rattle.rules.specs.Values.{Index, Recorder, HintRecorder, Lengths, maxList}
 use Rattle.rules.specs.Questions.{recorderQuestion3}
 use Rattle.rules.specs.Create.{new, bindFingerprint, recorder, hintRecorder}
 use Rattle.rules.specs.Record.{Assembling, recordAt, finish, absorb}
-use Rattle.rules.specs.Hints.{Taken, SeenSector, see, flush, takeList, unkept, addHints, keepHint, keepConfirmation}
+use Rattle.rules.specs.Hints.{TakenHints, SeenSector, see, flush, takeList, unkept, addHints, keepHint, keepConfirmation}
 use Rattle.rules.specs.Merge.{merge}
 use Rattle.rules.specs.Load.{load}
 use Rattle.theorems.specs.Terms.{Valid, ValidRecorder, ValidHintRecorder}
@@ -39,7 +39,7 @@ pub record Closure : Type 0 where
   pub hintRecording : (l : Lengths) (x : Index) (r : HintRecorder) → hintRecorder l x ≡ Accepted (some r) → ValidHintRecorder maxList r
   pub seen : (n : ℕ) (r : HintRecorder) (lsn : ℕ) (sector : List ℕ) (s : SeenSector) → see n r lsn sector ≡ Accepted s → ValidHintRecorder n (s .recorder)
   pub flushed : (n : ℕ) (r s : HintRecorder) → flush n r ≡ Accepted s → ValidHintRecorder n s
-  pub taken : (n : ℕ) (r : HintRecorder) (t : Taken) → takeList n r ≡ Accepted t → ValidHintRecorder n (t .recorder)
+  pub taken : (n : ℕ) (r : HintRecorder) (t : TakenHints) → takeList n r ≡ Accepted t → ValidHintRecorder n (t .recorder)
   -- a delivered list has no marks
   pub hinted : (l : Lengths) (x y : Index) (list : List Hint) → unkept list ≡ list → addHints l x list ≡ Accepted y → Valid l y
   pub marked : (l : Lengths) (x y : Index) (lsn : ℕ) → keepHint l x lsn ≡ Accepted y → Valid l y

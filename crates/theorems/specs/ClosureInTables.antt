@@ -16,7 +16,7 @@ use Rattle.rules.specs.Tests.{Accepted}
 use Rattle.rules.specs.Values.{max64}
 use Rattle.rules.specs.Questions.{question1, question2, question4}
 use Rattle.rules.specs.declared.Made.the-variants as made
-use Rattle.tables.specs.Index.{Tables, indexIn, kindsIn, out}
+use Rattle.tables.specs.Index.{Tables, indexIn, kindsIn, madeOut}
 use Rattle.index.specs.Index.{newIn, boundIn}
 use Rattle.add_hints.specs.AddHints.{addHintsIn}
 use Rattle.keep_hint.specs.KeepHint.{keepHintIn}
@@ -35,7 +35,7 @@ use Rattle.rules.specs.declared.Seen.the-variants as seenAs
 use Rattle.rules.specs.declared.SeenSector.{SeenSector}
 use Rattle.rules.specs.declared.Taken.the-variants as takenAs
 use Rattle.rules.specs.declared.TakenList.{TakenList}
-use Rattle.hint_recorder.specs.HintRecorder.{hintRecorderIn, seeIn, flushIn, takeIn}
+use Rattle.hint_recorder.specs.HintRecorder.{createdIn, seeIn, flushIn, takeIn}
 use Rattle.hint_recorder.specs.HintRecorder as hinting
 use Rattle.theorems.specs.TableRun.{LentIn}
 use Rattle.theorems.specs.Recorders.{StandsRecorder, RecorderBytes, SignedIn, StandsHintRecorder}
@@ -50,13 +50,13 @@ pub record Stands (x : AreaIndex) (t : Tables) : Type 0 where
 pub record ClosureInTables : Type 0 where
   pub new : (t : Tables) (a : Area) (k budget spacing most : ℕ) (x : AreaIndex) → newIn t a k budget spacing most ≡ Accepted x → Stands x t
   pub fingerprinted : (x : AreaIndex) (t : Tables) (v : ℕ) (y : AreaIndex) → boundIn x t v ≡ Accepted y → Stands y t
-  pub hinted : (x : AreaIndex) (t : Tables) (list : List ℕ) (y : AreaIndex) (t' : Tables) → LentIn x t → addHintsIn x t list ≡ out (made.Index y) t' → Stands y t'
-  pub marked : (x : AreaIndex) (t : Tables) (lsn : ℕ) (y : AreaIndex) (t' : Tables) → LentIn x t → keepHintIn x t lsn ≡ out (made.Index y) t' → Stands y t'
+  pub hinted : (x : AreaIndex) (t : Tables) (list : List ℕ) (y : AreaIndex) (t' : Tables) → LentIn x t → addHintsIn x t list ≡ madeOut (made.Index y) t' → Stands y t'
+  pub marked : (x : AreaIndex) (t : Tables) (lsn : ℕ) (y : AreaIndex) (t' : Tables) → LentIn x t → keepHintIn x t lsn ≡ madeOut (made.Index y) t' → Stands y t'
   pub confirmed : (x : AreaIndex) (t : Tables) (c : Confirmation) (y : AreaIndex) (t' : Tables) → LentIn x t → c .digest ≤ max64
-      → keepIn x t c ≡ keeping.out (kept.Index y) t' → Stands y t'
-  pub loaded : (a : Area) (b : List ℕ) (limit : ℕ) (t : Tables) (y : AreaIndex) (t' : Tables) → Bytes b → loadIn a b limit t ≡ out (made.Index y) t' → Stands y t'
+      → keepIn x t c ≡ keeping.keptOut (kept.Index y) t' → Stands y t'
+  pub loaded : (a : Area) (b : List ℕ) (limit : ℕ) (t : Tables) (y : AreaIndex) (t' : Tables) → Bytes b → loadIn a b limit t ≡ madeOut (made.Index y) t' → Stands y t'
   pub merged : (x : AreaIndex) (t : Tables) (y : AreaIndex) (u : Tables) (z : AreaIndex) (t' : Tables) → LentIn x t → LentIn y u
-      → mergeIn x t y u ≡ out (made.Index z) t' → Stands z t'
+      → mergeIn x t y u ≡ madeOut (made.Index z) t' → Stands z t'
   -- recorders: a new one holds nothing, whatever tables u it is given
   pub recording : (x : AreaIndex) (t : Tables) (from : ℕ) (r : Recorder) (u : RecorderTables) → startedIn x t from ≡ recordedAs.Recorder r → StandsRecorder r u
   pub recorded : (r : Recorder) (u : RecorderTables) (lsn threshold malformed : ℕ) (f : UnderAssembly) (b sector : List ℕ) (s : Recorder) (u' : RecorderTables)
@@ -70,8 +70,8 @@ pub record ClosureInTables : Type 0 where
       → let o = absorbIn x t image given r u in
       o .answer .number ≡ 8 → StandsRecorder (o .answer .recorder) u
   -- hint recorders: a new one lists nothing, whatever table t' it is given
-  pub hintRecording : (x : AreaIndex) (t : Tables) (r : HintRecorder) (t' : List ℕ) → hintRecorderIn x t ≡ createdAs.Recorder r → StandsHintRecorder r t'
+  pub hintRecording : (x : AreaIndex) (t : Tables) (r : HintRecorder) (t' : List ℕ) → createdIn x t ≡ createdAs.Recorder r → StandsHintRecorder r t'
   pub seen : (r : HintRecorder) (t : List ℕ) (lsn : ℕ) (sector : List ℕ) (s : SeenSector) (t' : List ℕ)
       → seeIn r t lsn sector ≡ hinting.sawOut (sawAs.Sector s) t' → StandsHintRecorder (s .recorder) t'
-  pub flushed : (r : HintRecorder) (t : List ℕ) (s : HintRecorder) (t' : List ℕ) → flushIn r t ≡ hinting.out (seenAs.Recorder s) t' → StandsHintRecorder s t'
+  pub flushed : (r : HintRecorder) (t : List ℕ) (s : HintRecorder) (t' : List ℕ) → flushIn r t ≡ hinting.seenOut (seenAs.Recorder s) t' → StandsHintRecorder s t'
   pub taken : (r : HintRecorder) (t : List ℕ) (k : TakenList) → takeIn r t ≡ takenAs.List k → StandsHintRecorder (k .recorder) t

@@ -16,7 +16,7 @@ use Rattle.rules.specs.Merge.{question42}
 use Rattle.rules.specs.Plan.{assemblyOf, startOf, bytesAt}
 use Rattle.rules.specs.Run.{Reading}
 use Rattle.rules.specs.declared.Made.the-variants as made
-use Rattle.tables.specs.Index.{Tables, out}
+use Rattle.tables.specs.Index.{Tables, madeOut}
 use Rattle.plan.specs.Plan.{planIn}
 use Rattle.merge.specs.Merge.{mergeIn}
 use Rattle.theorems.specs.Demand3.{Outcome, PartsLeft}
@@ -93,7 +93,7 @@ pub record NotBack (x : AreaIndex) (t : Tables) (z : AreaIndex) (t' : Tables) (f
 abbrev pub JumpNotBackInTables : Type 0
 JumpNotBackInTables =
     (x : AreaIndex) (t : Tables) (y : AreaIndex) (u : Tables) (z : AreaIndex) (t' : Tables) (f : ℕ) → LentIn x t → LentIn y u
-    → mergeIn x t y u ≡ out (made.Index z) t' → NotBack x t z t' f
+    → mergeIn x t y u ≡ madeOut (made.Index z) t' → NotBack x t z t' f
 
 -- ---- demand 3
 pub record Demand3InTables : Type 0 where

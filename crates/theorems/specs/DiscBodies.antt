@@ -9,7 +9,7 @@ use Rattle.rules.specs.declared.Area.{Area}
 use Rattle.rules.specs.declared.AreaIndex.{AreaIndex}
 use Rattle.rules.specs.File.{over, saved}
 use Rattle.rules.specs.declared.Made.the-variants as made
-use Rattle.tables.specs.Index.{Tables, indexIn, out}
+use Rattle.tables.specs.Index.{Tables, indexIn, madeOut}
 use Rattle.rules.specs.declared.Saved.the-variants.{Length}
 use Rattle.save.specs.Save as saving
 use Rattle.load.specs.Load.{loadIn}
@@ -59,7 +59,7 @@ pub record SavedBodiesInC : Type 0 where
 pub record LoadsAlone (a : Area) (c : List ℕ) (limit : ℕ) (t : Tables) (p : Listed) (t' : Tables) : Type 0 where
   pub numbers : AreaIndex
   pub is : p ≡ listed.Index numbers
-  pub loads : loadIn a c limit t ≡ out (made.Index numbers) t'
+  pub loads : loadIn a c limit t ≡ madeOut (made.Index numbers) t'
 
 pub record BodiesLoadIn : Type 0 where
   pub first : (a0 a1 : Area) (b : List ℕ) (limit : ℕ) (t u : Tables) (p q : Listed) (t' u' : Tables) (c : List ℕ)

@@ -8,7 +8,7 @@ use lib.ListN.{length}
 use Rattle.rules.specs.declared.Area.{Area}
 use Rattle.rules.specs.declared.AreaIndex.{AreaIndex}
 use Rattle.rules.specs.Tests.{Refused, Accepted}
-use Rattle.rules_disc.specs.Disc.{Disc, entriesIn, entryOf, bodyOf, loadDisc}
+use Rattle.rules_disc.specs.Disc.{Disc, entriesIn, entryOf, bodyAt, loadDisc}
 use Rattle.tables.specs.Index.{Tables, roomOf}
 use Rattle.rules.specs.declared.Saved.{Saved}
 use Rattle.rules.specs.declared.Saved.the-variants as saved
@@ -50,5 +50,5 @@ pub record DiscSizesTold : Type 0 where
       → hasSlot (d .slot0) t ≡ true → hasSlot (d .slot1) u ≡ true → LoadsInTables a0 a1 b limit t u
   -- where no sizes are told, loading refuses with the same number, if the tables of slot 0 have the sizes of its body
   pub refused : (a0 a1 : Area) (b : List ℕ) (limit n : ℕ) (t u : Tables) → discSizes a0 a1 b limit ≡ Refused n
-      → ((s : Option TableSizes) → bodySizes a0 limit (bodyOf b (entryOf 0 (entriesIn b))) ≡ Accepted s → hasSlot s t ≡ true)
+      → ((s : Option TableSizes) → bodySizes a0 limit (bodyAt b (entryOf 0 (entriesIn b))) ≡ Accepted s → hasSlot s t ≡ true)
       → loadDisc (roomOf t) (roomOf u) a0 a1 b limit ≡ Refused n

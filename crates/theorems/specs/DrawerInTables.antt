@@ -16,7 +16,7 @@ use Rattle.rules.specs.Load.{limited}
 use Rattle.rules.specs.Run.{Reading, Cut}
 use Rattle.rules_drawer.specs.Drawer.{maxFiles, lengthsIn, mergeAll}
 use Rattle.rules.specs.declared.Made.the-variants as made
-use Rattle.tables.specs.Index.{Tables, roomOf, indexIn, kindsIn, numbersFrom, refusal, out}
+use Rattle.tables.specs.Index.{Tables, roomOf, indexIn, kindsIn, numbersFrom, refusal, madeOut}
 use Rattle.drawer.specs.Drawer.{mergeAllIn}
 use Rattle.theorems.specs.Terms.{Valid, ValidIn}
 use Rattle.theorems.specs.TableRun.{LentIn}
@@ -32,21 +32,21 @@ pub record SetLeft (x : AreaIndex) (t : Tables) (ls b : List ℕ) (limit : ℕ) 
 -- the call answers the numbers of the list z, which its tables then hold
 pub record SetAnswers (x : AreaIndex) (t : Tables) (ls b : List ℕ) (limit : ℕ) (u : Tables) (z : Index) : Type 0 where
   pub after : Tables
-  pub answer : mergeAllIn x t ls b limit u ≡ out (made.Index (numbersFrom z)) after
+  pub answer : mergeAllIn x t ls b limit u ≡ madeOut (made.Index (numbersFrom z)) after
   pub stands : indexIn (numbersFrom z) after ≡ z
 
 pub record SetInTables : Type 0 where
   -- what every accepted call leaves
   pub leaves : (x : AreaIndex) (t : Tables) (ls b : List ℕ) (limit : ℕ) (u : Tables) (y : AreaIndex) (t' : Tables) → LentIn x t → Bytes b
-      → mergeAllIn x t ls b limit u ≡ out (made.Index y) t' → SetLeft x t ls b limit u y t'
+      → mergeAllIn x t ls b limit u ≡ madeOut (made.Index y) t' → SetLeft x t ls b limit u y t'
   -- a set whose files load and whose merging in turn is accepted throughout is accepted
   pub accepts : (x : AreaIndex) (t : Tables) (ls b : List ℕ) (limit : ℕ) (u : Tables) (z : Index) → LentIn x t → Bytes b → kindsIn x t ≡ true
       → InTurn (roomOf t) (indexIn x t) (roomOf u) (lengthsIn ls) b limit z → SetAnswers x t ls b limit u z
   -- the number of a refusal: of 1 to 4 with the kind bytes, else that of the rules; no table changes
   pub own : (x : AreaIndex) (t : Tables) (ls b : List ℕ) (limit : ℕ) (u : Tables) (n : ℕ) → refusal x t ≡ n → n ≢ 0
-      → mergeAllIn x t ls b limit u ≡ out (made.Refused n) t
+      → mergeAllIn x t ls b limit u ≡ madeOut (made.Refused n) t
   pub refused : (x : AreaIndex) (t : Tables) (ls b : List ℕ) (limit : ℕ) (u : Tables) (n : ℕ) → refusal x t ≡ 0
-      → mergeAll (roomOf t) (indexIn x t) (roomOf u) (lengthsIn ls) b limit ≡ Refused n → mergeAllIn x t ls b limit u ≡ out (made.Refused n) t
+      → mergeAll (roomOf t) (indexIn x t) (roomOf u) (lengthsIn ls) b limit ≡ Refused n → mergeAllIn x t ls b limit u ≡ madeOut (made.Refused n) t
 
 -- ---- files that saving wrote
 -- an own list and 1 to 16 lists, all cut from one reading, of which no two fingerprints differ as they load: their files, in working tables long enough for each, are not refused

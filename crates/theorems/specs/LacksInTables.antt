@@ -17,7 +17,7 @@ use Rattle.rules.specs.Run.{Reading, Cut}
 use Rattle.rules.specs.Sections.{ownLsn}
 use Rattle.laws.specs.Order.{Rises}
 use Rattle.rules.specs.declared.Made.the-variants as made
-use Rattle.tables.specs.Index.{Tables, indexIn, out}
+use Rattle.tables.specs.Index.{Tables, indexIn, madeOut}
 use Rattle.plan.specs.Plan.{planIn}
 use Rattle.hint.specs.Hint.{hintIn}
 use Rattle.merge.specs.Merge.{mergeIn}
@@ -66,7 +66,7 @@ LacksTransInTables =
 abbrev pub LacksAddsInTables : Type 0
 LacksAddsInTables =
     (x : AreaIndex) (t : Tables) (y : AreaIndex) (u : Tables) (b : Lacks) (z : AreaIndex) (t' : Tables) → LentIn x t → LentIn y u → lacksIn x t y u ≡ Accepted b
-    → holdsAll b ≡ true → mergeIn x t y u ≡ out (made.Index z) t' → SameAnswersInTables x t z t'
+    → holdsAll b ≡ true → mergeIn x t y u ≡ madeOut (made.Index z) t' → SameAnswersInTables x t z t'
 
 -- what the merged tables can lack of the two lists, and which hints, confirmations and parts
 pub record MergedIn (x : AreaIndex) (t : Tables) (y : AreaIndex) (u : Tables) (z : AreaIndex) (t' : Tables) : Type 0 where
@@ -76,11 +76,11 @@ pub record MergedIn (x : AreaIndex) (t : Tables) (y : AreaIndex) (u : Tables) (z
 abbrev pub MergeLacksInTables : Type 0
 MergeLacksInTables =
     (x : AreaIndex) (t : Tables) (y : AreaIndex) (u : Tables) (z : AreaIndex) (t' : Tables) → LentIn x t → LentIn y u
-    → mergeIn x t y u ≡ out (made.Index z) t' → MergedIn x t y u z t'
+    → mergeIn x t y u ≡ madeOut (made.Index z) t' → MergedIn x t y u z t'
 
 -- of two lists cut from one reading, whose malformed LSNs rise, the merged tables lack no malformed LSN
 abbrev pub MergeMalformedInTables : Type 0
 MergeMalformedInTables =
     (R : Reading) (x : AreaIndex) (t : Tables) (y : AreaIndex) (u : Tables) (z : AreaIndex) (t' : Tables) → LentIn x t → LentIn y u
-    → Rises ownLsn 0 (R .malformed) → Cut R (indexIn x t) → Cut R (indexIn y u) → mergeIn x t y u ≡ out (made.Index z) t'
+    → Rises ownLsn 0 (R .malformed) → Cut R (indexIn x t) → Cut R (indexIn y u) → mergeIn x t y u ≡ madeOut (made.Index z) t'
     → (lacking (indexIn z t') (indexIn x t) .malformed ≡ 0) × (lacking (indexIn z t') (indexIn y u) .malformed ≡ 0)

@@ -17,7 +17,7 @@ use Rattle.rules.specs.Load.{fromBytes, limited, load}
 use Rattle.tables.specs.Index.{Tables, roomOf}
 use Rattle.tables.specs.Recorder.{RecorderTables, recorderRoom}
 use Rattle.rules.specs.declared.Created.the-variants as created
-use Rattle.hint_recorder.specs.HintRecorder.{hintRecorderIn}
+use Rattle.hint_recorder.specs.HintRecorder.{createdIn}
 use Rattle.rules.specs.declared.Saved.{Saved}
 use Rattle.rules.specs.declared.Saved.the-variants as saved
 use Rattle.save.specs.Save.{saveIn}
@@ -77,7 +77,7 @@ HintListIsSize = (list : List ℕ) → leb maxList (length list / 8) ≡ leb 524
 
 -- a hint recorder that is made has a spacing: a first word of 0 tells that there is none
 abbrev pub MadeHasSpacing : Type 0
-MadeHasSpacing = (x : AreaIndex) (t : Tables) (h : HintRecorder) → hintRecorderIn x t ≡ created.Recorder h → 1 ≤ h .spacing
+MadeHasSpacing = (x : AreaIndex) (t : Tables) (h : HintRecorder) → createdIn x t ≡ created.Recorder h → 1 ≤ h .spacing
 
 -- ---- the area of a file
 pub record FileAreaIsLoadings : Type 0 where

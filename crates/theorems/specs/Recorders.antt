@@ -13,7 +13,7 @@ use Rattle.rules.specs.declared.UnderAssembly.the-variants.{Nothing, Frame}
 use Rattle.rules.specs.Values.{maxList}
 use Rattle.rules.specs.Questions.{recorderQuestion1, recorderQuestion2, recorderQuestion4}
 use Rattle.tables.specs.Recorder.{RecorderTables, recorderRoom, recorderIn, recorderKinds}
-use Rattle.tables.specs.HintRecorder as hinting
+use Rattle.tables.specs.HintRecorder.{hintRecorderIn}
 use Rattle.theorems.specs.Terms.{ValidRecorder, ValidHintRecorder}
 
 -- ---- 1 to 4 of a recorder in its tables, its parts' kinds among them
@@ -42,8 +42,8 @@ SignedIn (Frame f) = mag (f .remaining) < 2147483648
 
 -- ---- 3 and 4 of a hint recorder in its table
 abbrev pub ValidHintRecorderIn : HintRecorder → List ℕ → Type 0
-ValidHintRecorderIn r t = ValidHintRecorder (length t / 8) (hinting.recorderIn r t)
+ValidHintRecorderIn r t = ValidHintRecorder (length t / 8) (hintRecorderIn r t)
 
 -- 4: 1 and 2 are not asked of it
 abbrev pub StandsHintRecorder : HintRecorder → List ℕ → Type 0
-StandsHintRecorder r t = length (hinting.recorderIn r t .list) ≤ maxList
+StandsHintRecorder r t = length (hintRecorderIn r t .list) ≤ maxList

@@ -12,7 +12,7 @@ use Rattle.rules.specs.Tests.{Accepted}
 use Rattle.rules.specs.Values.{max64}
 use Rattle.rules_shelf.specs.declared.Shelf.{Shelf}
 use Rattle.rules_shelf.specs.declared.ShelfRecord.{ShelfRecord}
-use Rattle.rules_shelf.specs.Shelf.{noRecord, areaOf, recordOf, present, sum, dropAt, shelfOk, After, enter, jump}
+use Rattle.rules_shelf.specs.Shelf.{noRecord, areaOf, recordOf, presentRecords, sum, dropAt, shelfOk, After, enter, jump}
 
 -- ---- records that stay, and records that go
 -- rs are those that stay and those that go, both in their order
@@ -34,12 +34,12 @@ Older rs r s = (r .stamp < s .stamp) ⊎ ((r .stamp ≡ s .stamp) × Before r s 
 pub record Asked (x : Shelf) (t : List ShelfRecord) (a : Area) : Type 0 where
   pub area : areaOk a ≡ true
   pub room : 64 ≤ length t
-  pub shelf : shelfOk x (present x t) ≡ true
+  pub shelf : shelfOk x (presentRecords x t) ≡ true
   pub count : x .count < max64
 
 -- ---- 4 holds after an accepted call, and the table is as long as before
 abbrev pub ValidAfter : List ShelfRecord → After → Type 0
-ValidAfter t y = (shelfOk (y .shelf) (present (y .shelf) (y .table)) ≡ true) × (length (y .table) ≡ length t)
+ValidAfter t y = (shelfOk (y .shelf) (presentRecords (y .shelf) (y .table)) ≡ true) × (length (y .table) ≡ length t)
 
 pub record ShelfValid : Type 0 where
   pub entered : (x : Shelf) (t : List ShelfRecord) (a : Area) (len : ℕ) (y : After) → enter x t a len ≡ Accepted y → ValidAfter t y
@@ -62,15 +62,15 @@ pub record Entering (x : Shelf) (t : List ShelfRecord) (a : Area) (len : ℕ) (y
   pub stay : List ShelfRecord
   pub gone : List ShelfRecord
   -- OthersStay: those that stay are unchanged and in their order, and none has the area of the list
-  pub others : Parted stay gone (present x t)
+  pub others : Parted stay gone (presentRecords x t)
   pub own : (r : ShelfRecord) → List·Memᴰ r stay → areaOf r ≢ a
   -- Stamped: the list stands behind them, with the number that the count now has
-  pub stamped : present (y .shelf) (y .table) ≡ stay ++ recordOf a len (x .count + 1) ∷ []
+  pub stamped : presentRecords (y .shelf) (y .table) ≡ stay ++ recordOf a len (x .count + 1) ∷ []
   pub counted : y .shelf .count ≡ x .count + 1
   -- OldestGo: of other areas, those that go are older than those that stay
-  pub oldest : (g k : ShelfRecord) → List·Memᴰ g gone → areaOf g ≢ a → List·Memᴰ k stay → Older (present x t) g k
+  pub oldest : (g k : ShelfRecord) → List·Memᴰ g gone → areaOf g ≢ a → List·Memᴰ k stay → Older (presentRecords x t) g k
   -- NoneTooMany: all that goes is of the list's area, or room was needed
-  pub needed : ((g : ShelfRecord) → List·Memᴰ g gone → areaOf g ≡ a) ⊎ LastBack x a len (present x t) stay gone
+  pub needed : ((g : ShelfRecord) → List·Memᴰ g gone → areaOf g ≡ a) ⊎ LastBack x a len (presentRecords x t) stay gone
 
 abbrev pub Entered : Type 0
 Entered = (x : Shelf) (t : List ShelfRecord) (a : Area) (len : ℕ) (y : After) → enter x t a len ≡ Accepted y → Entering x t a len y

@@ -11,7 +11,7 @@ use Rattle.rules.specs.Sizes.{sized}
 use Rattle.rules.specs.Run.{Reading, Cut, Place, Call, mergeCall, saveCall, loadCall, Saved, State, begin, run, replace}
 use Rattle.rules.specs.declared.Made.{Made}
 use Rattle.rules.specs.declared.Made.the-variants as made
-use Rattle.tables.specs.Index.{Tables, roomOf, indexIn, kindsIn, Out}
+use Rattle.tables.specs.Index.{Tables, roomOf, indexIn, kindsIn, MadeOut}
 use Rattle.tables.specs.Lent.{Typed, TableBytes}
 use Rattle.rules.specs.declared.Saved as declared
 use Rattle.rules.specs.declared.Saved.the-variants as answer
@@ -48,7 +48,7 @@ unfoldable pub isAccepted : Made → Bool
 isAccepted (made.Refused n) = false
 isAccepted (made.Index y) = true
 
-abbrev pub placed : TablePlace → Out → TablePlace
+abbrev pub placed : TablePlace → MadeOut → TablePlace
 placed p o = record { numbers = numbersAfter (p .numbers) (o .answer); tables = o .tables }
 
 -- the file that an accepted save wrote
@@ -56,7 +56,7 @@ unfoldable pub fileOf : ℕ → SaveOut → declared.Saved → Option Saved
 fileOf i o (answer.Refused n) = none
 fileOf i o (answer.Length n) = some (record { place = i; bytes = take n (o .out) })
 
-abbrev pub merging : TablePlace → TablePlace → Out
+abbrev pub merging : TablePlace → TablePlace → MadeOut
 merging own other = mergeIn (own .numbers) (own .tables) (other .numbers) (other .tables)
 
 abbrev pub saving : TablePlace → List ℕ → SaveOut

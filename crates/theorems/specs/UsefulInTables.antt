@@ -41,12 +41,12 @@ use Rattle.rules_coverage.specs.declared.Row.{Row}
 use Rattle.rules_coverage.specs.Lines.{Line}
 use Rattle.rules_coverage.specs.Coverage.{areaIn, rangeOk, rowFrom, rowOf, maxFile, lineRow}
 use Rattle.rules_coarsen.specs.Coarse.{coarser, question47, question48}
-use Rattle.tables.specs.Index.{Tables, roomOf, indexIn, endIn, idIn, numbersFrom, tablesFrom, tablesCleared, frontierIn, Out, out}
+use Rattle.tables.specs.Index.{Tables, roomOf, indexIn, endIn, idIn, numbersFrom, tablesFrom, tablesCleared, frontierIn, MadeOut, madeOut}
 use Rattle.tables.specs.Lent.{TableBytes}
 use Rattle.index.specs.Index.{newIn, boundIn}
 use Rattle.rules.specs.declared.Recorded.the-variants as recordedAs
 use Rattle.tables.specs.Recorder.{RecorderTables, recorderIn, recorderFrom, recorderOver, assemblingIn}
-use Rattle.recorder.specs.Recorder.{startedIn, finishedIn, recorderOut, recordIn, checkpointAt, dueAt}
+use Rattle.recorder.specs.Recorder.{startedIn, finishedIn, recorderOut, recordIn, checkpointLsn, dueAt}
 use Rattle.rules.specs.declared.Boundary.the-variants as boundaryAs
 use Rattle.absorb.specs.Absorb.{absorbed, absorbIn}
 use Rattle.absorb.specs.Absorb as absorbing
@@ -55,9 +55,9 @@ use Rattle.rules.specs.declared.Created.the-variants as createdAs
 use Rattle.rules.specs.declared.Saw.the-variants as sawAs
 use Rattle.rules.specs.declared.Seen.the-variants as seenAs
 use Rattle.rules.specs.declared.Taken.the-variants as takenAs
-use Rattle.hint_recorder.specs.HintRecorder.{hintRecorderIn, seeIn, flushIn, takeIn}
+use Rattle.hint_recorder.specs.HintRecorder.{createdIn, seeIn, flushIn, takeIn}
 use Rattle.hint_recorder.specs.HintRecorder as hinting
-use Rattle.tables.specs.HintRecorder as hintRecorder
+use Rattle.tables.specs.HintRecorder.{hintRecorderFrom, hintRecorderIn}
 use Rattle.add_hints.specs.AddHints.{touched, addHintsIn}
 use Rattle.keep_hint.specs.KeepHint.{keepHintIn}
 use Rattle.rules.specs.declared.Kept.the-variants as keptAs
@@ -112,20 +112,20 @@ pub record RefusesNothingIn : Type 0 where
         mode = cond (isSome (endIn (x .ending))) Stopped Running;
       })
   pub hintRecorders : (x : AreaIndex) (t : Tables) → ValidIn x t → x .spacing ≢ 0 → x .most ≢ 0
-      → hintRecorderIn x t ≡ createdAs.Recorder (record { spacing = x .spacing; last = Never; tail = Empty; count = 0 })
+      → createdIn x t ≡ createdAs.Recorder (record { spacing = x .spacing; last = Never; tail = Empty; count = 0 })
   -- spacing or M of 0: no hint recorder
-  pub noHintRecorder : (x : AreaIndex) (t : Tables) → ValidIn x t → (eqb (x .spacing) 0 || eqb (x .most) 0) ≡ true → hintRecorderIn x t ≡ createdAs.Nothing
+  pub noHintRecorder : (x : AreaIndex) (t : Tables) → ValidIn x t → (eqb (x .spacing) 0 || eqb (x .most) 0) ≡ true → createdIn x t ≡ createdAs.Nothing
   pub addsHints : (x : AreaIndex) (t : Tables) (list : List ℕ) → ValidIn x t → question13 (hintsOf list) ≡ true
       → let i = indexIn x t in let y = withHinting i (withHints (x .area) (i .hinting) (hintsOf list)) in
-      addHintsIn x t list ≡ out (madeAs.Index (numbersFrom y)) (tablesCleared (touched (x .most) (x .hints) list) y t)
+      addHintsIn x t list ≡ madeOut (madeAs.Index (numbersFrom y)) (tablesCleared (touched (x .most) (x .hints) list) y t)
   pub keepsHints : (x : AreaIndex) (t : Tables) (lsn : ℕ) → ValidIn x t → let i = indexIn x t in question53 (i .hinting) lsn ≡ true
-      → let y = withHinting i (withMark (i .hinting) lsn) in keepHintIn x t lsn ≡ out (madeAs.Index (numbersFrom y)) (tablesFrom y t)
+      → let y = withHinting i (withMark (i .hinting) lsn) in keepHintIn x t lsn ≡ madeOut (madeAs.Index (numbersFrom y)) (tablesFrom y t)
   pub confirms : (x : AreaIndex) (t : Tables) (c : Confirmation) → ValidIn x t → question14 (x .area) c ≡ true → isChecked (x .fingerprint) ≡ true → x .most ≢ 0
       → let i = indexIn x t in let y = withHinting i (withConfirmed (i .hinting) (keep true (x .most) (i .hinting .confirmed) c)) in
-      keepIn x t c ≡ keeping.out (keptAs.Index (numbersFrom y)) (tablesFrom y t)
+      keepIn x t c ≡ keeping.keptOut (keptAs.Index (numbersFrom y)) (tablesFrom y t)
   -- nothing is kept, and that is the answer
   pub keepsNone : (x : AreaIndex) (t : Tables) (c : Confirmation) → ValidIn x t → question14 (x .area) c ≡ true → keepsNothing (isChecked (x .fingerprint)) (x .most) ≡ true
-      → keepIn x t c ≡ keeping.out keptAs.Nothing t
+      → keepIn x t c ≡ keeping.keptOut keptAs.Nothing t
   pub hints : (x : AreaIndex) (t : Tables) (first end playtime : ℕ) → ValidIn x t → first ≤ end → numberOf (hintIn x t first end playtime) ≡ 0
   pub plans : (x : AreaIndex) (t : Tables) (f : ℕ) → ValidIn x t → (p : Plan) × (planIn x t f ≡ Accepted p)
   pub saves : (x : AreaIndex) (t : Tables) (old : List ℕ) → ValidIn x t → savedLength (indexIn x t) ≤ length old
@@ -151,25 +151,25 @@ pub record RefusesNothingIn : Type 0 where
       → isStopped (r .mode) ≡ false → let i = indexIn x t in let v = recorderIn r u in let id = idIn image in let ms = givenIn given in
       question8 i id ≡ true → question9 i v ≡ true → question10 i v ≡ true → question11 i v ≡ true → question12 i v id ms ≡ true
       → let y = absorbedIndex i v id ms in
-      absorbIn x t image given r u ≡ absorbing.out (absorbed 0 (numbersFrom y) (recorderFrom (emptied v))) (tablesFrom y t)
+      absorbIn x t image given r u ≡ absorbing.absorbedOut (absorbed 0 (numbersFrom y) (recorderFrom (emptied v))) (tablesFrom y t)
   -- a stopped recorder brings nothing and is no refusal after 4
   pub stopped : (x : AreaIndex) (t : Tables) (image : ImageId) (given : List ℕ) (r : Recorder) (u : RecorderTables) → ValidIn x t → TableBytes t → ValidRecorderIn r u
-      → isStopped (r .mode) ≡ true → absorbIn x t image given r u ≡ absorbing.out (absorbed 0 x r) t
+      → isStopped (r .mode) ≡ true → absorbIn x t image given r u ≡ absorbing.absorbedOut (absorbed 0 x r) t
   pub sees : (r : HintRecorder) (t : List ℕ) (lsn : ℕ) (sector : List ℕ) → ValidHintRecorderIn r t → (n : ℕ) → seeIn r t lsn sector .answer ≢ sawAs.Refused n
   -- what the rules accept is put into the table
-  pub seen : (r : HintRecorder) (t : List ℕ) (lsn : ℕ) (sector : List ℕ) (s : rules.SeenSector) → see (length t / 8) (hintRecorder.recorderIn r t) lsn sector ≡ Accepted s
+  pub seen : (r : HintRecorder) (t : List ℕ) (lsn : ℕ) (sector : List ℕ) (s : rules.SeenSector) → see (length t / 8) (hintRecorderIn r t) lsn sector ≡ Accepted s
       → seeIn r t lsn sector
-      ≡ hinting.sawOut (sawAs.Sector (record { first = s .first; recorder = hintRecorder.numbersFrom (s .recorder) })) (over (bytesOf encodeHint (s .recorder .list)) t)
-  pub flushes : (r : HintRecorder) (t : List ℕ) → ValidHintRecorderIn r t → let v = hintRecorder.recorderIn r t in let hs = flushedList (v .tail) (v .list) in
+      ≡ hinting.sawOut (sawAs.Sector (record { first = s .first; recorder = hintRecorderFrom (s .recorder) })) (over (bytesOf encodeHint (s .recorder .list)) t)
+  pub flushes : (r : HintRecorder) (t : List ℕ) → ValidHintRecorderIn r t → let v = hintRecorderIn r t in let hs = flushedList (v .tail) (v .list) in
       flushIn r t
-      ≡ hinting.out (seenAs.Recorder (hintRecorder.numbersFrom (record { spacing = v .spacing; last = v .last; tail = none; list = hs }))) (over (bytesOf encodeHint hs) t)
-  pub takes : (r : HintRecorder) (t : List ℕ) → ValidHintRecorderIn r t → let v = hintRecorder.recorderIn r t in
+      ≡ hinting.seenOut (seenAs.Recorder (hintRecorderFrom (record { spacing = v .spacing; last = v .last; tail = none; list = hs }))) (over (bytesOf encodeHint hs) t)
+  pub takes : (r : HintRecorder) (t : List ℕ) → ValidHintRecorderIn r t → let v = hintRecorderIn r t in
       takeIn r t
-      ≡ takenAs.List (record { count = length (v .list); recorder = hintRecorder.numbersFrom (record { spacing = v .spacing; last = v .last; tail = v .tail; list = [] }) })
+      ≡ takenAs.List (record { count = length (v .list); recorder = hintRecorderFrom (record { spacing = v .spacing; last = v .last; tail = v .tail; list = [] }) })
   -- numbers, lengths and what a file says
   pub frontiers : (x : AreaIndex) → areaOk (x .area) ≡ true → frontierIn x ≡ Accepted (frontierOf (x .area) (x .interval) (x .checkpoints) (endIn (x .ending)))
   pub boundary : (x : AreaIndex) (j : ℕ) → areaOk (x .area) ≡ true → numbersOk (x .interval) (x .budget) ≡ true
-      → checkpointAt x j ≡ cond (ltb j (boundaries (x .area) (x .interval))) (boundaryAs.Lsn (lsnOf (x .area) (x .interval) j)) boundaryAs.Nothing
+      → checkpointLsn x j ≡ cond (ltb j (boundaries (x .area) (x .interval))) (boundaryAs.Lsn (lsnOf (x .area) (x .interval) j)) boundaryAs.Nothing
   pub due : (r : Recorder) → areaOk (r .area) ≡ true → numbersOk (r .interval) (r .budget) ≡ true → let j = r .first + r .checkpoints in
       dueAt r ≡ cond (isRunning (r .mode) && ltb j (boundaries (r .area) (r .interval))) (boundaryAs.Lsn (lsnOf (r .area) (r .interval) j)) boundaryAs.Nothing
   pub sizes : (a : Area) (k budget most : ℕ) → areaOk a ≡ true → numbersOk k budget ≡ true → newSizes a k budget most ≡ Accepted (sizesOf a k budget (min most maxHints))
@@ -179,13 +179,13 @@ pub record RefusesNothingIn : Type 0 where
   -- change request 1
   pub mergesAll : (x : AreaIndex) (t : Tables) (ls b : List ℕ) (limit : ℕ) (u : Tables) (ys : List Index) → ValidIn x t → question44 (lengthsIn ls) ≡ true
       → loadFiles (roomOf u) (x .area) (lengthsIn ls) b limit ≡ Accepted ys → let i = indexIn x t in pairsNumber (i ∷ ys) ≡ 0
-      → mergeAllIn x t ls b limit u ≡ out (madeAs.Index (numbersFrom (mergeEach i ys))) (mergedTables i ys t)
+      → mergeAllIn x t ls b limit u ≡ madeOut (madeAs.Index (numbersFrom (mergeEach i ys))) (mergedTables i ys t)
   -- change request 2
   pub rows : (b : List ℕ) (s e : ℕ) (x : Index) → rangeOk s e ≡ true → fromBytes (areaIn b s e) b ≡ Accepted x → rowOf b s e ≡ Accepted (rowFrom x)
   pub rowsOfLines : (l : Line) (b : List ℕ) (r : Row) → length b ≤ maxFile → rowOf b (l .start) (l .end) ≡ Accepted r → lineRow (some l) (some b) ≡ Accepted r
   -- change request 6; the tables are the coarser list's
   pub coarsens : (x : AreaIndex) (t : Tables) (k : ℕ) (u : Tables) → ValidIn x t → let i = indexIn x t in let y = coarser k i in
-      question47 k i ≡ true → question48 k i ≡ true → question3 (roomOf u) y ≡ true → coarseIn x t k u ≡ out (madeAs.Index (numbersFrom y)) (tablesFrom y u)
+      question47 k i ≡ true → question48 k i ≡ true → question3 (roomOf u) y ≡ true → coarseIn x t k u ≡ madeOut (madeAs.Index (numbersFrom y)) (tablesFrom y u)
   -- change request 8
   pub folds : (w k s : ℕ) → question49 w k ≡ true → fold w k s ≡ foldedAs.Sum (folded k s)
   -- change requests 9 and 10
@@ -205,7 +205,7 @@ pub record RefusesNothingIn : Type 0 where
 
 -- ---- loads each file as an empty list
 -- a load answered the numbers of a list that the file of x loads as, and its tables then hold that list
-pub record LoadOfIn (limit : ℕ) (x : Index) (o : Out) : Type 0 where
+pub record LoadOfIn (limit : ℕ) (x : Index) (o : MadeOut) : Type 0 where
   pub numbers : AreaIndex
   pub answer : o .answer ≡ madeAs.Index numbers
   pub list : LoadOf limit x (indexIn numbers (o .tables))
@@ -219,7 +219,7 @@ LoadKeepsIn =
 -- ---- merge hands back the first list untouched
 abbrev pub MergeTakesIn : Type 0
 MergeTakesIn =
-    (x : AreaIndex) (t : Tables) (y : AreaIndex) (u : Tables) (z : AreaIndex) (t' : Tables) → LentIn x t → LentIn y u → mergeIn x t y u ≡ out (madeAs.Index z) t'
+    (x : AreaIndex) (t : Tables) (y : AreaIndex) (u : Tables) (z : AreaIndex) (t' : Tables) → LentIn x t → LentIn y u → mergeIn x t y u ≡ madeOut (madeAs.Index z) t'
     → MergedOf (indexIn x t) (indexIn y u) (indexIn z t')
 
 -- ---- absorbs one recorder, then only empties the others

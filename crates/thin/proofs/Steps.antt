@@ -22,7 +22,7 @@ use Rattle.laws.proofs.hint_lists.Ranks.{count-none, count-le}
 use Rattle.laws.proofs.hint_lists.Passes.{begins-none, begins-more}
 use Rattle.laws.proofs.hint_lists.Thinning.{kept-none, kept-yes, kept-no, kept-length, thin-length, thin-few}
 use Rattle.thin.specs.declared.Cut.{Cut}
-use Rattle.thin.specs.declared.Place.{Place}
+use Rattle.thin.specs.declared.PassState.{PassState}
 use Rattle.tables.specs.Tables.{encodeKept, decodeKept, keptIn}
 use Rattle.tables.proofs.Kept.{kept-layout}
 use Rattle.thin.specs.Thin.{one, gapFrom, Starts}
@@ -89,12 +89,12 @@ last-cut hs {e} {c} {d} p q r l =
     record { sum = omega arith; most = omega (arith, below-mono hs d (c + 1) (length hs) l) }
 
 -- ---- the pass that keeps what stays: before place i
-pub record Pass (hs : List Hint) (k : Cut) (old new : List ℕ) (p : Place) (i : ℕ) : Type 0 where
+pub record Pass (hs : List Hint) (k : Cut) (old new : List ℕ) (p : PassState) (i : ℕ) : Type 0 where
   pub last : p .before ≡ ahead hs i
   pub spare : p .left ≡ k .rest - countOf (level hs (k .gap)) i
   pub starts : Starts (kept (stays hs (k .gap) (k .rest)) hs i) (p .kept) old new
 
-pub pass-start : {p : Place} (hs : List Hint) (k : Cut) (t : List ℕ) → p ≡ firstPlace k → Pass hs k t t p 0
+pub pass-start : {p : PassState} (hs : List Hint) (k : Cut) (t : List ℕ) → p ≡ firstPlace k → Pass hs k t t p 0
 unfolding ahead
 pass-start hs k t e =
     rw e (record {
@@ -103,17 +103,17 @@ pass-start hs k t e =
       starts = rw (kept-none (stays hs (k .gap) (k .rest)) hs) (begins-none kept-layout t);
     })
 
-pub pass-end : {k : Cut} {old new : List ℕ} {p : Place} {i : ℕ} (n : ℕ) (src : List ℕ)
+pub pass-end : {k : Cut} {old new : List ℕ} {p : PassState} {i : ℕ} (n : ℕ) (src : List ℕ)
     → Pass (keptIn n src) k old new p i → i ≤ n → n ≤ i → Starts (remaining (keptIn n src) k) (p .kept) old new
 pass-end {i = i} n src u a b =
     let e : i ≡ length (keptIn n src) = omega (arith, records-length 8 decodeKept n src) in rw e at (u .starts)
 
-pub pass-short : {hs : List Hint} {k : Cut} {old new : List ℕ} {p : Place} {i : ℕ} → Pass hs k old new p i → p .kept ≤ i
+pub pass-short : {hs : List Hint} {k : Cut} {old new : List ℕ} {p : PassState} {i : ℕ} → Pass hs k old new p i → p .kept ≤ i
 pass-short {hs} {k} {i = i} u =
     let p = stays hs (k .gap) (k .rest) in
     omega (arith, u .starts .count, kept-length p hs i, count-le p i)
 
-pub pass-within : {hs : List Hint} {k : Cut} {old new : List ℕ} {p : Place} {i : ℕ} (n : ℕ) {d : ℕ} (h : Hint)
+pub pass-within : {hs : List Hint} {k : Cut} {old new : List ℕ} {p : PassState} {i : ℕ} (n : ℕ) {d : ℕ} (h : Hint)
     → Pass hs k old new p i → i < n → n * 8 ≤ d → (p .kept + one (stayed k p h)) * 8 ≤ d
 pass-within {k = k} {p = p} n h u l r = omega (arith, pass-short u, one-le (stayed k p h))
 
@@ -122,7 +122,7 @@ zero-leb r m left h =
     test (leb r m) (λ e. rw e (eq-eqb left 0 (omega (arith, leb-true r m e))))
     (λ e. rw e (ne-eqb left 0 (λ z. omega (arith, leb-false r m e))))
 
-module _ (n : ℕ) (src : List ℕ) {k : Cut} {old new : List ℕ} {p : Place} {i : ℕ} {h : Hint}
+module _ (n : ℕ) (src : List ℕ) {k : Cut} {old new : List ℕ} {p : PassState} {i : ℕ} {h : Hint}
     (u : Pass (keptIn n src) k old new p i) (l : i < n) (e : h ≡ recordAt 8 decodeKept src i) (f : h .number < 4294967296) where
   abbrev hs : List Hint
   hs = keptIn n src
@@ -151,7 +151,7 @@ module _ (n : ℕ) (src : List ℕ) {k : Cut} {old new : List ℕ} {p : Place} {
         ap one is-stayed,
       )
 
-  pub pass-step : {new' : List ℕ} {p' : Place} → (p .kept + one (stayed k p h)) * 8 ≤ length new → p' ≡ nextPlace k p h
+  pub pass-step : {new' : List ℕ} {p' : PassState} → (p .kept + one (stayed k p h)) * 8 ≤ length new → p' ≡ nextPlace k p h
       → new' ≡ cond (stayed k p h) (sets new (p .kept * 8) (encodeKept h)) new → Pass hs k old new' p' (i + 1)
   unfolding level
   pass-step room y z = rw y (record {
@@ -165,13 +165,13 @@ module _ (n : ℕ) (src : List ℕ) {k : Cut} {old new : List ℕ} {p : Place} {
   })
 
 -- a turn as it is computed
-module _ {g : ℕ} (k : Cut) (p : Place) (h : Hint) (e : g ≡ gapFrom (p .before) h) where
+module _ {g : ℕ} (k : Cut) (p : PassState) (h : Hint) (e : g ≡ gapFrom (p .before) h) where
   pub stayed-is : {b d : Bool} → b ≡ (ltb (k .gap) g || (eqb g (k .gap) && eqb (p .left) 0)) → b ≡ d → stayed k p h ≡ d
   unfolding stayed
   stayed-is f q = rw (← e, ← f) q
 
   pub next-is : {left j : ℕ} → left ≡ p .left - one (eqb g (k .gap)) → j ≡ p .kept + one (stayed k p h)
-      → _≡_ {A = Place} (record { left = left; before = h .number; kept = j }) (nextPlace k p h)
+      → _≡_ {A = PassState} (record { left = left; before = h .number; kept = j }) (nextPlace k p h)
   next-is f q = rw (f, q, e)
 
 -- ---- the whole

@@ -10,7 +10,7 @@ use Rattle.rules.specs.Hints.{countOf, kept}
 use Rattle.laws.specs.Cutoff.{below, stays}
 use Rattle.laws.specs.Cutoff as cutoff
 use Rattle.thin.specs.declared.Cut.{Cut}
-use Rattle.thin.specs.declared.Place.{Place}
+use Rattle.thin.specs.declared.PassState.{PassState}
 use Rattle.thin.specs.Thin.{one, gapFrom}
 
 -- how many gaps are below g
@@ -31,17 +31,17 @@ ahead hs zero = max32
 ahead hs (suc i) = getD hs i noHint .number
 
 -- ---- a pass
-abbrev pub firstPlace : Cut → Place
+abbrev pub firstPlace : Cut → PassState
 firstPlace c = record { left = c .rest; before = max32; kept = 0 }
 
 -- does the next hint stay?
-unfoldable pub stayed : Cut → Place → Hint → Bool
+unfoldable pub stayed : Cut → PassState → Hint → Bool
 stayed c p h =
     let g = gapFrom (p .before) h in
     ltb (c .gap) g || (eqb g (c .gap) && eqb (p .left) 0)
 
 -- the place behind it
-abbrev pub nextPlace : Cut → Place → Hint → Place
+abbrev pub nextPlace : Cut → PassState → Hint → PassState
 nextPlace c p h =
     record {
       left = p .left - one (eqb (gapFrom (p .before) h) (c .gap));

@@ -137,16 +137,16 @@ pub fn spent(left: usize, hit: bool) -> usize
 }
 
 // Where a pass is: how many more at the cutoff go, the number before, and how many hints are kept.
-struct Place {
+struct PassState {
     left: usize,
     before: u32,
     kept: usize,
 }
 
-fn first_place(cut: Cut) -> Place
+fn first_place(cut: Cut) -> PassState
     ensures { λ r. ⌜ r ≡ firstPlace cut ⌝ }
 {
-    Place {
+    PassState {
         left: cut.rest,
         before: 4294967295,
         kept: 0,
@@ -154,7 +154,7 @@ fn first_place(cut: Cut) -> Place
 }
 
 // The next hint of a pass, kept or dropped.
-fn turn(t: &mut [u8], h: Hint, cut: Cut, p: Place) -> Place
+fn turn(t: &mut [u8], h: Hint, cut: Cut, p: PassState) -> PassState
     requires { ⌜ (p .kept + one (stayed cut p h)) * 8 ≤ length (now t) ⌝ }
     ensures { λ r. ⌜ (r ≡ nextPlace cut p h) × (now (t .exit) ≡ cond (stayed cut p h) (sets (now (t .entry)) (p .kept * 8) (encodeKept h)) (now (t .entry))) ⌝ }
 {
@@ -162,7 +162,7 @@ fn turn(t: &mut [u8], h: Hint, cut: Cut, p: Place) -> Place
     let left = spent(p.left, g == cut.gap);
     if stays_at(g, cut.gap, p.left) {
         write_hint(t, p.kept, h);
-        return Place {
+        return PassState {
             left,
             before: h.number,
             kept: p.kept + 1,

@@ -20,7 +20,7 @@ use Rattle.rules.specs.File.{decodeLsn}
 use Rattle.rules.proofs.Tests.{test}
 use Rattle.rules.proofs.Walk.{walk-tail}
 use Rattle.tables.specs.Tables.{lsnsIn, givenIn}
-use Rattle.merge.specs.Steps.{Takes, Taken}
+use Rattle.merge.specs.Steps.{Takes, LsnsTaken}
 use Rattle.absorb.proofs.questions.Lists.{below-past, below-few}
 use Rattle.absorb.specs.Steps.{frontOf, frontAt, TakesBelow, TakenBelow}
 
@@ -69,7 +69,7 @@ module _ {x : AreaIndex} {n m : ℕ} {e : Option EndState} {t ms : List ℕ} (h 
       record { own = h .own; other = omega arith; room = omega arith }
 
   pub below-taken : {go : Bool} {r : ℕ} {t' : List ℕ} → m ≡ length (take maxMalformed (below (frontAt x n e) (givenIn ms))) → go ≡ ltb (frontOf x) (frontAt x n e)
-      → Taken go (x .malformed) m t ms r t' → TakenBelow x n e t ms r t'
+      → LsnsTaken go (x .malformed) m t ms r t' → TakenBelow x n e t ms r t'
   below-taken {go} p g k =
       test go
       (λ y. let z : ltb (frontOf x) (frontAt x n e) ≡ true = sym g ∙ y in

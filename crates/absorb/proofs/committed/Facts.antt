@@ -27,7 +27,7 @@ use Rattle.index.proofs.Lent.{over-same}
 use Rattle.index.proofs.Questions.{passes, passes-hints}
 use Rattle.tables.specs.Recorder.{RecorderTables, recorderRoom, recorderIn, recorderKinds}
 use Rattle.tables.specs.Tables.{givenIn}
-use Rattle.absorb.specs.Steps.{nineIn, absorbRefusal, Absorbs, Kept, Ready}
+use Rattle.absorb.specs.Steps.{nineIn, absorbRefusal, Absorbs, Kept, AbsorbReady}
 use Rattle.absorb.proofs.refusal.Refusal.{passed}
 
 -- no number with the kind bytes is no number of the rules
@@ -62,7 +62,7 @@ module _ {x : AreaIndex} {t : Tables} {image : ImageId} {given : List ℕ} {r : 
   unfolding question12
   rises m = all→ _ (implied (moves (indexIn x t .scan) (recorderIn r u)) _ twelve m) .0
 
-  pub ready : Ready x (t .checkpoints) (t .frames) (t .store) (t .parts) (t .malformed) r u given
+  pub ready : AbsorbReady x (t .checkpoints) (t .frames) (t .store) (t .parts) (t .malformed) r u given
   ready =
       record {
         hints = t .hints;

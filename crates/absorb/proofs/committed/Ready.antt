@@ -28,7 +28,7 @@ use Rattle.tables.specs.Recorder.{RecorderTables, recorderIn, recorderKinds}
 use Rattle.recorder.specs.Steps.{recorderHeld}
 use Rattle.recorder.specs.Steps as recorder
 use Rattle.recorder.proofs.Calls.{passes-roomy, passes-held, passes-long as recorder-long}
-use Rattle.absorb.specs.Steps.{nineIn, Ready}
+use Rattle.absorb.specs.Steps.{nineIn, AbsorbReady}
 use Rattle.merge.specs.Steps.{Appends, PartsReady}
 
 -- fewer parts are for later checkpoints
@@ -41,7 +41,7 @@ wanted-fewer a b (p ∷ ps) h =
     (λ e. let g = ltb-false (p .at) b e in
     test (ltb (p .at) a) (λ f. let k = ltb-true (p .at) a f in let z : ⊥ = omega arith in absurd z) (λ f. rw (e, f) (omega arith)))
 
-module _ {x : AreaIndex} {cs fs st ps ls : List ℕ} {r : Recorder} {u : RecorderTables} {ms : List ℕ} (k : Ready x cs fs st ps ls r u ms) where
+module _ {x : AreaIndex} {cs fs st ps ls : List ℕ} {r : Recorder} {u : RecorderTables} {ms : List ℕ} (k : AbsorbReady x cs fs st ps ls r u ms) where
   -- ---- the recorder
   recorder-ok : RecorderIs (recorderIn r u)
   unfolding recorderHeld

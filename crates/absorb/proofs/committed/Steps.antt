@@ -27,7 +27,7 @@ use Rattle.parts.specs.declared.Counts.{Counts}
 use Rattle.parts.specs.Parts.{partTables, storedIn, Held, held, heldFrom}
 use Rattle.tables.specs.Recorder.{RecorderTables, recorderIn}
 use Rattle.merge.specs.Steps.{Appended, partsTaken}
-use Rattle.absorb.specs.Steps.{written, absorbed, absorbedIn, Kept, Ready, frontOf, frontAt, TakesBelow, TakenBelow, numbersBy}
+use Rattle.absorb.specs.Steps.{written, absorbedList, absorbedIn, Kept, AbsorbReady, frontOf, frontAt, TakesBelow, TakenBelow, numbersBy}
 use Rattle.absorb.proofs.committed.Ready.{own-malformed}
 
 -- ---- numbers and tables
@@ -49,7 +49,7 @@ module _ (x : AreaIndex) (t : Tables) (r : Recorder) (u : RecorderTables) (image
   theirs = recorderIn r u
 
   abbrev after-scan : Scan
-  after-scan = absorbed x t r u image ms .scan
+  after-scan = absorbedList x t r u image ms .scan
 
   counts : length (own .checkpoints) ≡ x .checkpoints
   counts = records-length 24 decodeCheckpoint (x .checkpoints) (t .checkpoints)
@@ -69,7 +69,7 @@ module _ (x : AreaIndex) (t : Tables) (r : Recorder) (u : RecorderTables) (image
     moves-is : ltb (frontOf x) (frontAt x n e) ≡ moves own theirs
     moves-is = rw (hn, he, counts)
 
-    pub takes-below : Ready x (t .checkpoints) (t .frames) (t .store) (t .parts) (t .malformed) r u ms → TakesBelow x n e (t .malformed) ms
+    pub takes-below : AbsorbReady x (t .checkpoints) (t .frames) (t .store) (t .parts) (t .malformed) r u ms → TakesBelow x n e (t .malformed) ms
     takes-below k =
         let m = own-malformed k in
         record { area = k .own .roomy .area; own = m .0; room = m .1; rises = λ z. k .rises (sym moves-is ∙ z) }
@@ -86,7 +86,7 @@ module _ (x : AreaIndex) (t : Tables) (r : Recorder) (u : RecorderTables) (image
     parts-done : held c (partTables fs st ps) ≡ heldFrom after-stored (partTables (t .frames) (t .store) (t .parts))
     parts-done = p2 ∙ rw stored-are
 
-    numbers-are : y ≡ numbersFrom (absorbed x t r u image ms)
+    numbers-are : y ≡ numbersFrom (absorbedList x t r u image ms)
     unfolding numbersBy
     numbers-are =
         let e3 : n ≡ length (after-scan .checkpoints) = p1 .count ∙ ap length checkpoints-are in

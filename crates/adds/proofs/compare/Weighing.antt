@@ -13,13 +13,13 @@ use borrow.Author.Tests.{eqb-true, eqb-false, leb-true, leb-false, ltb-true, ltb
 use Rattle.rules.specs.declared.Hint.{Hint}
 use Rattle.rules.specs.Values.{max32}
 use Rattle.rules.specs.Sections.{hintLsn, isKept}
-use Rattle.rules.specs.Hints.{countOf, rise, riseAt, gap, sooner, rank, kept, thin}
+use Rattle.rules.specs.Hints.{countOf, rise, riseAt, gap, smaller, rank, kept, thin}
 use Rattle.thin.specs.Thin.{gapFrom}
 use Rattle.rules.proofs.Tests.{test, never, and-left, and-right, or-cases, or-none}
 use Rattle.laws.specs.Order.{Rises}
 use Rattle.laws.proofs.hint_lists.Ranks.{count-every}
 use Rattle.laws.proofs.hint_lists.Cutoff.{count-split, kept-same}
-use Rattle.laws.proofs.hint_lists.Thinning.{sooner→, sooner-less, sooner-level, kept-length}
+use Rattle.laws.proofs.hint_lists.Thinning.{smaller→, smaller-less, smaller-level, kept-length}
 use Rattle.adds.specs.declared.compare.Pair.{Pair}
 use Rattle.adds.specs.declared.compare.Weighed.{Weighed}
 use Rattle.adds.specs.Marks.{Marked, pair, lower, unweighed, weighOne, weighed}
@@ -282,17 +282,17 @@ module _ (ms : List Marked) (small : Numbered ms) where
   weighed-all = whole .1
 
   -- ---- where every new one goes before every held one
-  before-not : (i k : ℕ) → sooner us i k ≡ true → sooner us k i ≡ true → ⊥
+  before-not : (i k : ℕ) → smaller us i k ≡ true → smaller us k i ≡ true → ⊥
   before-not i k e f =
       ⊎-elim
       (λ (a : gap us k < gap us i). ⊎-elim (λ (b : gap us i < gap us k). omega arith)
-      (λ (b : (gap us i ≡ gap us k) × (i < k)). omega arith) (sooner→ us k i f))
+      (λ (b : (gap us i ≡ gap us k) × (i < k)). omega arith) (smaller→ us k i f))
       (λ (a : (gap us k ≡ gap us i) × (k < i)). ⊎-elim (λ (b : gap us i < gap us k). omega arith)
-      (λ (b : (gap us i ≡ gap us k) × (i < k)). omega arith) (sooner→ us k i f))
-      (sooner→ us i k e)
+      (λ (b : (gap us i ≡ gap us k) × (i < k)). omega arith) (smaller→ us k i f))
+      (smaller→ us i k e)
 
-  not-itself : (i : ℕ) → sooner us i i ≡ false
-  not-itself i = test (sooner us i i) (λ e. absurd (before-not i i e e)) (λ e. e)
+  not-itself : (i : ℕ) → smaller us i i ≡ false
+  not-itself i = test (smaller us i i) (λ e. absurd (before-not i i e e)) (λ e. e)
 
   -- how many are new
   fresh : ℕ
@@ -311,17 +311,17 @@ module _ (ms : List Marked) (small : Numbered ms) where
 
   module _
       (sep : (i k : ℕ) → i < length ms → k < length ms → newAt ms i ≡ true → newAt ms k ≡ false
-      → sooner us k i ≡ true) where
+      → smaller us k i ≡ true) where
     new-low : (i : ℕ) → i < length ms → newAt ms i ≡ true → rank us i < fresh
     unfolding rank fresh
     new-low i l e =
         rw (hints-length ms)
-        (count-strict (sooner us i) (newAt ms) (length ms) i l
+        (count-strict (smaller us i) (newAt ms) (length ms) i l
         (λ k m f. test (newAt ms k) (λ g. g) (λ g. absurd (before-not i k f (sep i k l m e g)))) (not-itself i) e)
 
     held-high : (k : ℕ) → k < length ms → newAt ms k ≡ false → fresh ≤ rank us k
     unfolding rank fresh
-    held-high k l e = rw (hints-length ms) (count-under (newAt ms) (sooner us k) (length ms) (λ i m f. sep i k m l f e))
+    held-high k l e = rw (hints-length ms) (count-under (newAt ms) (smaller us k) (length ms) (λ i m f. sep i k m l f e))
 
     apart : (i : ℕ) → i < length ms → leb fresh (rank us i) ≡ stays i
     apart i l =
@@ -338,20 +338,20 @@ module _ (ms : List Marked) (small : Numbered ms) where
 
   -- ---- where a held one goes before a new one
   module _ (b : ℕ) (r : Rises hintLsn b us) (i k : ℕ) (li : i < length ms) (lk : k < length ms)
-      (ei : newAt ms i ≡ true) (ek : newAt ms k ≡ false) (f : sooner us i k ≡ true) where
-    chain : (j : ℕ) → sooner us k j ≡ true → sooner us i j ≡ true
+      (ei : newAt ms i ≡ true) (ek : newAt ms k ≡ false) (f : smaller us i k ≡ true) where
+    chain : (j : ℕ) → smaller us k j ≡ true → smaller us i j ≡ true
     chain j g =
         ⊎-elim
-        (λ (a : gap us k < gap us i). ⊎-elim (λ (c : gap us j < gap us k). sooner-less us i j (omega arith))
-        (λ (c : (gap us j ≡ gap us k) × (j < k)). sooner-less us i j (omega arith)) (sooner→ us k j g))
+        (λ (a : gap us k < gap us i). ⊎-elim (λ (c : gap us j < gap us k). smaller-less us i j (omega arith))
+        (λ (c : (gap us j ≡ gap us k) × (j < k)). smaller-less us i j (omega arith)) (smaller→ us k j g))
         (λ (a : (gap us k ≡ gap us i) × (k < i)).
-        ⊎-elim (λ (c : gap us j < gap us k). sooner-less us i j (omega arith))
-        (λ (c : (gap us j ≡ gap us k) × (j < k)). sooner-level us i j (omega arith) (omega arith)) (sooner→ us k j g))
-        (sooner→ us i k f)
+        ⊎-elim (λ (c : gap us j < gap us k). smaller-less us i j (omega arith))
+        (λ (c : (gap us j ≡ gap us k) × (j < k)). smaller-level us i j (omega arith) (omega arith)) (smaller→ us k j g))
+        (smaller→ us i k f)
 
     rank-order : rank us k ≤ rank us i
     unfolding rank
-    rank-order = count-under (sooner us k) (sooner us i) (length us) (λ j m g. chain j g)
+    rank-order = count-under (smaller us k) (smaller us i) (length us) (λ j m g. chain j g)
 
     thin-changes : (hs : List Hint) → kept stays us (length ms) ≡ hs → thin (length hs) us ≡ hs → ⊥
     unfolding thin
@@ -371,10 +371,10 @@ module _ (ms : List Marked) (small : Numbered ms) where
 
   -- ---- the largest of the new and the smallest of the held decide
   module _ (b : ℕ) (r : Rises hintLsn b us) (hs : List Hint) (e : kept stays us (length ms) ≡ hs) where
-    some-sooner : lower (all-weighed .new) (all-weighed .held) ≡ true → (i k : ℕ) → i < length ms → k < length ms
-        → newAt ms i ≡ true → newAt ms k ≡ false → sooner us k i ≡ true
+    some-smaller : lower (all-weighed .new) (all-weighed .held) ≡ true → (i k : ℕ) → i < length ms → k < length ms
+        → newAt ms i ≡ true → newAt ms k ≡ false → smaller us k i ≡ true
     unfolding lower
-    some-sooner h i k li lk ei ek =
+    some-smaller h i k li lk ei ek =
         let w = whole .0 in let n = whole .1 in
         let s = all-weighed in
         let x = w .new-most i (omega arith) ei in
@@ -385,10 +385,10 @@ module _ (ms : List Marked) (small : Numbered ms) where
           eqb-true _ _ (and-left _ (ltb (s .new .place) (s .held .place)) a),
           ltb-true _ _ (and-right (eqb (s .new .gap) (s .held .gap)) _ a),
         )) (or-cases _ _ h) in
-        ⊎-elim (λ a. sooner-less us k i a) (λ a. sooner-level us k i (a .0) (a .1)) (between x z y)
+        ⊎-elim (λ a. smaller-less us k i a) (λ a. smaller-level us k i (a .0) (a .1)) (between x z y)
 
     pub leaves : lower (all-weighed .new) (all-weighed .held) ≡ true → thin (length hs) us ≡ hs
-    leaves h = thin-leaves (some-sooner h) hs e
+    leaves h = thin-leaves (some-smaller h) hs e
 
     module _ (some-new : length hs < length ms) (plain : NewUnkept ms) where
       new-found : Passing (newAt ms) (length ms)
@@ -423,10 +423,10 @@ module _ (ms : List Marked) (small : Numbered ms) where
           ⊎-elim (λ z. let g = z .0 in let x : ⊥ = omega arith in absurd x)
           (λ t. let x = t .0 in (omega arith, t .1, t .2)) (w .held-is)
 
-      held-sooner : lower (all-weighed .new) (all-weighed .held) ≡ false
-          → sooner us (all-weighed .new .place) (all-weighed .held .place) ≡ true
+      held-below : lower (all-weighed .new) (all-weighed .held) ≡ false
+          → smaller us (all-weighed .new .place) (all-weighed .held .place) ≡ true
       unfolding lower
-      held-sooner h =
+      held-below h =
           let s = all-weighed in
           let a = largest-new in let b = smallest-held h in
           let x = a .2 in let y = b .2 in
@@ -437,13 +437,13 @@ module _ (ms : List Marked) (small : Numbered ms) where
           let v = ltb-false (s .new .place) (s .held .place) (rw q at (o .1)) in
           test (eqb (s .new .place) (s .held .place))
           (λ z. never (a .1) (rw (eqb-true (s .new .place) (s .held .place) z) (b .1)))
-          (λ z. let d = eqb-false (s .new .place) (s .held .place) z in sooner-level us (s .new .place)
+          (λ z. let d = eqb-false (s .new .place) (s .held .place) z in smaller-level us (s .new .place)
           (s .held .place) (omega arith) (omega (arith, d))))
-          (λ q. let g = eqb-false (s .new .gap) (s .held .gap) q in sooner-less us (s .new .place) (s .held .place)
+          (λ q. let g = eqb-false (s .new .gap) (s .held .gap) q in smaller-less us (s .new .place) (s .held .place)
           (omega (arith, g)))
 
       pub changes : lower (all-weighed .new) (all-weighed .held) ≡ false → thin (length hs) us ≡ hs → ⊥
       changes h =
           let n = largest-new in let k = smallest-held h in
           thin-changes b r (all-weighed .new .place) (all-weighed .held .place) (n .0) (k .0) (n .1) (k .1)
-          (held-sooner h) hs e
+          (held-below h) hs e

@@ -8,11 +8,11 @@ use Rattle.rules.specs.declared.Area.{Area}
 use Rattle.rules.specs.declared.AreaIndex.{AreaIndex}
 use Rattle.rules_disc.specs.declared.Entry.{Entry}
 use Rattle.rules.specs.Tests.{Accepted, bind}
-use Rattle.rules_disc.specs.Disc.{bodyOf, loadBody}
+use Rattle.rules_disc.specs.Disc.{bodyAt, loadBody}
 use Rattle.rules.proofs.Tests.{→bind}
-use Rattle.rules_disc.specs.declared.Place.{Place}
-use Rattle.rules_disc.specs.declared.Place.the-variants as place
-use Rattle.disc_load.specs.Steps.{entryIn, Inside, placeOf, Holds, heldIn, BodyDecision}
+use Rattle.rules_disc.specs.declared.SlotEntry.{SlotEntry}
+use Rattle.rules_disc.specs.declared.SlotEntry.the-variants as place
+use Rattle.disc_load.specs.Steps.{entryIn, Inside, placeOf, BodyLoads, heldIn, BodyDecision}
 use Rattle.tables.specs.Index.{Tables, roomOf}
 use Rattle.inspect.specs.declared.Found.{Found}
 use Rattle.load.specs.declared.Decided.{Decided}
@@ -23,18 +23,18 @@ use Rattle.disc_load.specs.declared.ask.Body.{Body}
 use Rattle.disc_load.specs.declared.ask.Body.the-variants as body
 use Rattle.disc_load.specs.declared.ask.Asked.the-variants as asked
 
-pub inside-at : (b : List ℕ) {p : Place} {e : Entry} → p ≡ place.At e → Inside b p → e .offset + e .len ≤ length b
+pub inside-at : (b : List ℕ) {p : SlotEntry} {e : Entry} → p ≡ place.At e → Inside b p → e .offset + e .len ≤ length b
 inside-at b h i = rw h at i
 
 module _ (a : Area) (b : List ℕ) (limit : ℕ) (t : Tables) where
-  pub held-loads : {p : Place} (x : Body) → p ≡ placeOf x → Holds a b limit t x → loadBody (roomOf t) a limit (bodyOf b (entryIn p)) ≡ Accepted (heldIn a b limit x)
-  unfolding loadBody bodyOf entryIn placeOf heldIn
+  pub held-loads : {p : SlotEntry} (x : Body) → p ≡ placeOf x → BodyLoads a b limit t x → loadBody (roomOf t) a limit (bodyAt b (entryIn p)) ≡ Accepted (heldIn a b limit x)
+  unfolding loadBody bodyAt entryIn placeOf heldIn
   held-loads body.Absent e h = rw e
   held-loads (body.At d found y) e h = rw e (→bind _ (ready-loads limit t (h .1)) refl)
 
   -- ---- what is answered
-  module _ {p : Place} where
-    passes : {x : Body} → p ≡ placeOf x → Holds a b limit t x → BodyDecision a b limit t p (asked.Passed x)
+  module _ {p : SlotEntry} where
+    passes : {x : Body} → p ≡ placeOf x → BodyLoads a b limit t x → BodyDecision a b limit t p (asked.Passed x)
     passes {x} e h =
         record {
           refused = λ n q. let z : _≡_ {A = ℕ} 0 1 = cc in let f : ⊥ = omega arith in absurd f;
@@ -51,7 +51,7 @@ module _ (a : Area) (b : List ℕ) (limit : ℕ) (t : Tables) where
       said = let s : e .len ≡ to - e .offset = omega arith in rw s d
 
       pub present-refused : {n : ℕ} → r ≡ decided.Refused n → BodyDecision a b limit t p (asked.Refused n)
-      unfolding loadBody bodyOf entryIn bind
+      unfolding loadBody bodyAt entryIn bind
       present-refused {n} k =
           record {
             refused = λ m z. let i : n ≡ m = cc in rw (h, ← i, said .refused n k);

@@ -6,9 +6,9 @@ use Prim.Native.Nat.{ℕ}
 use native.Mathlib.Omega.{arith}
 use Rattle.rules.specs.declared.Area.{Area}
 use Rattle.rules.specs.Tests.{Refused, Accepted, firstNo, after, bind}
-use Rattle.rules_disc.specs.Disc.{bodyOf, slotArea, loadBody, loadBodies, loadDisc}
+use Rattle.rules_disc.specs.Disc.{bodyAt, slotArea, loadBody, loadBodies, loadDisc}
 use Rattle.rules_disc.specs.declared.Contents.the-variants.{Broken, Lists}
-use Rattle.rules_disc.specs.declared.Place.{Place}
+use Rattle.rules_disc.specs.declared.SlotEntry.{SlotEntry}
 use Rattle.disc_load.specs.Steps.{entryIn, BodyDecision, decidedBy, Located, Decision}
 use Rattle.disc_load.specs.DiscLoad.{contentsIn}
 use Rattle.disc_load.proofs.contents.Inside.{locates, breaks}
@@ -19,7 +19,7 @@ use Rattle.disc_load.specs.declared.ask.Decided.{Decided}
 use Rattle.disc_load.specs.declared.ask.Decided.the-variants as decided
 use Rattle.disc_load.proofs.ask.Asking.{held-loads}
 
-pub located : {a0 a1 : Area} {b : List ℕ} {r : Bool} {p q : Place} → r ≡ (slotArea 0 a0 && slotArea 1 a1) → r ≡ true → Lists p q ≡ contentsIn b → Located a0 a1 b p q
+pub located : {a0 a1 : Area} {b : List ℕ} {r : Bool} {p q : SlotEntry} → r ≡ (slotArea 0 a0 && slotArea 1 a1) → r ≡ true → Lists p q ≡ contentsIn b → Located a0 a1 b p q
 located {a0} {a1} {b} e h k = record { areas = sym e ∙ h; table = locates b k }
 
 module _ {a0 a1 : Area} {b : List ℕ} (limit : ℕ) (t u : Tables) where
@@ -39,11 +39,11 @@ module _ {a0 a1 : Area} {b : List ℕ} (limit : ℕ) (t u : Tables) where
   unfolding loadDisc firstNo after
   no-table e h k = refuses (rw (← e, h, breaks b k))
 
-  module _ {p q : Place} (l : Located a0 a1 b p q) where
+  module _ {p q : SlotEntry} (l : Located a0 a1 b p q) where
     -- the file's answer by the places
     pub by-places : loadDisc (roomOf t) (roomOf u) a0 a1 b limit
-        ≡ bind (loadBody (roomOf t) a0 limit (bodyOf b (entryIn p)))
-        (λ x. bind (loadBody (roomOf u) a1 limit (bodyOf b (entryIn q))) (λ y. Accepted (record { slot0 = x; slot1 = y })))
+        ≡ bind (loadBody (roomOf t) a0 limit (bodyAt b (entryIn p)))
+        (λ x. bind (loadBody (roomOf u) a1 limit (bodyAt b (entryIn q))) (λ y. Accepted (record { slot0 = x; slot1 = y })))
     unfolding loadDisc firstNo after loadBodies
     by-places = rw (l .areas, l .table .contents, l .table .entry0, l .table .entry1) refl
 

@@ -12,7 +12,7 @@ use Rattle.rules.proofs.Tests.{test, all→}
 use Rattle.rules_disc.specs.declared.Entry.{Entry}
 use Rattle.rules_disc.specs.Disc.{laid, contentsOk, entriesIn, entryOf, countIn, tableSize}
 use Rattle.rules_disc.specs.declared.Contents.the-variants.{Broken, Lists}
-use Rattle.rules_disc.specs.declared.Place.{Place}
+use Rattle.rules_disc.specs.declared.SlotEntry.{SlotEntry}
 use Rattle.disc_load.specs.DiscLoad.{placeFrom, contentsFrom, contentsIn}
 use Rattle.disc_load.specs.Steps.{entryIn, Inside, Locates}
 
@@ -58,7 +58,7 @@ module _ (b : List ℕ) (ok : contentsOk b ≡ true) (k : ℕ) where
   place-inside none e = tt
   place-inside (some d) e = laid-inside (length b) 0 (tableSize (countIn b)) k (entriesIn b) d contents-laid e
 
-pub locates : (b : List ℕ) {p q : Place} → Lists p q ≡ contentsIn b → Locates b p q
+pub locates : (b : List ℕ) {p q : SlotEntry} → Lists p q ≡ contentsIn b → Locates b p q
 unfolding contentsIn contentsFrom
 locates b {p} {q} e =
     test (contentsOk b)

@@ -19,8 +19,8 @@ use Rattle.rules_disc.specs.Disc.{entry, encodeEntry, decodeEntry, laid, conten
 use Rattle.save.specs.Output.{Put}
 use Rattle.save.proofs.output.Stretches.{put-both, put-one}
 use Rattle.rules_disc.specs.declared.Contents.the-variants.{Broken, Lists}
-use Rattle.rules_disc.specs.declared.Place.{Place}
-use Rattle.rules_disc.specs.declared.Place.the-variants.{Absent, At}
+use Rattle.rules_disc.specs.declared.SlotEntry.{SlotEntry}
+use Rattle.rules_disc.specs.declared.SlotEntry.the-variants.{Absent, At}
 use Rattle.disc_load.specs.DiscLoad.{placeFrom, contentsFrom, contentsIn}
 
 -- an entry by its three numbers
@@ -38,7 +38,7 @@ module _ (e : Entry) {s : ℕ} where
   unfolding placeFrom entryOf
   place-here es h = rw (eq-eqb (e .slot) s h)
 
-  pub place-later : (es : List Entry) {r : Place} → (e .slot ≡ s → ⊥) → r ≡ placeFrom (entryOf s es) → r ≡ placeFrom (entryOf s (e ∷ es))
+  pub place-later : (es : List Entry) {r : SlotEntry} → (e .slot ≡ s → ⊥) → r ≡ placeFrom (entryOf s es) → r ≡ placeFrom (entryOf s (e ∷ es))
   unfolding entryOf
   place-later es h q = q ∙ rw (ne-eqb (e .slot) s h)
 
@@ -52,7 +52,7 @@ module _ {ok : Bool} (es : List Entry) where
   unfolding contentsFrom
   contents-broken h = rw h
 
-  pub contents-lists : {p q : Place} → ok ≡ true → p ≡ placeFrom (entryOf 0 es) → q ≡ placeFrom (entryOf 1 es) → Lists p q ≡ contentsFrom ok es
+  pub contents-lists : {p q : SlotEntry} → ok ≡ true → p ≡ placeFrom (entryOf 0 es) → q ≡ placeFrom (entryOf 1 es) → Lists p q ≡ contentsFrom ok es
   unfolding contentsFrom
   contents-lists h p q = rw (h, p, q)
 

@@ -10,7 +10,7 @@ use Rattle.rules.specs.Tests.{all}
 use Rattle.rules.specs.Values.{max32}
 use Rattle.rules.proofs.Tests.{test}
 use Rattle.rules_disc.specs.declared.Entry.{Entry}
-use Rattle.rules_disc.specs.Disc.{entry, laid, listed}
+use Rattle.rules_disc.specs.Disc.{entry, laid, entriesOk}
 
 -- ---- the rule of the entries
 begins : Entry → ℕ → ℕ → Bool
@@ -46,16 +46,16 @@ ltb-leb s t =
     test (ltb s t) (λ e. e ∙ sym (le-leb (s + 1) t (let l = ltb-true s t e in omega arith)))
     (λ e. e ∙ sym (lt-leb (s + 1) t (let l = ltb-false s t e in omega arith)))
 
-pub one-listed : (s m : ℕ) → leb m max32 ≡ listed 0 (entry s 16 m ∷ [])
-unfolding listed all
+pub one-listed : (s m : ℕ) → leb m max32 ≡ entriesOk 0 (entry s 16 m ∷ [])
+unfolding entriesOk all
 one-listed s m = rw (from-zero s) (sym (and-true (leb m max32)))
 
 module _ (s m t n : ℕ) where
-  pub two-refused : max32 < m → false ≡ listed 0 (entry s 28 m ∷ entry t (28 + m) n ∷ [])
-  unfolding listed all
+  pub two-refused : max32 < m → false ≡ entriesOk 0 (entry s 28 m ∷ entry t (28 + m) n ∷ [])
+  unfolding entriesOk all
   two-refused h = rw (from-zero s, lt-leb m max32 h) refl
 
   pub two-listed : {p r : Bool} → m ≤ max32 → p ≡ (leb (28 + m) max32 && leb n max32) → r ≡ (ltb s t && p)
-      → r ≡ listed 0 (entry s 28 m ∷ entry t (28 + m) n ∷ [])
-  unfolding listed all
+      → r ≡ entriesOk 0 (entry s 28 m ∷ entry t (28 + m) n ∷ [])
+  unfolding entriesOk all
   two-listed h p r = r ∙ rw (p, from-zero s, le-leb m max32 h, and-true, ltb-leb s t, and-true (leb n max32)) refl

@@ -9,10 +9,10 @@ use lib.ListN.{take, drop}
 use Rattle.rules.specs.declared.Area.{Area}
 use Rattle.rules_disc.specs.declared.Entry.{Entry}
 use Rattle.rules.specs.Tests.{Accepted, firstNo, after, bind}
-use Rattle.rules_disc.specs.Disc.{bodyOf, slotArea}
+use Rattle.rules_disc.specs.Disc.{bodyAt, slotArea}
 use Rattle.rules_disc.specs.declared.Contents.the-variants.{Broken, Lists}
-use Rattle.rules_disc.specs.declared.Place.{Place}
-use Rattle.rules_disc.specs.declared.Place.the-variants.{Absent, At}
+use Rattle.rules_disc.specs.declared.SlotEntry.{SlotEntry}
+use Rattle.rules_disc.specs.declared.SlotEntry.the-variants.{Absent, At}
 use Rattle.disc_load.specs.Steps.{entryIn, bodySizedOf}
 use Rattle.disc_load.specs.DiscLoad.{contentsIn, bodySizes, bothSizes, discSizes, slotSizesOf, discSizedOf}
 use Rattle.disc_load.proofs.contents.Inside.{locates, breaks}
@@ -26,14 +26,14 @@ use Rattle.rules_disc.specs.declared.DiscSized.the-variants as disc
 
 -- ---- one slot
 module _ (a : Area) (limit : ℕ) (b : List ℕ) where
-  pub absent : {p : Place} → p ≡ Absent → bodySizedOf (body.Passed slot.Absent) ≡ bodySizes a limit (bodyOf b (entryIn p))
-  unfolding bodySizedOf slotSizesOf bodySizes bodyOf entryIn
+  pub absent : {p : SlotEntry} → p ≡ Absent → bodySizedOf (body.Passed slot.Absent) ≡ bodySizes a limit (bodyAt b (entryIn p))
+  unfolding bodySizedOf slotSizesOf bodySizes bodyAt entryIn
   absent h = rw h
 
-  pub present : (s : Sized) (r : BodySized) {p : Place} {e : Entry} {to : ℕ} → p ≡ At e → to ≡ e .offset + e .len
+  pub present : (s : Sized) (r : BodySized) {p : SlotEntry} {e : Entry} {to : ℕ} → p ≡ At e → to ≡ e .offset + e .len
       → sizedOf s ≡ fileSizes a (take (to - e .offset) (drop (e .offset) b)) limit → bodySizedOf r ≡ bind (sizedOf s) (λ x. Accepted (some x))
-      → bodySizedOf r ≡ bodySizes a limit (bodyOf b (entryIn p))
-  unfolding bodySizes bodyOf entryIn
+      → bodySizedOf r ≡ bodySizes a limit (bodyAt b (entryIn p))
+  unfolding bodySizes bodyAt entryIn
   present s r {p} {e} {to} h q f k = let w : to - e .offset ≡ e .len = omega arith in k ∙ rw (h, f, w)
 
 -- ---- the file
@@ -47,8 +47,8 @@ module _ (a0 a1 : Area) (b : List ℕ) (limit : ℕ) {v : Bool} (e : v ≡ (slot
     unfolding discSizedOf discSizes firstNo after
     no-table k = rw (← e, h, breaks b k)
 
-    pub lists : (x y : BodySized) (r : DiscSized) {p q : Place} → Lists p q ≡ contentsIn b → bodySizedOf x ≡ bodySizes a0 limit (bodyOf b (entryIn p))
-        → bodySizedOf y ≡ bodySizes a1 limit (bodyOf b (entryIn q)) → discSizedOf r ≡ bothSizes (bodySizedOf x) (bodySizedOf y)
+    pub lists : (x y : BodySized) (r : DiscSized) {p q : SlotEntry} → Lists p q ≡ contentsIn b → bodySizedOf x ≡ bodySizes a0 limit (bodyAt b (entryIn p))
+        → bodySizedOf y ≡ bodySizes a1 limit (bodyAt b (entryIn q)) → discSizedOf r ≡ bothSizes (bodySizedOf x) (bodySizedOf y)
         → discSizedOf r ≡ discSizes a0 a1 b limit
     unfolding discSizes firstNo after
     lists x y r k f g w =

@@ -9,7 +9,7 @@ use Rattle.rules.specs.declared.AreaIndex.{AreaIndex}
 use Rattle.rules.specs.Values.{Index, max32}
 use Rattle.rules.specs.File.{savedLength}
 use Rattle.rules.proofs.Tests.{test, all→}
-use Rattle.rules_disc.specs.Disc.{entry, slotOf, listed, bySlot}
+use Rattle.rules_disc.specs.Disc.{entry, slotOf, entriesOk, bySlot}
 use Rattle.tables.specs.Index.{Tables, indexIn, refusal, lowest}
 use Rattle.merge.proofs.questions.Refusal.{lowest-zero}
 use Rattle.disc_save.proofs.Answers.{one-length, two-length, one-contents, two-contents, one-small}
@@ -22,7 +22,7 @@ module _ (x : AreaIndex) (t : Tables) {n : ℕ} (e : n ≡ refusal x t) where
   unfolding oneLength lengthAfter
   one-refused h = rw (← e, ne-eqb n 0 h)
 
-  module _ (z : n ≡ 0) {s m : ℕ} {r : Bool} (p : s ≡ slotOf (indexIn x t)) (l : m ≡ savedLength (indexIn x t)) (q : r ≡ listed 0 (entry s 16 m ∷ [])) where
+  module _ (z : n ≡ 0) {s m : ℕ} {r : Bool} (p : s ≡ slotOf (indexIn x t)) (l : m ≡ savedLength (indexIn x t)) (q : r ≡ entriesOk 0 (entry s 16 m ∷ [])) where
     pub one-broken : r ≡ false → 54 ≡ oneLength x t
     unfolding oneLength lengthAfter lengthOf
     one-broken h = rw (← e, z, ← one-contents (indexIn x t) p l q, h)
@@ -35,8 +35,8 @@ module _ (x : AreaIndex) (t : Tables) {n : ℕ} (e : n ≡ refusal x t) where
     one-fits h = one-small (indexIn x t) l (one-contents (indexIn x t) p l q) h
 
 -- ---- two lists
-pub two-fits : (s m t n : ℕ) {r : Bool} → r ≡ listed 0 (entry s 28 m ∷ entry t (28 + m) n ∷ []) → r ≡ true → (28 + m ≤ max32) × (n ≤ max32)
-unfolding listed
+pub two-fits : (s m t n : ℕ) {r : Bool} → r ≡ entriesOk 0 (entry s 28 m ∷ entry t (28 + m) n ∷ []) → r ≡ true → (28 + m ≤ max32) × (n ≤ max32)
+unfolding entriesOk
 two-fits s m t n e h =
     let g = all→ _ (sym e ∙ h) in let f = all→ _ (g .1 .1 .1 .0) in (leb-true (28 + m) max32 (f .1 .0), leb-true n max32 (f .1 .1 .0))
 

@@ -39,7 +39,7 @@ use Rattle.inspect.proofs.cursor.Words.{held-got}
 use Rattle.inspect.specs.declared.scan.OnePart.{OnePart}
 use Rattle.inspect.specs.declared.scan.OnePart.the-variants as part
 use Rattle.inspect.specs.declared.scan.Placed.{Placed}
-use Rattle.inspect.specs.Steps.{placed, onePart, placedIf, partRule, Ready, LastAt}
+use Rattle.inspect.specs.Steps.{placed, onePart, placedIf, partRule, HeaderReads, LastAt}
 
 -- ---- the frame of a part
 -- a part that passed the first half of its rule is of the frame of the part before it, or of the next
@@ -69,7 +69,7 @@ header-len : {h : FrameHeader} (b : List ℕ) (place : ℕ) → h ≡ decodeHead
 unfolding decodeHeader
 header-len b place e = rw (e, number-take 4 8 (drop place b) 4 (omega arith), number-drop 4 place b 4)
 
-module _ {a : Area} {h : Header} {checkpoints frames : List ℕ} (y : Ready a h checkpoints frames) {begins : Bool} {last : Placed} (t : LastAt frames begins last) (p : Held) where
+module _ {a : Area} {h : Header} {checkpoints frames : List ℕ} (y : HeaderReads a h checkpoints frames) {begins : Bool} {last : Placed} (t : LastAt frames begins last) (p : Held) where
   -- by the part before it alone
   pub part-far : {u : Bool} (c : Cursor) → u ≡ partNear (h .frames) (before begins (last .part)) p → not u ≡ true
       → part.Refused 32 ≡ placedIf frames p c (partRule a h checkpoints frames begins last p)

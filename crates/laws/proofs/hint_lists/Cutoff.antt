@@ -8,7 +8,7 @@ use lib.Dec.{leb, ltb, eqb}
 use lib.ListN.{length}
 use borrow.Author.Tests.{ltb-true, ltb-false, lt-ltb, le-ltb, le-leb, lt-leb, eq-eqb, ne-eqb}
 use Rattle.rules.specs.declared.Hint.{Hint}
-use Rattle.rules.specs.Hints.{countOf, gap, sooner, rank, kept, thin}
+use Rattle.rules.specs.Hints.{countOf, gap, smaller, rank, kept, thin}
 use Rattle.laws.specs.Cutoff.{below, level, stays, Cuts}
 use Rattle.rules.proofs.Tests.{test, order}
 use Rattle.laws.proofs.hint_lists.Ranks.{one, count-next, count-same, count-mono}
@@ -52,10 +52,10 @@ module _ (hs : List Hint) where
 
   -- the rank: those below, and those before at the same gap
   pub rank-split : (i : ℕ) → i ≤ length hs → rank hs i ≡ countOf (below hs (gap hs i)) (length hs) + countOf (level hs (gap hs i)) i
-  unfolding rank below level sooner
+  unfolding rank below level smaller
   rank-split i h =
       let g = gap hs i in let z : i + (length hs - i) ≡ length hs = omega arith in
-      count-split (sooner hs i) (λ k. ltb (gap hs k) g) (λ k. eqb (gap hs k) g && ltb k i) (length hs)
+      count-split (smaller hs i) (λ k. ltb (gap hs k) g) (λ k. eqb (gap hs k) g && ltb k i) (length hs)
       (λ k. order (gap hs k) g (λ l. rw (lt-ltb (gap hs k) g l, ne-eqb (gap hs k) g (λ e. omega arith)))
       (λ l. rw (le-ltb (gap hs k) g (omega arith), ne-eqb (gap hs k) g (λ e. omega arith))) (λ e. rw (le-ltb (gap hs k) g (omega arith)) (omega arith))) ∙
       ap (λ (m : ℕ). countOf (λ k. ltb (gap hs k) g) (length hs) + m) (rw z at (count-first (λ k. eqb (gap hs k) g) i (length hs - i)))

@@ -8,7 +8,7 @@ use Rattle.rules.specs.declared.Confirmation.{Confirmation}
 use Rattle.rules.specs.declared.Hint.{Hint}
 use Rattle.rules.specs.Tests.{all, walk}
 use Rattle.rules.specs.Sections.{risingOk, rising, hintsOk, isKept}
-use Rattle.rules.specs.Hints.{countOf, rise, riseAt, gap, sooner, rank, kept, thin, insert, inArea, insertAll, limitedTo, joinedHints, heldConfirmation, lastOnes, keep, keepAll}
+use Rattle.rules.specs.Hints.{countOf, rise, riseAt, gap, smaller, rank, kept, thin, insert, inArea, insertAll, limitedTo, joinedHints, heldConfirmation, lastOnes, keep, keepAll}
 
 abbrev hintAt : ℕ → ℕ → Hint
 hintAt l n = record { lsn = l; number = n; mark = 0 }
@@ -21,7 +21,7 @@ place = record { key = record { slot = 0; start = 5; end = 50; channels = 2; sec
 
 -- document 01's example: the smallest gaps go
 pub thinned : thin 2 (hintAt 10 5 ∷ hintAt 20 8 ∷ hintAt 30 9 ∷ hintAt 40 30 ∷ []) ≡ hintAt 10 5 ∷ hintAt 40 30 ∷ []
-unfolding thin kept rank sooner gap riseAt isKept rise countOf
+unfolding thin kept rank smaller gap riseAt isKept rise countOf
 thinned = refl
 
 -- a hint outside the area is dropped, and one at a held LSN replaces it

@@ -12,12 +12,12 @@ use Rattle.rules.specs.declared.Area.{Area}
 use Rattle.rules.specs.declared.Hint.{Hint}
 use Rattle.rules.specs.Values.{Hinting, noHint, max32, lim}
 use Rattle.rules.specs.Sections.{hintLsn, hintOk, hintsOk, isKept, keptCount, markOk, marksOk}
-use Rattle.rules.specs.Hints.{countOf, rise, riseAt, gap, sooner, rank, kept, thin, insert, arrivedHint, insertAll, limitedTo, joinedHints, unkeptHint, unkept, placeOf, question53, keptHint, withMark}
+use Rattle.rules.specs.Hints.{countOf, rise, riseAt, gap, smaller, rank, kept, thin, insert, arrivedHint, insertAll, limitedTo, joinedHints, unkeptHint, unkept, placeOf, question53, keptHint, withMark}
 use Rattle.rules.proofs.Tests.{test, never, and-left, and-right, all→, →all}
 use Rattle.laws.specs.Marks.{keptLsns}
 use Rattle.laws.proofs.hint_lists.Lists.{All, Passes, each→, →each, all-at, all-map, all-sub, all-insert, insert-none, insert-cases}
 use Rattle.laws.proofs.hint_lists.Ranks.{count-next, count-mono}
-use Rattle.laws.proofs.hint_lists.Thinning.{sooner-less, kept-none, kept-yes, kept-no, thin-sub}
+use Rattle.laws.proofs.hint_lists.Thinning.{smaller-less, kept-none, kept-yes, kept-no, thin-sub}
 use Rattle.laws.proofs.hint_lists.Rising.{rising-each}
 use Rattle.laws.proofs.hint_lists.Hints.{insertAll-keeps, limitedTo-keeps, joined-cases, hints-insert}
 
@@ -48,10 +48,10 @@ module _ (hs : List Hint) (small : Numbers hs) where
   kept-gap k e = rw e refl
 
   -- every unkept hint goes before a kept one
-  unkept-sooner : (i k : ℕ) → keptAt hs i ≡ true → not (keptAt hs k) ≡ true → sooner hs i k ≡ true
-  unkept-sooner i k e f =
+  unkept-smaller : (i k : ℕ) → keptAt hs i ≡ true → not (keptAt hs k) ≡ true → smaller hs i k ≡ true
+  unkept-smaller i k e f =
       test (keptAt hs k) (λ g. let z : _≡_ {A = Bool} false true = rw g at f in let w : ⊥ = bad z in absurd w)
-      (λ g. let u = unkept-gap k g in let v = kept-gap i e in sooner-less hs i k (omega (arith, u, v)))
+      (λ g. let u = unkept-gap k g in let v = kept-gap i e in smaller-less hs i k (omega (arith, u, v)))
     where
       bad : _≡_ {A = Bool} false true → ⊥
       bad z = let n : _≡_ {A = ℕ} 0 1 = ap (λ (b : Bool). cond b 1 0) z in omega (arith, n)
@@ -64,7 +64,7 @@ module _ (hs : List Hint) (small : Numbers hs) where
   pub kept-rank : (i : ℕ) → keptAt hs i ≡ true → length hs ≤ rank hs i + countOf (keptAt hs) (length hs)
   unfolding rank
   kept-rank i e =
-      omega (arith, split (length hs), count-mono (λ k. not (keptAt hs k)) (sooner hs i) (λ k f. unkept-sooner i k e f) (length hs))
+      omega (arith, split (length hs), count-mono (λ k. not (keptAt hs k)) (smaller hs i) (λ k f. unkept-smaller i k e f) (length hs))
 
   -- thinned to most, a kept hint stays where at most so many are kept
   pub thin-stays : (most i : ℕ) → keptAt hs i ≡ true → countOf (keptAt hs) (length hs) ≤ most → leb (length hs - most) (rank hs i) ≡ true

@@ -11,46 +11,46 @@ use lib.Seq.{take-suc, take-length}
 use borrow.Author.Tests.{eqb-true, ltb-true, eq-eqb, le-leb, le-ltb, lt-ltb}
 use Rattle.rules.specs.declared.Hint.{Hint}
 use Rattle.rules.specs.Values.{noHint}
-use Rattle.rules.specs.Hints.{countOf, gap, sooner, rank, kept, thin}
+use Rattle.rules.specs.Hints.{countOf, gap, smaller, rank, kept, thin}
 use Rattle.rules.proofs.Tests.{test, order, never, and-left, and-right, or-cases, or-left, or-right, both}
 use Rattle.laws.proofs.hint_lists.Lists.{Sub, empty, sub-none, sub-self, sub-append}
 use Rattle.laws.proofs.hint_lists.Ranks.{count-none, count-next, ranks}
 
 -- ---- the order of (gap, place)
 module _ (hs : List Hint) where
-  pub sooner→ : (i k : ℕ) → sooner hs i k ≡ true → (gap hs k < gap hs i) ⊎ ((gap hs k ≡ gap hs i) × (k < i))
-  unfolding sooner
-  sooner→ i k e =
+  pub smaller→ : (i k : ℕ) → smaller hs i k ≡ true → (gap hs k < gap hs i) ⊎ ((gap hs k ≡ gap hs i) × (k < i))
+  unfolding smaller
+  smaller→ i k e =
       ⊎-elim (λ h. inl (ltb-true (gap hs k) (gap hs i) h))
       (λ h. inr (eqb-true (gap hs k) (gap hs i) (and-left _ (ltb k i) h), ltb-true k i (and-right (eqb (gap hs k) (gap hs i)) _ h))) (or-cases _ _ e)
 
-  pub sooner-less : (i k : ℕ) → gap hs k < gap hs i → sooner hs i k ≡ true
-  unfolding sooner
-  sooner-less i k h = or-left _ (lt-ltb (gap hs k) (gap hs i) h)
+  pub smaller-less : (i k : ℕ) → gap hs k < gap hs i → smaller hs i k ≡ true
+  unfolding smaller
+  smaller-less i k h = or-left _ (lt-ltb (gap hs k) (gap hs i) h)
 
-  pub sooner-level : (i k : ℕ) → gap hs k ≡ gap hs i → k < i → sooner hs i k ≡ true
-  unfolding sooner
-  sooner-level i k h l = or-right (ltb (gap hs k) (gap hs i)) (both (eq-eqb (gap hs k) (gap hs i) h) (lt-ltb k i l))
+  pub smaller-level : (i k : ℕ) → gap hs k ≡ gap hs i → k < i → smaller hs i k ≡ true
+  unfolding smaller
+  smaller-level i k h l = or-right (ltb (gap hs k) (gap hs i)) (both (eq-eqb (gap hs k) (gap hs i) h) (lt-ltb k i l))
 
-  sooner-self : (i : ℕ) → sooner hs i i ≡ false
-  unfolding sooner
-  sooner-self i = rw (le-ltb (gap hs i) (gap hs i) (omega arith), eq-eqb (gap hs i) (gap hs i) refl, le-ltb i i (omega arith))
+  smaller-self : (i : ℕ) → smaller hs i i ≡ false
+  unfolding smaller
+  smaller-self i = rw (le-ltb (gap hs i) (gap hs i) (omega arith), eq-eqb (gap hs i) (gap hs i) refl, le-ltb i i (omega arith))
 
-  sooner-chain : (i j k : ℕ) → sooner hs i j ≡ true → sooner hs j k ≡ true → sooner hs i k ≡ true
-  sooner-chain i j k e f =
-      ⊎-elim (λ (a : gap hs j < gap hs i). ⊎-elim (λ (b : gap hs k < gap hs j). sooner-less i k (omega arith)) (λ (b : (gap hs k ≡ gap hs j) × (k < j)). sooner-less i k (omega arith)) (sooner→ j k f))
+  smaller-chain : (i j k : ℕ) → smaller hs i j ≡ true → smaller hs j k ≡ true → smaller hs i k ≡ true
+  smaller-chain i j k e f =
+      ⊎-elim (λ (a : gap hs j < gap hs i). ⊎-elim (λ (b : gap hs k < gap hs j). smaller-less i k (omega arith)) (λ (b : (gap hs k ≡ gap hs j) × (k < j)). smaller-less i k (omega arith)) (smaller→ j k f))
       (λ (a : (gap hs j ≡ gap hs i) × (j < i)).
-      ⊎-elim (λ (b : gap hs k < gap hs j). sooner-less i k (omega arith)) (λ (b : (gap hs k ≡ gap hs j) × (k < j)). sooner-level i k (omega arith) (omega arith)) (sooner→ j k f))
-      (sooner→ i j e)
+      ⊎-elim (λ (b : gap hs k < gap hs j). smaller-less i k (omega arith)) (λ (b : (gap hs k ≡ gap hs j) × (k < j)). smaller-level i k (omega arith) (omega arith)) (smaller→ j k f))
+      (smaller→ i j e)
 
-  sooner-total : (i j : ℕ) → i < j → sooner hs i j ≡ false → sooner hs j i ≡ true
-  sooner-total i j l e =
-      order (gap hs i) (gap hs j) (λ h. sooner-less j i h) (λ h. never (sooner-less i j h) e) (λ h. sooner-level j i h l)
+  smaller-total : (i j : ℕ) → i < j → smaller hs i j ≡ false → smaller hs j i ≡ true
+  smaller-total i j l e =
+      order (gap hs i) (gap hs j) (λ h. smaller-less j i h) (λ h. never (smaller-less i j h) e) (λ h. smaller-level j i h l)
 
   -- of n places, n - e have a rank of e or more
   pub ranks-from : (e : ℕ) → countOf (λ i. leb e (rank hs i)) (length hs) ≡ length hs - e
   unfolding rank
-  ranks-from e = ranks (sooner hs) sooner-self sooner-chain sooner-total e (length hs)
+  ranks-from e = ranks (smaller hs) smaller-self smaller-chain smaller-total e (length hs)
 
 -- ---- the places that p keeps
 module _ (p : ℕ → Bool) (hs : List Hint) where

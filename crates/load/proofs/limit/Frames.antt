@@ -14,7 +14,7 @@ use Rattle.rules.specs.Values.{Frame, used}
 use Rattle.rules.specs.File.{encodeFrameHeader, over}
 use Rattle.rules.specs.Load.{fitting}
 use Rattle.laws.proofs.Length.{length-each}
-use Rattle.tables.specs.Files.{placeAt, listed, frameHere, frameFollows, framesRead}
+use Rattle.tables.specs.Files.{placeAt, eachRead, frameHere, frameFollows, framesRead}
 use Rattle.tables.proofs.Files.{place-first, place-shift, place-inside}
 use Rattle.tables.specs.Index.{storeOf}
 use Rattle.index.proofs.Store.{store-length}
@@ -26,7 +26,7 @@ follows-on b here = rw (number-drop 4 here b 4) (simp drop-drop)
 
 module _ (b : List ℕ) (here n : ℕ) where
   pub frames-next : framesRead (suc n) (drop here b) ≡ frameHere (drop here b) ∷ framesRead n (drop (here + 8 + lengthHere b here) b)
-  unfolding listed
+  unfolding eachRead
   frames-next = ap (λ (t : List ℕ). frameHere (drop here b) ∷ framesRead n t) (follows-on b here)
 
   module _ (l : placeAt b here (suc n) ≤ length b) where
@@ -96,7 +96,7 @@ module _ {b : List ℕ} {budget f r i here u : ℕ} (k : Fitting b budget f r i 
         sym (add-zero i) ∙ (rw (s, lt-leb len (budget - u) g) at turn)
 
   pub fit-end : f ≤ i → i ≡ r
-  unfolding fitting listed
+  unfolding fitting eachRead
   fit-end h = let e : f - i ≡ 0 = omega arith in sym (add-zero i) ∙ (rw e at (k .rest))
 
 -- ---- into the tables
@@ -179,7 +179,7 @@ module _ {b : List ℕ} {f v : ℕ} {g s : List ℕ} {i here u : ℕ} {frames st
         }
 
   pub move-end : f ≤ i → (frames ≡ g) × (store ≡ s)
-  unfolding used bytesOf storeOf listed
+  unfolding used bytesOf storeOf eachRead
   move-end h =
       let w = k .within in
       let e : f - i ≡ 0 = omega arith in
@@ -191,7 +191,7 @@ module _ {b : List ℕ} {f v : ℕ} {g s : List ℕ} {i here u : ℕ} {frames st
 
 -- ---- how long they are
 pub read-count : (f : ℕ) (b : List ℕ) → length (framesRead f b) ≡ f
-unfolding listed
+unfolding eachRead
 read-count zero b = refl
 read-count (suc f) b = ap suc (read-count f _)
 

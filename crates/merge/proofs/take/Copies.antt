@@ -16,7 +16,7 @@ use Rattle.field.proofs.Records.{records-length, drop-records}
 use Rattle.rules.proofs.Tests.{test}
 use Rattle.laws.proofs.Layouts.{checkpoint-layout, lsn-layout}
 use Rattle.rules.specs.File.{over}
-use Rattle.merge.specs.Steps.{Put, Appends, Appended, Takes, Taken}
+use Rattle.merge.specs.Steps.{Put, Appends, Appended, Takes, LsnsTaken}
 
 -- the first bytes of a table over it
 over-first : (k : ℕ) (t : List ℕ) → k ≤ length t → t ≡ over (take k t) t
@@ -64,7 +64,7 @@ pub appended : {n m i k : ℕ} {t' : List ℕ} (t u : List ℕ) → Appends n m 
 appended {n} {m} {i} {k} t u a b c p q = put-from checkpoint-layout n m i k t u b c (a .own) (a .other) p q
 
 pub malformed-taken : (go : Bool) {n m k r : ℕ} {t' : List ℕ} (t u : List ℕ) → Takes n m t u → Bytes t → Bytes u → k ≡ cond go m 0 → r ≡ cond go m n
-    → t' ≡ take (k * 4) u ++ drop (k * 4) t → Taken go n m t u r t'
+    → t' ≡ take (k * 4) u ++ drop (k * 4) t → LsnsTaken go n m t u r t'
 malformed-taken go {n} {m} {k} {r} {t'} t u a b c p s e =
     test go
     (λ g. let k' : k ≡ m = rw g at p in let s' : r ≡ m = rw g at s in rw (g, s') (put-other lsn-layout m t u c (a .other) (rw k' at e)))

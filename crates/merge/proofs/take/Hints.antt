@@ -25,7 +25,7 @@ use Rattle.tables.proofs.Kept.{kept-layout}
 use Rattle.add_hints.proofs.Arriving.{unkept-in}
 use Rattle.add_hints.specs.Steps.{joinedIn, clearedTo}
 use Rattle.add_hints.specs.AddHints.{touched}
-use Rattle.merge.specs.Steps.{HintsReady, listed, writtenTo, hintsJoined}
+use Rattle.merge.specs.Steps.{HintsReady, countedTable, writtenTo, hintsJoined}
 
 joined-most : (a : Area) (most : ℕ) (hs xs : List Hint) → length (joinedHints a most hs xs) ≤ writtenTo most (length hs) (length xs)
 joined-most a most hs xs =
@@ -55,7 +55,7 @@ hints-room {a} {n} {m} {e} {t} {u} h q =
 
 pub hints-done : {a : Area} {n m e r : ℕ} {t' : List ℕ} (most : ℕ) (t u : List ℕ) → HintsReady a n m t u → e ≡ m * 8
     → r ≡ length (joinedIn a most n t (take (e - 0) (drop 0 u))) → t' ≡ clearedTo (touched most n (take (e - 0) (drop 0 u))) (joinedIn a most n t (take (e - 0) (drop 0 u))) t
-    → listed r t' ≡ hintsJoined a most n m t u
+    → countedTable r t' ≡ hintsJoined a most n m t u
 unfolding hintsJoined touched
 hints-done {a} {n} {m} {e} {r} {t'} most t u h q c b =
     let l : length (take (m * 8) u) ≡ m * 8 = length-take-le (m * 8) u (h .there) in

@@ -8,7 +8,7 @@ use lib.ListN.{length}
 use Rattle.rules.proofs.Tests.{never}
 use Rattle.blocks.specs.Blocks.{isHead}
 use Rattle.blocks.proofs.Words.{head-long}
-use Rattle.player.specs.Block.{inBlock, inHead, asWorkshop}
+use Rattle.player.specs.Block.{inBlock, inHead, inWorkshop}
 
 pub too-short : {A : Type 0} (b : List ℕ) (short r : A) → length b < 192 → short ≡ inBlock b short r
 unfolding inBlock inHead
@@ -38,10 +38,10 @@ pub known-long : (again : List ℕ → List ℕ) (b : List ℕ) {q : Bool} → q
 known-long again b e f = head-long again b (known e f)
 
 -- ---- a role that is not the workshop's, and one that is
-pub no-workshop : {A : Type 0} (role : ℕ) (refused r : A) → (role ≡ 2 → ⊥) → refused ≡ asWorkshop role refused r
-unfolding asWorkshop inHead
+pub no-workshop : {A : Type 0} (role : ℕ) (refused r : A) → (role ≡ 2 → ⊥) → refused ≡ inWorkshop role refused r
+unfolding inWorkshop inHead
 no-workshop role refused r h = rw (ne-eqb role 2 h)
 
-pub is-workshop : {A : Type 0} (role : ℕ) (refused r : A) {p : A} → role ≡ 2 → p ≡ r → p ≡ asWorkshop role refused r
-unfolding asWorkshop inHead
+pub is-workshop : {A : Type 0} (role : ℕ) (refused r : A) {p : A} → role ≡ 2 → p ≡ r → p ≡ inWorkshop role refused r
+unfolding inWorkshop inHead
 is-workshop role refused r h e = rw (eq-eqb role 2 h) e

@@ -1,6 +1,6 @@
 use Rattle.rules.specs.declared.Area.{Area}
 use Rattle.tables.specs.Index.{Tables, tables}
-use Rattle.player.specs.Block.{areaFrom}
+use Rattle.player.specs.Block.{givenArea}
 use Rattle.player_disc.specs.PlayerDisc.{discLoadCall, discLoadCallAs}
 use Rattle.player.proofs.block.Blocks.{no-workshop, is-workshop, too-short, long-enough}
 use Rattle.player_disc.proofs.Answers.{load-done}
@@ -10,10 +10,10 @@ use Rattle.player_disc.proofs.seek_raw_disc_load.Tie as tie
 
 -- the areas, and the tables as they are lent
 abbrev area-0 : tie.Start → Area
-area-0 s = let a = s .args in areaFrom (a .slot0) (a .channels0) (a .key-start0) (a .key-end0) (a .sectors0) (a .start0) (a .end0)
+area-0 s = let a = s .args in givenArea (a .slot0) (a .channels0) (a .key-start0) (a .key-end0) (a .sectors0) (a .start0) (a .end0)
 
 abbrev area-1 : tie.Start → Area
-area-1 s = let a = s .args in areaFrom (a .slot1) (a .channels1) (a .key-start1) (a .key-end1) (a .sectors1) (a .start1) (a .end1)
+area-1 s = let a = s .args in givenArea (a .slot1) (a .channels1) (a .key-start1) (a .key-end1) (a .sectors1) (a .start1) (a .end1)
 
 abbrev lent : tie.Start → Tables
 lent s =

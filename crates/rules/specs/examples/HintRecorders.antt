@@ -9,7 +9,7 @@ use Rattle.rules.specs.Tests.{Accepted, bind, numberOf}
 use Rattle.rules.specs.Values.{HintRecorder}
 use Rattle.rules.specs.Create.{hintRecorder, emptyIndex}
 use Rattle.rules.specs.FirstRecord.{firstRecord, recordNumber}
-use Rattle.rules.specs.Hints.{seenRecord, SeenSector, see, flush, Taken, takeList}
+use Rattle.rules.specs.Hints.{seenRecord, SeenSector, see, flush, TakenHints, takeList}
 use Rattle.rules.specs.examples.Starred.{ample, area, hintAt, firstNumbers, knownNumbers, hintNumbers, numbersOf, Example, example}
 
 -- ---- values
@@ -39,7 +39,7 @@ unfoldable pub seenNumbers : HintRecorder → List ℕ
 seenNumbers r = knownNumbers (r .last) ++ (tailNumbers (r .tail) ++ hintNumbers (r .list))
 
 -- the hint recorder after a taking, then the list
-unfoldable pub takenNumbers : Taken → List ℕ
+unfoldable pub takenNumbers : TakenHints → List ℕ
 takenNumbers t = seenNumbers (t .recorder) ++ hintNumbers (t .list)
 
 -- 1, the spacing and the rest of a hint recorder, 0 where there is none

@@ -9,7 +9,7 @@ use Rattle.laws.specs.Statements.{Savable}
 use Rattle.laws.proofs.Facts.{facts}
 use Rattle.rules_coarsen.specs.Coarse.{coarser, coarseNumber, coarse}
 use Rattle.rules.specs.declared.Made.the-variants as made
-use Rattle.tables.specs.Index.{Tables, roomOf, indexIn, kindedNumber, refusal, numbersFrom, tablesFrom, out, outOf}
+use Rattle.tables.specs.Index.{Tables, roomOf, indexIn, kindedNumber, refusal, numbersFrom, tablesFrom, madeOut, madeOutOf}
 use Rattle.index.proofs.Lent.{sized-in}
 use Rattle.index.proofs.Questions.{passes, passes-kinds}
 use Rattle.index.proofs.Standing.{stands, kinds-from, within, room-from}
@@ -45,7 +45,7 @@ module _ (x : AreaIndex) (t : Tables) (k : ℕ) (u : Tables) where
         room = m;
       }
 
-  pub leaves : (y : AreaIndex) (u' : Tables) → LentIn x t → coarseIn x t k u ≡ out (made.Index y) u' → CoarseLeft x t k u y u'
+  pub leaves : (y : AreaIndex) (u' : Tables) → LentIn x t → coarseIn x t k u ≡ madeOut (made.Index y) u' → CoarseLeft x t k u y u'
   unfolding coarse
   leaves y u' a e =
       let r = out→ (λ z. tablesFrom z u) u x y u' (after (refusal x t) (coarse (roomOf t) fine k (roomOf u))) e in
@@ -62,8 +62,8 @@ pub coarse-leaves : CoarseLeaves
 coarse-leaves = leaves
 
 pub coarse-accepts : CoarseAccepts
-unfolding refusal kindedNumber outOf
+unfolding refusal kindedNumber madeOutOf
 coarse-accepts R end rises x t k u c d q w v =
     let o = coarse-of-reading R end rises (roomOf t) (roomOf u) (indexIn x t) k c q w v in
     let z : refusal x t ≡ 0 = rw d (asks _ (c .one, (c .two, (q, (c .four, tt))))) in
-    ap (outOf (λ z. tablesFrom z u) u) (→after z (o .accepted))
+    ap (madeOutOf (λ z. tablesFrom z u) u) (→after z (o .accepted))

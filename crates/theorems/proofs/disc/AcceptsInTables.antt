@@ -13,7 +13,7 @@ use Rattle.rules.specs.Tests.{Accepted}
 use Rattle.rules.specs.Values.{Index, Lengths}
 use Rattle.rules.specs.Load.{limited, load}
 use Rattle.rules_disc.specs.declared.Entry.{Entry}
-use Rattle.rules_disc.specs.Disc.{entriesIn, entryOf, bodyOf, saveBoth}
+use Rattle.rules_disc.specs.Disc.{entriesIn, entryOf, bodyAt, saveBoth}
 use Rattle.laws.specs.Statements.{Savable}
 use Rattle.laws.proofs.Loaded.{loaded-valid}
 use Rattle.rules.specs.Questions.{question1}
@@ -59,8 +59,8 @@ disc-save-accepts-in =
 
 -- ---- loading
 -- a body is bytes
-pub body-bytes : (b : List ℕ) (o : Option Entry) (c : List ℕ) → Bytes b → bodyOf b o ≡ some c → Bytes c
-unfolding bodyOf
+pub body-bytes : (b : List ℕ) (o : Option Entry) (c : List ℕ) → Bytes b → bodyAt b o ≡ some c → Bytes c
+unfolding bodyAt
 body-bytes b none c g e = let z : _≡_ {A = ℕ} 0 1 = cc in let f : ⊥ = omega arith in absurd f
 body-bytes b (some n) c g e =
     let q : take (n .len) (drop (n .offset) b) ≡ c = cc in subst (λ (d : List ℕ). Bytes d) q (bytes-part b (n .offset) (n .len) g)

@@ -14,7 +14,7 @@ use Rattle.rules.proofs.Tests.{and-left, and-right}
 use Rattle.rules_disc.specs.Disc.{saveOne, saveBoth, loadDisc}
 use Rattle.blocks.specs.Blocks.{blockOf, indexWords, isBlock, isIndex}
 use Rattle.rules.specs.declared.Made.the-variants as made
-use Rattle.tables.specs.Index.{Tables, roomOf, indexIn, kindsIn, numbersFrom, out, outOf}
+use Rattle.tables.specs.Index.{Tables, roomOf, indexIn, kindsIn, numbersFrom, madeOut, madeOutOf}
 use Rattle.index.specs.Index.{madeOf}
 use Rattle.save.specs.Save.{saveOut, saveIn}
 use Rattle.rules_disc.specs.declared.Listed.{Listed}
@@ -82,13 +82,13 @@ saved-bodies-in-c =
 -- a body that loads as the list o of its slot
 alone : (a : Area) (c : List ℕ) (limit : ℕ) (t : Tables) (o : Option Index) (p : Listed) (t' : Tables) → Loads (roomOf t) a c limit o → listedFrom o ≡ p → tablesWith o t ≡ t'
     → LoadsAlone a c limit t p t'
-unfolding listedFrom tablesWith outOf
+unfolding listedFrom tablesWith madeOutOf
 alone a c limit t o p t' s e f =
     let v = sym (ap (λ (q : Option Index). tablesWith q t) (s .is)) ∙ f in
     record {
       numbers = numbersFrom (s .list);
       is = sym e ∙ ap listedFrom (s .is);
-      loads = rw (s .loads) (λ i. out (made.Index (numbersFrom (s .list))) (v i));
+      loads = rw (s .loads) (λ i. madeOut (made.Index (numbersFrom (s .list))) (v i));
     }
 
 pub bodies-load-in : BodiesLoadIn

@@ -29,7 +29,7 @@ use Rattle.laws.proofs.Length.{savedLength-is}
 use Rattle.laws.proofs.Limit.{limited-load, large-limit}
 use Rattle.theorems.specs.Terms.{Valid, Ample}
 use Rattle.theorems.proofs.Accepts.{refuses-nothing}
-use Rattle.rules_disc.specs.Disc.{Disc, entry, encodeEntry, slotOf, slotArea, entriesIn, entryOf, entriesFrom, contentsOf, contentsOk, listed, bodiesLength, discLength, discBytes, loadBody, loadBodies, loadDisc, saveLists, saveOne, bySlot, saveBoth}
+use Rattle.rules_disc.specs.Disc.{Disc, entry, encodeEntry, slotOf, slotArea, entriesIn, entryOf, entriesFrom, contentsOf, contentsOk, entriesOk, bodiesLength, discLength, discBytes, loadBody, loadBodies, loadDisc, saveLists, saveOne, bySlot, saveBoth}
 use Rattle.rules_disc.specs.Disc as rules
 use Rattle.theorems.specs.DiscFile.{OneDiscFile, disc, BothLoad, OneLoads, DiscLoads, bodyIn, ListFile, SavedBodies, Loads, BodiesLoad}
 use Rattle.theorems.proofs.disc.Tables.{Fit, first→, savedOf, table-ok, body-is}
@@ -41,13 +41,13 @@ pub record Saves (p : Four) (xs : List Index) (out : ℕ) (b : List ℕ) : Type 
   pub two : p .two ≡ true
   pub three : p .three ≡ true
   pub four : p .four ≡ true
-  pub rising : listed 0 (contentsOf xs) ≡ true
+  pub rising : entriesOk 0 (contentsOf xs) ≡ true
   pub is : discBytes xs ≡ b
 
 saves : (p : Four) (xs : List Index) (out : ℕ) (b : List ℕ) → saveLists p xs out ≡ Accepted b → Saves p xs out b
 unfolding saveLists
 saves p xs out b e =
-    let r = asked→ (askFour p (ask (listed 0 (contentsOf xs)) 54 ∷ ask (leb (discLength xs) out) 40 ∷ [])) (Accepted (discBytes xs)) b refl e in
+    let r = asked→ (askFour p (ask (entriesOk 0 (contentsOf xs)) 54 ∷ ask (leb (discLength xs) out) 40 ∷ [])) (Accepted (discBytes xs)) b refl e in
     let q = r .0 in
     record { one = q .0; two = q .1 .0; three = q .1 .1 .0; four = q .1 .1 .1 .0; rising = q .1 .1 .1 .1 .0; is = accepted-eq (discBytes xs) b (r .1) }
 
@@ -94,7 +94,7 @@ length-saved x x' e = savedLength-is x .0 ∙ ap length e ∙ sym (savedLength-i
 -- the answer for two lists, by what it is made of
 abbrev answerOf : Four → ℕ → ℕ → ℕ → ℕ → ℕ → List ℕ → List ℕ → Answer (List ℕ)
 answerOf p out s t m n u v =
-    after (firstNo (askFour p (ask (listed 0 (entry s 28 m ∷ entry t (28 + m) n ∷ [])) 54 ∷ ask (leb (28 + (m + (n + 0))) out) 40 ∷ [])))
+    after (firstNo (askFour p (ask (entriesOk 0 (entry s 28 m ∷ entry t (28 + m) n ∷ [])) 54 ∷ ask (leb (28 + (m + (n + 0))) out) 40 ∷ [])))
     (Accepted (encode 4 2 ++ (bytesOf encodeEntry (entry s 28 m ∷ entry t (28 + m) n ∷ []) ++ (u ++ (v ++ [])))))
 
 answer-is : (p : Four) (out : ℕ) (x y : Index) → saveLists p (x ∷ y ∷ []) out ≡ answerOf p out (slotOf x) (slotOf y) (savedLength x) (savedLength y) (saved x) (saved y)
@@ -147,9 +147,9 @@ broken-bits true true true false q q' r r' = refl
 broken-bits true true true true q q' r r' = refl
 
 -- lists of one slot
-pub equal-slots : (x y : Index) → slotOf x ≡ slotOf y → listed 0 (contentsOf (x ∷ y ∷ [])) ≡ false
+pub equal-slots : (x y : Index) → slotOf x ≡ slotOf y → entriesOk 0 (contentsOf (x ∷ y ∷ [])) ≡ false
 equal-slots x y e =
-    test (listed 0 (contentsOf (x ∷ y ∷ [])))
+    test (entriesOk 0 (contentsOf (x ∷ y ∷ [])))
     (λ h. let f = first→ 0 28 x (y ∷ []) h in let g = first→ (slotOf x + 1) (28 + savedLength x) y [] (f .rest) in let z : ⊥ = omega (arith, g .slot, e) in absurd z)
     (λ h. h)
 
@@ -163,7 +163,7 @@ both-swap : (p q : Four) → both p q ≡ both q p
 both-swap p q =
     λ i. record { one = and-comm (p .one) (q .one) i; two = and-comm (p .two) (q .two) i; three = and-comm (p .three) (q .three) i; four = and-comm (p .four) (q .four) i }
 
-broken : (p : Four) (xs ys : List Index) (out : ℕ) → listed 0 (contentsOf xs) ≡ false → listed 0 (contentsOf ys) ≡ false → saveLists p xs out ≡ saveLists p ys out
+broken : (p : Four) (xs ys : List Index) (out : ℕ) → entriesOk 0 (contentsOf xs) ≡ false → entriesOk 0 (contentsOf ys) ≡ false → saveLists p xs out ≡ saveLists p ys out
 unfolding saveLists
 broken p xs ys out h k =
     rw (h, k)
@@ -308,7 +308,7 @@ unfolding savedOf
 other-slot k x xs h = rw (ne-eqb (slotOf x) k (λ z. h (sym z)))
 
 -- of two lists whose slots rise
-module _ (x y : Index) (h : listed 0 (contentsOf (x ∷ y ∷ [])) ≡ true) where
+module _ (x y : Index) (h : entriesOk 0 (contentsOf (x ∷ y ∷ [])) ≡ true) where
   apart : slotOf x < slotOf y
   apart =
       let f = first→ 0 28 x (y ∷ []) h in let g = first→ (slotOf x + 1) (28 + savedLength x) y [] (f .rest) in omega (arith, g .slot)
@@ -316,14 +316,14 @@ module _ (x y : Index) (h : listed 0 (contentsOf (x ∷ y ∷ [])) ≡ true) whe
   second-slot : savedOf (slotOf y) (x ∷ y ∷ []) ≡ some (saved y)
   second-slot = let l = apart in other-slot (slotOf y) x (y ∷ []) (λ z. omega arith) ∙ own-slot y []
 
-by-slots : (x y : Index) → listed 0 (contentsOf (bySlot x y)) ≡ true
+by-slots : (x y : Index) → entriesOk 0 (contentsOf (bySlot x y)) ≡ true
     → (savedOf (slotOf x) (bySlot x y) ≡ some (saved x)) × (savedOf (slotOf y) (bySlot x y) ≡ some (saved y))
 unfolding bySlot
 by-slots x y r =
     test (ltb (slotOf x) (slotOf y)) (λ h. rw h (own-slot x (y ∷ []), second-slot x y (rw h at r)))
     (λ h. rw h (second-slot y x (rw h at r), own-slot y (x ∷ [])))
 
-by-slots-fit : (x y : Index) → slotOf x ≤ 1 → slotOf y ≤ 1 → listed 0 (contentsOf (bySlot x y)) ≡ true → Fit (bySlot x y)
+by-slots-fit : (x y : Index) → slotOf x ≤ 1 → slotOf y ≤ 1 → entriesOk 0 (contentsOf (bySlot x y)) ≡ true → Fit (bySlot x y)
 unfolding bySlot
 by-slots-fit x y p q r =
     test (ltb (slotOf x) (slotOf y))
@@ -363,15 +363,15 @@ pub record Opened (l m : Lengths) (a0 a1 : Area) (b : List ℕ) (limit : ℕ) (d
   pub area0 : slotArea 0 a0 ≡ true
   pub area1 : slotArea 1 a1 ≡ true
   pub contents : contentsOk b ≡ true
-  pub body0 : loadBody l a0 limit (rules.bodyOf b (entryOf 0 (entriesIn b))) ≡ Accepted (d .slot0)
-  pub body1 : loadBody m a1 limit (rules.bodyOf b (entryOf 1 (entriesIn b))) ≡ Accepted (d .slot1)
+  pub body0 : loadBody l a0 limit (rules.bodyAt b (entryOf 0 (entriesIn b))) ≡ Accepted (d .slot0)
+  pub body1 : loadBody m a1 limit (rules.bodyAt b (entryOf 1 (entriesIn b))) ≡ Accepted (d .slot1)
 
 pub opened : (l m : Lengths) (a0 a1 : Area) (b : List ℕ) (limit : ℕ) (d : Disc) → loadDisc l m a0 a1 b limit ≡ Accepted d → Opened l m a0 a1 b limit d
 unfolding loadDisc loadBodies
 opened l m a0 a1 b limit d e =
     let r = asked→ (ask (slotArea 0 a0 && slotArea 1 a1) 1 ∷ ask (contentsOk b) 54 ∷ []) _ d refl e in
-    let u = bind→ (loadBody l a0 limit (rules.bodyOf b (entryOf 0 (entriesIn b)))) _ d (r .1) in
-    let v = bind→ (loadBody m a1 limit (rules.bodyOf b (entryOf 1 (entriesIn b)))) _ d (u .second) in
+    let u = bind→ (loadBody l a0 limit (rules.bodyAt b (entryOf 0 (entriesIn b)))) _ d (r .1) in
+    let v = bind→ (loadBody m a1 limit (rules.bodyAt b (entryOf 1 (entriesIn b)))) _ d (u .second) in
     let w : disc (u .value) (v .value) ≡ d = accepted-eq _ d (v .second) in
     record {
       area0 = and-left (slotArea 0 a0) (slotArea 1 a1) (r .0 .0);

@@ -9,7 +9,7 @@ use lib.Dec.{eqb, ltb}
 use lib.ListN.{length}
 use Rattle.rules.specs.Tests.{Refused, Accepted, ask, firstNo, after, numberOf}
 use Rattle.rules.specs.Values.{Index}
-use Rattle.rules_disc.specs.Disc.{slotOf, contentsOf, listed, bodiesLength, discLength, discBytes, saveLists, saveOne, bySlot, saveBoth}
+use Rattle.rules_disc.specs.Disc.{slotOf, contentsOf, entriesOk, bodiesLength, discLength, discBytes, saveLists, saveOne, bySlot, saveBoth}
 use Rattle.rules.proofs.Tests.{test}
 use Rattle.laws.proofs.Length.{savedLength-is}
 use Rattle.tables.specs.Index.{indexIn, orFour, kinded, refusal, lowest}
@@ -74,7 +74,7 @@ disc-save-number =
 saved-as : (xs : List Index) (out : List ℕ) → lengthOf xs ≤ length out → savedNumber (savedAs xs out .answer) ≡ lengthOf xs
 unfolding savedAs lengthOf firstNo after saveOut savedNumber
 saved-as xs out h =
-    test (listed 0 (contentsOf xs))
+    test (entriesOk 0 (contentsOf xs))
     (λ g. let l : discLength xs ≤ length out = rw g at h in rw (g, le-leb (discLength xs) (length out) l) (disc-length xs))
     (λ g. rw g)
 

@@ -32,7 +32,7 @@ use Rattle.theorems.specs.Terms.{Ample}
 use Rattle.theorems.proofs.Closure.{load→}
 use Rattle.theorems.proofs.RoundTrip.{loaded-saves, loaded-area}
 use Rattle.rules_disc.specs.declared.Entry.{Entry}
-use Rattle.rules_disc.specs.Disc.{entry, encodeEntry, tableSize, countIn, entriesIn, laid, contentsOk, entryOf, bodyOf, slotOf, entriesFrom, contentsOf, discBytes, listed, loadBody}
+use Rattle.rules_disc.specs.Disc.{entry, encodeEntry, tableSize, countIn, entriesIn, laid, contentsOk, entryOf, bodyAt, slotOf, entriesFrom, contentsOf, discBytes, entriesOk, loadBody}
 use Rattle.theorems.proofs.disc.Tables.{EntryFits, entry-layout}
 
 -- ---- the rule of a table, by its first entry
@@ -183,8 +183,8 @@ module _ (size at : ℕ) where
       (λ t. let n = eqb-false (e .slot) 0 t in let k : e .slot ≡ 1 = omega (arith, f .slot) in let y : _≡_ {A = Option Entry} (some e) none = rw (first-one e k) at q in none-some (sym y))
 
 -- entries of a right table fit four bytes
-pub listed-of : (size s at : ℕ) {es : List Entry} → Each EntryFits es → laid size s at es ≡ true → listed s es ≡ true
-unfolding listed
+pub listed-of : (size s at : ℕ) {es : List Entry} → Each EntryFits es → laid size s at es ≡ true → entriesOk s es ≡ true
+unfolding entriesOk
 listed-of size s at nothing h = refl
 listed-of size s at (one {x = e} {xs = es} f fs) h =
     let p = front size s at e es h in
@@ -230,16 +230,16 @@ pub record Named (l : Lengths) (a : Area) (b : List ℕ) (limit : ℕ) (o : Opti
   pub is : o ≡ some entry
   pub loads : load l a (take (entry .len) (drop (entry .offset) b)) limit ≡ Accepted x
 
-pub named : (l : Lengths) (a : Area) (b : List ℕ) (limit : ℕ) (o : Option Entry) (x : Index) → loadBody l a limit (bodyOf b o) ≡ Accepted (some x) → Named l a b limit o x
-unfolding loadBody bodyOf
+pub named : (l : Lengths) (a : Area) (b : List ℕ) (limit : ℕ) (o : Option Entry) (x : Index) → loadBody l a limit (bodyAt b o) ≡ Accepted (some x) → Named l a b limit o x
+unfolding loadBody bodyAt
 named l a b limit none x h = none-some (accepted-eq none (some x) h)
 named l a b limit (some e) x h =
     let u = bind→ (load l a (take (e .len) (drop (e .offset) b)) limit) (λ y. Accepted (some y)) (some x) h in
     let v : some (u .value) ≡ some x = accepted-eq (some (u .value)) (some x) (u .second) in
     record { entry = e; is = refl; loads = rw (← some-eq v) (u .first) }
 
-pub unnamed : (l : Lengths) (a : Area) (b : List ℕ) (limit : ℕ) (o : Option Entry) → loadBody l a limit (bodyOf b o) ≡ Accepted none → o ≡ none
-unfolding loadBody bodyOf
+pub unnamed : (l : Lengths) (a : Area) (b : List ℕ) (limit : ℕ) (o : Option Entry) → loadBody l a limit (bodyAt b o) ≡ Accepted none → o ≡ none
+unfolding loadBody bodyAt
 unnamed l a b limit none h = refl
 unnamed l a b limit (some e) h =
     let u = bind→ (load l a (take (e .len) (drop (e .offset) b)) limit) (λ y. Accepted (some y)) none h in

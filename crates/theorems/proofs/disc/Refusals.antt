@@ -18,7 +18,7 @@ use Rattle.rules.specs.Load.{load}
 use Rattle.rules.proofs.Tests.{test, both, →asked, →bind}
 use Rattle.laws.proofs.Length.{savedLength-is}
 use Rattle.blocks.specs.Blocks.{isIndex}
-use Rattle.rules_disc.specs.Disc.{slotOf, slotArea, contentsOk, contentsOf, listed, saveLists, saveOne, bySlot, saveBoth, loadBody, loadBodies, loadDisc}
+use Rattle.rules_disc.specs.Disc.{slotOf, slotArea, contentsOk, contentsOf, entriesOk, saveLists, saveOne, bySlot, saveBoth, loadBody, loadBodies, loadDisc}
 use Rattle.tables.specs.Index.{roomOf, indexIn, kindsIn}
 use Rattle.save.specs.Save.{saveOut}
 use Rattle.disc_load.specs.DiscLoad.{discOutOf, loadDiscIn}
@@ -43,15 +43,15 @@ unfolding bind
 refused-bind n r f e = rw e
 
 -- lists that pass 1 to 4, and not 54
-lists-refused : (p : Four) (xs : List Index) (out : ℕ) → p .one ≡ true → p .two ≡ true → p .three ≡ true → p .four ≡ true → listed 0 (contentsOf xs) ≡ false
+lists-refused : (p : Four) (xs : List Index) (out : ℕ) → p .one ≡ true → p .two ≡ true → p .three ≡ true → p .four ≡ true → entriesOk 0 (contentsOf xs) ≡ false
     → saveLists p xs out ≡ Refused 54
 unfolding saveLists after firstNo
 lists-refused p xs out a b c d e = rw (a, b, c, d, e) refl
 
 -- an offset or a length above four bytes
-too-wide : (x y : Index) → ((max32 < 28 + length (saved x)) ⊎ (max32 < length (saved y))) → listed 0 (contentsOf (x ∷ y ∷ [])) ≡ false
+too-wide : (x y : Index) → ((max32 < 28 + length (saved x)) ⊎ (max32 < length (saved y))) → entriesOk 0 (contentsOf (x ∷ y ∷ [])) ≡ false
 too-wide x y w =
-    test (listed 0 (contentsOf (x ∷ y ∷ [])))
+    test (entriesOk 0 (contentsOf (x ∷ y ∷ [])))
     (λ h.
     let f = first→ 0 28 x (y ∷ []) h in
     let g = first→ (slotOf x + 1) (28 + savedLength x) y [] (f .rest) in
@@ -62,9 +62,9 @@ too-wide x y w =
     not-both (inl a) p q = omega (arith, a, p, savedLength-is x .0)
     not-both (inr a) p q = omega (arith, a, q, savedLength-is y .0)
 
-too-wide-one : (x : Index) → max32 < length (saved x) → listed 0 (contentsOf (x ∷ [])) ≡ false
+too-wide-one : (x : Index) → max32 < length (saved x) → entriesOk 0 (contentsOf (x ∷ [])) ≡ false
 too-wide-one x w =
-    test (listed 0 (contentsOf (x ∷ [])))
+    test (entriesOk 0 (contentsOf (x ∷ [])))
     (λ h. let f = first→ 0 16 x [] h in let z : ⊥ = omega (arith, f .len, w, savedLength-is x .0) in absurd z) (λ h. h)
 
 pub disc-refusals : DiscRefusals

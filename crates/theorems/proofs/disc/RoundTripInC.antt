@@ -18,7 +18,7 @@ use Rattle.rules.specs.Sizes.{knownSized}
 use Rattle.rules.specs.File.{over}
 use Rattle.rules.proofs.Tests.{test, never, and-left, and-right}
 use Rattle.rules_disc.specs.declared.Entry.{Entry}
-use Rattle.rules_disc.specs.Disc.{entriesIn, entryOf, bodyOf, loadBody, loadDisc}
+use Rattle.rules_disc.specs.Disc.{entriesIn, entryOf, bodyAt, loadBody, loadDisc}
 use Rattle.laws.specs.Statements.{Savable, stripped}
 use Rattle.blocks.specs.Blocks.{blockOf, indexWords, isBlock, isIndex}
 use Rattle.blocks.proofs.RoundTrip.{index-back, index-is-head}
@@ -237,7 +237,7 @@ first-words a b c d answer h i j k e =
 
 -- the head that the list of a slot was written into is read as its numbers, and is a head
 slot-read : (a : Area) (b : List ℕ) (limit : ℕ) (t t' : Tables) (e : Option Entry) (o : Option Index) (x : AreaIndex) (head head' : List ℕ) → Bytes b
-    → loadBody (roomOf t) a limit (bodyOf b e) ≡ Accepted o → listedFrom o ≡ listed.Index x → tablesWith o t ≡ t' → over (blockOf (indexWords x)) head ≡ head'
+    → loadBody (roomOf t) a limit (bodyAt b e) ≡ Accepted o → listedFrom o ≡ listed.Index x → tablesWith o t ≡ t' → over (blockOf (indexWords x)) head ≡ head'
     → isBlock head ≡ true → (headIndex head' ≡ x) × (isIndex head' ≡ true)
 slot-read a b limit t t' e o x head head' g d i f w z =
     let s = in-slot t o x t' i f in

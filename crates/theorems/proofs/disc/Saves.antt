@@ -18,7 +18,7 @@ use Rattle.rules.specs.Values.{Index, Lengths}
 use Rattle.rules.specs.Questions.{areaOk, Four, both, askFour, fourOf}
 use Rattle.rules.proofs.Tests.{all→, →asked, and-right, both as each-of}
 use Rattle.rules_disc.specs.declared.Entry.{Entry}
-use Rattle.rules_disc.specs.Disc.{decodeEntry, tableSize, countIn, entriesIn, laid, contentsOk, entryOf, bodyOf, slotArea, slotOf, contentsOf, discBytes, discLength, listed, saveLists, saveOne, bySlot, saveBoth}
+use Rattle.rules_disc.specs.Disc.{decodeEntry, tableSize, countIn, entriesIn, laid, contentsOk, entryOf, bodyAt, slotArea, slotOf, contentsOf, discBytes, discLength, entriesOk, saveLists, saveOne, bySlot, saveBoth}
 use Rattle.theorems.specs.DiscFile.{disc, Whole, DiscSaves}
 use Rattle.theorems.proofs.disc.Tables.{Fit, entry-layout, disc-length}
 use Rattle.theorems.proofs.disc.Rebuilt.{Bodies, no-more, body, rebuilt, own-file, pair, single0, single1, no-slot, listed-of, Kept, kept, Named, named, unnamed}
@@ -65,18 +65,18 @@ module _ (b : List ℕ) (ok : contentsOk b ≡ true) where
     unfolding saveLists
     saves-own p out q1 q2 q3 q4 l =
         let d : discLength xs ≡ length b = sym (disc-length xs) ∙ ap length file in
-        →asked (askFour p (ask (listed 0 (contentsOf xs)) 54 ∷ ask (leb (discLength xs) out) 40 ∷ []))
+        →asked (askFour p (ask (entriesOk 0 (contentsOf xs)) 54 ∷ ask (leb (discLength xs) out) 40 ∷ []))
         (q1, (q2, (q3, (q4, (fit .rising, (le-leb (discLength xs) out (omega arith), tt))))))
         (ap (λ (z : List ℕ). Accepted z) file)
 
 -- one slot of an accepted disc file
-module _ (l : Lengths) (a : Area) (b : List ℕ) (limit : ℕ) (x : Index) (g : Bytes b) (o : Option Entry) (m : Whole limit a (bodyOf b o)) (n : Named l a b limit o x) where
+module _ (l : Lengths) (a : Area) (b : List ℕ) (limit : ℕ) (x : Index) (g : Bytes b) (o : Option Entry) (m : Whole limit a (bodyAt b o)) (n : Named l a b limit o x) where
   abbrev part : List ℕ
   part = take (n .entry .len) (drop (n .entry .offset) b)
 
   pub list-kept : Kept l a part x
-  unfolding bodyOf
-  list-kept = kept l a part limit x (bytes-part b (n .entry .offset) (n .entry .len) g) (λ w e. m part w (ap (bodyOf b) (n .is)) e) (n .loads)
+  unfolding bodyAt
+  list-kept = kept l a part limit x (bytes-part b (n .entry .offset) (n .entry .len) g) (λ w e. m part w (ap (bodyAt b) (n .is)) e) (n .loads)
 
 pub disc-saves : DiscSaves
 unfolding bySlot saveBoth saveOne

@@ -10,7 +10,7 @@ use Rattle.rules.specs.Tests.{Answer, Refused, Accepted, ask, firstNo, after, b
 use Rattle.rules.specs.Values.{Index}
 use Rattle.rules.specs.Questions.{areaOk}
 use Rattle.rules.specs.Load.{fromBytes, limited}
-use Rattle.rules_disc.specs.Disc.{entriesIn, entryOf, contentsOk, bodyOf, slotArea, loadBody, loadBodies, loadDisc}
+use Rattle.rules_disc.specs.Disc.{entriesIn, entryOf, contentsOk, bodyAt, slotArea, loadBody, loadBodies, loadDisc}
 use Rattle.rules.proofs.Tests.{asked→, →asked, accepted-eq, bind→, →bind}
 use Rattle.tables.specs.Index.{Tables, roomOf}
 use Rattle.rules.specs.declared.TableSizes.{TableSizes}
@@ -79,10 +79,10 @@ asked-refused true true f e = f e
 
 module _ (a0 a1 : Area) (b : List ℕ) (limit : ℕ) (t u : Tables) where
   abbrev first : Option (List ℕ)
-  first = bodyOf b (entryOf 0 (entriesIn b))
+  first = bodyAt b (entryOf 0 (entriesIn b))
 
   abbrev second : Option (List ℕ)
-  second = bodyOf b (entryOf 1 (entriesIn b))
+  second = bodyAt b (entryOf 1 (entriesIn b))
 
   disc-fits : (d : DiscSizes) → discSizes a0 a1 b limit ≡ Accepted d → hasSlot (d .slot0) t ≡ true → hasSlot (d .slot1) u ≡ true
       → LoadsInTables a0 a1 b limit t u

@@ -22,7 +22,7 @@ use Rattle.rules.specs.File.{saved, savedLength}
 use Rattle.rules.proofs.Tests.{all→, →all, test}
 use Rattle.laws.proofs.Length.{savedLength-is}
 use Rattle.rules_disc.specs.declared.Entry.{Entry}
-use Rattle.rules_disc.specs.Disc.{entry, encodeEntry, decodeEntry, tableSize, countIn, entriesIn, laid, contentsOk, entryOf, bodyOf, slotOf, entriesFrom, contentsOf, discBytes, bodiesLength, discLength, listed}
+use Rattle.rules_disc.specs.Disc.{entry, encodeEntry, decodeEntry, tableSize, countIn, entriesIn, laid, contentsOk, entryOf, bodyAt, slotOf, entriesFrom, contentsOf, discBytes, bodiesLength, discLength, entriesOk}
 
 -- ---- entries in bytes
 abbrev pub EntryFits : Entry → Type 0
@@ -39,22 +39,22 @@ pub record Fit (xs : List Index) : Type 0 where
   pub few : length xs ≤ 2
   pub some' : 1 ≤ length xs
   pub slots : Each (λ x. slotOf x ≤ 1) xs
-  pub rising : listed 0 (contentsOf xs) ≡ true
+  pub rising : entriesOk 0 (contentsOf xs) ≡ true
 
 module _ (s at : ℕ) (x : Index) (xs : List Index) where
   pub record First : Type 0 where
     pub slot : s ≤ slotOf x
     pub offset : at ≤ max32
     pub len : savedLength x ≤ max32
-    pub rest : listed (slotOf x + 1) (entriesFrom (at + savedLength x) xs) ≡ true
+    pub rest : entriesOk (slotOf x + 1) (entriesFrom (at + savedLength x) xs) ≡ true
 
-  pub first→ : listed s (entriesFrom at (x ∷ xs)) ≡ true → First
-  unfolding listed entriesFrom
+  pub first→ : entriesOk s (entriesFrom at (x ∷ xs)) ≡ true → First
+  unfolding entriesOk entriesFrom
   first→ h =
       let g = all→ _ h in
       record { slot = leb-true s (slotOf x) (g .0); offset = leb-true at max32 (g .1 .0); len = leb-true (savedLength x) max32 (g .1 .1 .0); rest = g .1 .1 .1 .0 }
 
-entries-fit : (s at : ℕ) {xs : List Index} → Each (λ x. slotOf x ≤ 1) xs → listed s (entriesFrom at xs) ≡ true → Each EntryFits (entriesFrom at xs)
+entries-fit : (s at : ℕ) {xs : List Index} → Each (λ x. slotOf x ≤ 1) xs → entriesOk s (entriesFrom at xs) ≡ true → Each EntryFits (entriesFrom at xs)
 unfolding entriesFrom
 entries-fit s at nothing h = nothing
 entries-fit s at (one {x = x} {xs = xs} p ps) h =
@@ -66,7 +66,7 @@ unfolding entriesFrom
 entries-length at [] = refl
 entries-length at (x ∷ xs) = ap suc (entries-length (at + savedLength x) xs)
 
-laid-of : (size s at : ℕ) {xs : List Index} → Each (λ x. slotOf x ≤ 1) xs → listed s (entriesFrom at xs) ≡ true → at + bodiesLength xs ≡ size
+laid-of : (size s at : ℕ) {xs : List Index} → Each (λ x. slotOf x ≤ 1) xs → entriesOk s (entriesFrom at xs) ≡ true → at + bodiesLength xs ≡ size
     → laid size s at (entriesFrom at xs) ≡ true
 unfolding laid entriesFrom bodiesLength
 laid-of size s at nothing h e = eq-eqb at size (sym (add-zero at) ∙ e)
@@ -123,8 +123,8 @@ unfoldable pub savedOf : ℕ → List Index → Option (List ℕ)
 savedOf k [] = none
 savedOf k (x ∷ xs) = cond (eqb (slotOf x) k) (some (saved x)) (savedOf k xs)
 
-body-in : (k : ℕ) (p : List ℕ) (at : ℕ) (xs : List Index) → length p ≡ at → bodyOf (p ++ bytesOf saved xs) (entryOf k (entriesFrom at xs)) ≡ savedOf k xs
-unfolding savedOf entriesFrom entryOf bodyOf bytesOf
+body-in : (k : ℕ) (p : List ℕ) (at : ℕ) (xs : List Index) → length p ≡ at → bodyAt (p ++ bytesOf saved xs) (entryOf k (entriesFrom at xs)) ≡ savedOf k xs
+unfolding savedOf entriesFrom entryOf bodyAt bytesOf
 body-in k p at [] e = refl
 body-in k p at (x ∷ xs) e =
     let s = saved x in
@@ -134,7 +134,7 @@ body-in k p at (x ∷ xs) e =
     test (eqb (slotOf x) k) (λ q. rw (q, b))
     (λ q. rw (q, ← append-assoc p s r) (body-in k (p ++ s) (at + savedLength x) xs (length-append p s ∙ rw (e, ← l))))
 
-pub body-is : (xs : List Index) (f : Fit xs) (k : ℕ) → bodyOf (discBytes xs) (entryOf k (entriesIn (discBytes xs))) ≡ savedOf k xs
+pub body-is : (xs : List Index) (f : Fit xs) (k : ℕ) → bodyAt (discBytes xs) (entryOf k (entriesIn (discBytes xs))) ≡ savedOf k xs
 unfolding discBytes
 body-is xs f k =
     rw (entries-are xs f, ← append-assoc (head xs) (table xs) (bytesOf saved xs)) (body-in k (head xs ++ table xs) (tableSize (length xs)) xs (table-length xs))

@@ -19,7 +19,7 @@ use Rattle.rules_lacks.specs.declared.Lacks.{Lacks}
 use Rattle.rules_lacks.specs.Lacks.{anyOf, missing, lacking, holdsAll, lacks}
 use Rattle.tables.specs.Index.{Tables, roomOf, indexIn, kindsIn, orFour, kinded}
 use Rattle.lacks.specs.Lacks.{lacksIn}
-use Rattle.blocks.specs.Blocks.{indexFrom, wordsIn, blockOf, isBlock, isIndex}
+use Rattle.blocks.specs.Blocks.{indexRead, wordsIn, blockOf, isBlock, isIndex}
 use Rattle.blocks.specs.RoundTrip.{Fits32, Fits64}
 use Rattle.player.specs.Block.{Called, called, into, inBlock, inHead, headIndex}
 use Rattle.player.specs.Player.{lacksWords, lacksCall}
@@ -81,7 +81,7 @@ bit-fits true = omega arith
 bit-fits false = omega arith
 
 head-fits : (b : List ℕ) → Fits32 (headIndex b .checkpoints) × (Fits32 (headIndex b .parts) × (Fits32 (headIndex b .malformed) × (Fits32 (headIndex b .hints) × Fits32 (headIndex b .confirmed))))
-unfolding headIndex indexFrom
+unfolding headIndex indexRead
 head-fits b = (omega arith, (omega arith, (omega arith, (omega arith, omega arith))))
 
 module _ (x : AreaIndex) (t : Tables) (y : AreaIndex) (u : Tables) where

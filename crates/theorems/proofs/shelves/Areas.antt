@@ -14,7 +14,7 @@ use Rattle.rules.specs.Values.{sameArea}
 use Rattle.rules.proofs.Same.{sameArea-eq, sameArea-self}
 use Rattle.rules.proofs.Tests.{test, never, and-left, and-right, or-left, or-right}
 use Rattle.rules_shelf.specs.declared.ShelfRecord.{ShelfRecord}
-use Rattle.rules_shelf.specs.Shelf.{noRecord, areaOf, placeOf, among, noTwo, dropAt, without}
+use Rattle.rules_shelf.specs.Shelf.{noRecord, areaOf, areaPlace, among, noTwo, dropAt, without}
 use Rattle.rules_shelf.proofs.Laws.{drop-none, drop-at-suc}
 use Rattle.theorems.specs.Shelf.{Parted, nothing, stays, goes, Older}
 use Rattle.theorems.proofs.shelves.Parting.{one-more, older-more, stay-mem}
@@ -24,12 +24,12 @@ Mem r rs = List·Memᴰ r rs
 
 -- ---- an area among records
 among-cons : (b : Area) (r : ShelfRecord) (rs : List ShelfRecord) → among b (r ∷ rs) ≡ (sameArea (areaOf r) b || among b rs)
-unfolding among placeOf
+unfolding among areaPlace
 among-cons b r rs =
     test (sameArea (areaOf r) b) (λ e. rw e (lt-ltb 0 (suc (length rs)) (omega arith)))
     (λ e.
-    test (ltb (placeOf b rs) (length rs)) (λ l. rw (e, l) (lt-ltb (suc (placeOf b rs)) (suc (length rs)) (let q = ltb-true (placeOf b rs) (length rs) l in omega arith)))
-    (λ l. rw (e, l) (le-ltb (suc (placeOf b rs)) (suc (length rs)) (let q = ltb-false (placeOf b rs) (length rs) l in omega arith))))
+    test (ltb (areaPlace b rs) (length rs)) (λ l. rw (e, l) (lt-ltb (suc (areaPlace b rs)) (suc (length rs)) (let q = ltb-true (areaPlace b rs) (length rs) l in omega arith)))
+    (λ l. rw (e, l) (le-ltb (suc (areaPlace b rs)) (suc (length rs)) (let q = ltb-false (areaPlace b rs) (length rs) l in omega arith))))
 
 pub among-mem : (rs : List ShelfRecord) (r : ShelfRecord) (b : Area) → Mem r rs → areaOf r ≡ b → among b rs ≡ true
 among-mem [] r b m e = absurd (List·Memᴰ·not-nil m)
@@ -39,7 +39,7 @@ among-mem (q ∷ rs) r b m e =
 
 pub among→ : (rs : List ShelfRecord) (b : Area) → among b rs ≡ true → (r : ShelfRecord) × Mem r rs × (areaOf r ≡ b)
 unfolding among
-among→ [] b e = never {b = ltb (placeOf b []) 0} e (le-ltb (placeOf b []) 0 (omega arith))
+among→ [] b e = never {b = ltb (areaPlace b []) 0} e (le-ltb (areaPlace b []) 0 (omega arith))
 among→ (q ∷ rs) b e =
     test (sameArea (areaOf q) b) (λ s. (q, List·Memᴰ·head refl, sameArea-eq (areaOf q) b s))
     (λ s. let f : among b rs ≡ true = sym (among-cons b q rs ∙ rw s) ∙ e in let h = among→ rs b f in (h .0, List·Memᴰ·tail (h .1), h .2))
@@ -79,24 +79,24 @@ last-no-two (r ∷ ks) n e f =
     (List·Memᴰ·append-cases ks m))) (last-no-two ks n (h .1) (λ q m. f q (List·Memᴰ·tail m)))
 
 -- ---- the record of an area
-pub place-at : (a : Area) (rs : List ShelfRecord) → placeOf a rs < length rs → areaOf (getD rs (placeOf a rs) noRecord) ≡ a
-unfolding placeOf
+pub place-at : (a : Area) (rs : List ShelfRecord) → areaPlace a rs < length rs → areaOf (getD rs (areaPlace a rs) noRecord) ≡ a
+unfolding areaPlace
 place-at a [] l = let f : ⊥ = omega arith in absurd f
 place-at a (r ∷ rs) l =
     test (sameArea (areaOf r) a) (λ e. rw e (sameArea-eq (areaOf r) a e))
-    (λ e. let m : suc (placeOf a rs) < suc (length rs) = rw e at l in rw e (place-at a rs (omega arith)))
+    (λ e. let m : suc (areaPlace a rs) < suc (length rs) = rw e at l in rw e (place-at a rs (omega arith)))
 
 drop-first : {r : ShelfRecord} (q : ShelfRecord) (rs : List ShelfRecord) → Mem r (dropAt 0 (q ∷ rs)) → Mem r rs
 unfolding dropAt
 drop-first q rs m = m
 
-absent : (a : Area) (rs : List ShelfRecord) → length rs ≤ placeOf a rs → among a rs ≡ false
+absent : (a : Area) (rs : List ShelfRecord) → length rs ≤ areaPlace a rs → among a rs ≡ false
 unfolding among
-absent a rs l = le-ltb (placeOf a rs) (length rs) l
+absent a rs l = le-ltb (areaPlace a rs) (length rs) l
 
 -- the others are of other areas
-others-apart : (a : Area) (rs : List ShelfRecord) → noTwo rs ≡ true → placeOf a rs < length rs → (r : ShelfRecord) → Mem r (dropAt (placeOf a rs) rs) → areaOf r ≢ a
-unfolding placeOf
+others-apart : (a : Area) (rs : List ShelfRecord) → noTwo rs ≡ true → areaPlace a rs < length rs → (r : ShelfRecord) → Mem r (dropAt (areaPlace a rs) rs) → areaOf r ≢ a
+unfolding areaPlace
 others-apart a [] h l r m = let f : ⊥ = omega arith in absurd f
 others-apart a (q ∷ rs) h l r m =
     let n = no-two-cons q rs h in
@@ -106,10 +106,10 @@ others-apart a (q ∷ rs) h l r m =
     let k : Mem r (dropAt 0 (q ∷ rs)) = rw e at m in
     none-of rs a (rw z at (n .0)) r (drop-first q rs k))
     (λ e.
-    let k : Mem r (dropAt (suc (placeOf a rs)) (q ∷ rs)) = rw e at m in
-    let j : suc (placeOf a rs) < suc (length rs) = rw e at l in
+    let k : Mem r (dropAt (suc (areaPlace a rs)) (q ∷ rs)) = rw e at m in
+    let j : suc (areaPlace a rs) < suc (length rs) = rw e at l in
     ⊎-elim (λ z w. never (ap (λ (x : ShelfRecord). sameArea (areaOf x) a) (sym z) ∙ rw w (sameArea-self a)) e)
-    (λ i. others-apart a rs (n .1) (omega arith) r i) (List·Memᴰ·cases-cons (rw (drop-at-suc (placeOf a rs) q rs) at k)))
+    (λ i. others-apart a rs (n .1) (omega arith) r i) (List·Memᴰ·cases-cons (rw (drop-at-suc (areaPlace a rs) q rs) at k)))
 
 -- ---- the records of other areas
 pub record Others (a : Area) (rs os : List ShelfRecord) : Type 0 where
@@ -121,10 +121,10 @@ pub record Others (a : Area) (rs os : List ShelfRecord) : Type 0 where
 pub others : (a : Area) (rs : List ShelfRecord) → noTwo rs ≡ true → Others a rs (without a rs)
 unfolding without dropAt
 others a rs h =
-    test (ltb (placeOf a rs) (length rs))
+    test (ltb (areaPlace a rs) (length rs))
     (λ e.
-    let l = ltb-true (placeOf a rs) (length rs) e in
-    let i = placeOf a rs in
+    let l = ltb-true (areaPlace a rs) (length rs) e in
+    let i = areaPlace a rs in
     let d = getD rs i noRecord in
     let p = take i rs in
     let q = drop (suc i) rs in
@@ -138,8 +138,8 @@ others a rs h =
       older = λ r s k. rw z at (older-more p d q k);
     })
     (λ e.
-    let l = ltb-false (placeOf a rs) (length rs) e in
-    let z : dropAt (placeOf a rs) rs ≡ rs = drop-none (placeOf a rs) rs l in
+    let l = ltb-false (areaPlace a rs) (length rs) e in
+    let z : dropAt (areaPlace a rs) rs ≡ rs = drop-none (areaPlace a rs) rs l in
     record {
       apart = λ r m. none-of rs a (absent a rs l) r (rw z at m);
       within = λ ks gs w. (gs, rw z at w, (λ x k. inr k), (λ x k. k));

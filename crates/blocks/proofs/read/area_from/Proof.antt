@@ -1,11 +1,11 @@
 use mathlib.Core.Path.{refl}
-use Rattle.blocks.specs.Blocks.{areaFrom}
+use Rattle.blocks.specs.Blocks.{areaRead}
 use borrow.Author.Needs.{needs}
 use Rattle.blocks.proofs.read.area_from.Statement.{statement}
 use Rattle.blocks.proofs.read.area_from.Tie as tie
 
 returns : tie.Need-returns
-unfolding areaFrom
+unfolding areaRead
 returns c = refl
 
 pub area-from-spec : {M : Type 1} → statement M

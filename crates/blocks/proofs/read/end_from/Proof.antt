@@ -1,15 +1,15 @@
 use borrow.Author.Tests.{eq-eqb, ne-eqb}
-use Rattle.blocks.specs.Blocks.{endFrom}
+use Rattle.blocks.specs.Blocks.{endRead}
 use borrow.Author.Needs.{needs}
 use Rattle.blocks.proofs.read.end_from.Statement.{statement}
 use Rattle.blocks.proofs.read.end_from.Tie as tie
 
 returns : tie.Need-returns
-unfolding endFrom
+unfolding endRead
 returns c = simp (eq-eqb _ 0 (c .if1 .taken))
 
 returns-2 : tie.Need-returns-2
-unfolding endFrom
+unfolding endRead
 returns-2 c = simp (ne-eqb _ 0 (c .if1 .left))
 
 pub end-from-spec : {M : Type 1} → statement M

@@ -1,19 +1,19 @@
 use borrow.Author.Tests.{eq-eqb, ne-eqb}
-use Rattle.blocks.specs.Blocks.{modeFrom}
+use Rattle.blocks.specs.Blocks.{modeRead}
 use borrow.Author.Needs.{needs}
 use Rattle.blocks.proofs.read.mode_from.Statement.{statement}
 use Rattle.blocks.proofs.read.mode_from.Tie as tie
 
 returns : tie.Need-returns
-unfolding modeFrom
+unfolding modeRead
 returns c = simp (eq-eqb _ 0 (c .if1 .taken))
 
 returns-2 : tie.Need-returns-2
-unfolding modeFrom
+unfolding modeRead
 returns-2 c = simp (ne-eqb _ 0 (c .before .if1 .left), eq-eqb _ 1 (c .if2 .taken))
 
 returns-3 : tie.Need-returns-3
-unfolding modeFrom
+unfolding modeRead
 returns-3 c = simp (ne-eqb _ 0 (c .before .if1 .left), ne-eqb _ 1 (c .if2 .left))
 
 pub mode-from-spec : {M : Type 1} → statement M

@@ -1,10 +1,10 @@
-use Rattle.blocks.specs.Blocks.{recorderFrom}
+use Rattle.blocks.specs.Blocks.{recorderRead}
 use borrow.Author.Needs.{needs}
 use Rattle.blocks.proofs.read.recorder_from.Statement.{statement}
 use Rattle.blocks.proofs.read.recorder_from.Tie as tie
 
 returns : tie.Need-returns
-unfolding recorderFrom
+unfolding recorderRead
 returns c = simp (c .before .area-from .ensures, c .mode-from .ensures)
 
 pub recorder-from-spec : {M : Type 1} → statement M

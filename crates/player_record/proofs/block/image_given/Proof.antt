@@ -1,14 +1,14 @@
 use borrow.Author.Tests.{eq-eqb, ne-eqb}
-use Rattle.blocks.specs.Blocks.{imageFrom}
+use Rattle.blocks.specs.Blocks.{imageRead}
 use Rattle.player_record.proofs.block.image_given.Statement.{statement}
 use Rattle.player_record.proofs.block.image_given.Tie as tie
 
 returns : tie.Need-returns
-unfolding imageFrom
+unfolding imageRead
 returns c = simp (eq-eqb _ 0 (c .if1 .taken))
 
 returns-2 : tie.Need-returns-2
-unfolding imageFrom
+unfolding imageRead
 returns-2 c = simp (ne-eqb _ 0 (c .if1 .left))
 
 pub image-given-spec : {M : Type 1} → statement M

@@ -37,7 +37,7 @@ use denote.Triple.Table.{entered, cited}
 use denote.Triple.Walked.{says, needs, Stays, stay-slice, stay-none, walkOf, AllGo, goes-slice, goes-none, Walks}
 use denote.Triple.Walked.{ends-at, walked, walk-meets}
 use denote.Exit.{yes}
-use Rattle.rules_shelf.specs.Shelf.{areaOf, placeOf}
+use Rattle.rules_shelf.specs.Shelf.{areaOf, areaPlace}
 use Rattle.shelf.specs.Steps.{Sound, listOf}
 use Rattle.shelf.proofs.Rows.{R, makesR, makesB}
 use Rattle.shelf.proofs.Values.{gives, calls-value}
@@ -85,7 +85,7 @@ module _ {M : Type 1} (𝓤 : URA M) (H : Heap 𝓤) (A : Atoms 𝓤) (W : Given
     abbrev Post : Val → SProp 𝓤
     Post = walkOf 𝓤 H A f.ended stayed (f.clauses 𝓤 H A mem run) .post (((κ, tt), (q, tt), tt, arg, at), tt)
 
-    exits : (r : ℕ) (v : Val) → r ≡ placeOf (areaOf g) (take n ys) → n < 2 ^ 64 → Is R g (vg ∷ [])
+    exits : (r : ℕ) (v : Val) → r ≡ areaPlace (areaOf g) (take n ys) → n < 2 ^ 64 → Is R g (vg ∷ [])
         → ent 𝓤 (⋆ 𝓤 H A (‵ (MutSlice (named 0) κ R .own (arg .0) (s ∷ [])) ∷ ‵ (flft κ q) ∷ ‵ (usize .own r (v ∷ []))
         ∷ [])) (Post v)
     exits r v e gn gg =
@@ -122,10 +122,10 @@ module _ {M : Type 1} (𝓤 : URA M) (H : Heap 𝓤) (A : Atoms 𝓤) (W : Given
         (λ i j. and-then ! (load ! (from ! (stop !)) (look ! 2 refl))
         (and-then ! (load ! (from ! (stop !)) (look ! 10 refl)) (no-more !))) (λ wa a ea ia.
         land ! (from ! (stop !)) (init ! 6 refl (LL.lawful U.the-type U′.the-laws 𝓤 H A W .typed a _ ia .0)) $
-        calls-value ! fm usize (wa ∷ vg ∷ []) (λ r. (r ≡ placeOf (areaOf g) (listOf a)) × (r ≤ a .n))
+        calls-value ! fm usize (wa ∷ vg ∷ []) (λ r. (r ≡ areaPlace (areaOf g) (listOf a)) × (r ≤ a .n))
         (gives 𝓤 H A (W .laws) place.ended (place.clauses 𝓤 H A mem run)
         (tt, tt, tt, (a, (g, tt)), (wa ∷ [], (vg ∷ [], tt))) tt (𝓣 .C #place) (fm #place) known-place
-        (makesB 𝓤 H A, (makesR 𝓤 H A, tt)) (ia, (gg, tt)) (λ r. (r ≡ placeOf (areaOf g) (listOf a)) × (r ≤ a .n))
+        (makesB 𝓤 H A, (makesR 𝓤 H A, tt)) (ia, (gg, tt)) (λ r. (r ≡ areaPlace (areaOf g) (listOf a)) × (r ≤ a .n))
         (id⊢ 𝓤 _) (factI 𝓤 (Sound a) (emp 𝓤) (ea .sound)) (λ r e. id⊢ 𝓤 _))
         (and-then ! (load ! (from ! (stop !)) (look ! 7 refl))
         (and-then ! (load ! (from ! (stop !)) (look ! 9 refl)) (no-more !))) (λ wr r er ir.
@@ -136,7 +136,7 @@ module _ {M : Type 1} (𝓤 : URA M) (H : Heap 𝓤) (A : Atoms 𝓤) (W : Given
         move ! (8 ∷ 9 ∷ []) $ free1 ! $ move ! (6 ∷ 7 ∷ []) $ free1 ! $
         move ! (4 ∷ 5 ∷ []) $ free1 ! $ move ! (2 ∷ 3 ∷ []) $ free1 ! $ free0 ! $
         owned ! usize (Is usize) (uint-makes 𝓤 H A W w64) r _ ir $ keep ! (1 ∷ 2 ∷ 0 ∷ []) $
-        by ! (exits r wr (er .0 ∙ ap (placeOf (areaOf g)) (ea .same)) gn gg))))))))))
+        by ! (exits r wr (er .0 ∙ ap (areaPlace (areaOf g)) (ea .same)) gn gg))))))))))
 
   walks : Walks 𝓤 H A f.ended stayed (WpFn 𝓤 H (𝓣 .C) (𝓣 .Λ) code.function) (f.clauses 𝓤 H A mem run)
   walks =

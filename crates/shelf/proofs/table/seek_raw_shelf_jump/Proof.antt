@@ -7,7 +7,7 @@ use contract.Running.{givenOf, tables, tablesOf}
 use denote.Triple.Spec.{tripleOf}
 use denote.Triple.Table.{entered, cited}
 use Rattle.shelf.specs.Steps.{Sound}
-use Rattle.shelf.specs.Shelf.{out, jumpCall}
+use Rattle.shelf.specs.Shelf.{shelfOut, jumpCall}
 use Rattle.shelf.proofs.Calls.{jumpAnswer, jump-answered}
 use Rattle.shelf.proofs.Lending.{Take, Write}
 use Rattle.shelf.proofs.Changing.{meets}
@@ -60,5 +60,5 @@ seek-raw-shelf-jump-spec 𝓤 H 𝓜 𝓖 𝓡 =
     (cited 𝓤 H (tripleOf 𝓤 H A changes.signature (changes.spec 𝓤 H A mem run)) 𝓜 𝓡 code.env changes-def.name
     changes-def.routine code.calls-shelf·jump-change (changes-met.met 𝓤 H 𝓜 𝓖 𝓡))
     (λ x ys g a. (tt, (λ sound. factI 𝓤 (Sound a) (emp 𝓤) sound), (λ r e. id⊢ 𝓤 _)))
-    (f.clauses 𝓤 H A mem run) (λ κ a gh r zs e. factI 𝓤 (out r zs ≡ jumpCall (a .1 .0) (a .0 .now) (a .1 .1 .0)) (emp 𝓤)
+    (f.clauses 𝓤 H A mem run) (λ κ a gh r zs e. factI 𝓤 (shelfOut r zs ≡ jumpCall (a .1 .0) (a .0 .now) (a .1 .1 .0)) (emp 𝓤)
     e))
