@@ -27,7 +27,7 @@ module _ (w p : ℕ) where
   pub below : (h : ℕ) (a : List ℕ) → h < 2 ^ w → fnvFrom w p h a < 2 ^ w
   unfolding fnvFrom
   below h [] k = k
-  below h (x ∷ a) k = below (fnvStep w p h x) a (mod-lt (bitXor h x * p) (pow-pos w))
+  below h (x ∷ a) k = below (fnvStep w p h x) a (mod-lt (bitXor x h * p) (pow-pos w))
 
   -- hashing what is left at i is one step, and then hashing what is left at i + 1
   turn : (h i : ℕ) (s : List ℕ) → i < length s

@@ -3,9 +3,10 @@ use Prim.Native.Nat.{ℕ, _*_, _%_, _^_}
 use mathlib.Core.List.{List, [], _∷_}
 use lib.Bits.{bitXor}
 
--- one byte: it is xored into the hash, and the result is multiplied by the prime, modulo 2 ^ w
+-- one byte: it is xored into the hash, and the result is multiplied by the prime, modulo 2 ^ w; bitXor goes through
+-- the digits of its first number, of which a byte has eight
 abbrev pub fnvStep : ℕ → ℕ → ℕ → ℕ → ℕ
-fnvStep w p h b = bitXor h b * p % 2 ^ w
+fnvStep w p h b = bitXor b h * p % 2 ^ w
 
 -- the hash of the bytes, from h
 unfoldable pub fnvFrom : ℕ → ℕ → ℕ → List ℕ → ℕ
