@@ -7,13 +7,14 @@ use rules::AreaIndex;
 use rules::Checkpoint;
 use rules::MAX_INTERVAL;
 use rules::MAX_MALFORMED_WARNINGS;
+use rules_coarsen::last_place;
 use sections::counted;
 use sections::frontier_of;
 use tables::get_checkpoint;
 use tables::read_lsn;
 ghost use mathlib.Core.Path.{_≡_};
 ghost use mathlib.Core.Bool.{true};
-ghost use Prim.Native.Nat.{_*_, _-_, _≤_};
+ghost use Prim.Native.Nat.{_*_, _≤_};
 ghost use lib.ListN.{length, getD};
 ghost use Rattle.rules.specs.Values.{lastCheckpoint};
 ghost use Rattle.rules_coarsen.specs.Coarse.{everyNth};
@@ -36,14 +37,6 @@ pub fn kept(n: u32, r: u32) -> u32
     ensures { λ q. ⌜ q ≡ keptOf n r ⌝ }
 {
     ((n as u64 + r as u64 - 1) / r as u64) as u32
-}
-
-// The place of the last of every r-th, m of them.
-fn last_place(m: u32, r: u32) -> usize
-    requires { ⌜ (1 ≤ m) × ((m - 1) * r ≤ 4294967295) ⌝ }
-    ensures { λ p. ⌜ p ≡ (m - 1) * r ⌝ }
-{
-    (m - 1) as usize * r as usize
 }
 
 // The last of every r-th of n checkpoints, m of them; zeros where there is none.
