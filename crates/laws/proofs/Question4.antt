@@ -17,7 +17,7 @@ use Rattle.fnv.specs.Fnv.{fnv64}
 use Rattle.rules.specs.Values.{Index}
 use Rattle.rules.specs.Sections.{marksOk}
 use Rattle.rules.specs.Hints.{unkept}
-use Rattle.rules.specs.Questions.{hintingOk, question1, question4, question2}
+use Rattle.rules.specs.Questions.{hintingOk, question4}
 use Rattle.rules.specs.File.{headerBytes, headerOf, encodeCheckpoint, encodeFrame, encodeHeld, encodeLsn, versionOf, hintSection, confirmedSection, bodyOf, saved}
 use Rattle.laws.proofs.hint_lists.Closure.{unmarked-stated}
 use Rattle.laws.proofs.hint_lists.KeptHints.{unmarked-marks, unkept-unmarked}
@@ -25,13 +25,8 @@ use Rattle.laws.specs.Statements.{stripped}
 use Rattle.laws.proofs.Marks.{unkept-length, unkept-ok}
 use Rattle.laws.proofs.Layouts.{checkpoint-layout, lsn-layout, hint-layout, confirmation-layout, header-bytes, held-bytes, hintWidths, hintValues, hintBytes}
 use Rattle.laws.proofs.Readers.{frame-bytes}
-use Rattle.laws.proofs.Facts.{SizeFacts, sized→}
-use Rattle.laws.proofs.Saved.{hintHeaderOf, hint-bytes, confirmed-bytes, load-of-save}
-use Rattle.laws.proofs.Loaded.{loaded-valid}
-use Rattle.rules.specs.Tests.{Accepted}
-use mathlib.Core.Logic.{_↔_}
-use Rattle.rules.specs.Sizes.{sized}
-use Rattle.rules.specs.Load.{fromBytes}
+use Rattle.laws.proofs.Facts.{SizeFacts}
+use Rattle.laws.proofs.Saved.{hintHeaderOf, hint-bytes, confirmed-bytes}
 
 -- ---- a saved list is bytes
 bytes-each-of : {A : Type 0} {P : A → Type 0} (e : A → List ℕ) → ((x : A) → P x → Bytes (e x)) → {xs : List A} → Each P xs → Bytes (bytesOf e xs)
@@ -63,11 +58,3 @@ unfolding question4 hintingOk
 four-stripped x m =
     let hs = x .hinting .hints in
     rw (unmarked-stated (x .fingerprint), unkept-ok (x .scan .area) hs, unkept-length hs, m, unmarked-marks (x .hinting .most) (unkept hs) (unkept-unmarked hs))
-
-pub question4-is-loading : (x : Index) → question1 x ≡ true → question2 x ≡ true → sized x ≡ true → marksOk (x .hinting .most) (x .hinting .hints) ≡ true
-    → (question4 x ≡ true) ↔ (fromBytes (x .scan .area) (saved x) ≡ Accepted (stripped x))
-unfolding question1
-question4-is-loading x o t s m = (
-  (λ q. load-of-save x (record { one = o; two = t; four = q; sizes = s })),
-  (λ e. rw (four-stripped x m) at (loaded-valid (x .scan .area) (saved x) (stripped x) (saved-bytes x (sized→ x s)) o e .four)),
-)

@@ -6,5 +6,4 @@ pub mod Merge
 pub mod Record
 pub mod Sizes
 pub mod Absorb
-pub mod Sections
 pub mod Theorems

@@ -11,12 +11,11 @@ use Rattle.rules.specs.Tests.{agree, ask, firstNo, Accepted, after}
 use Rattle.rules.specs.Values.{Scan, Index, Lengths, stated, isChecked}
 use Rattle.rules.specs.Questions.{question1, question2, question3, question4, four, hintingOk}
 use Rattle.rules.specs.Hints.{keep, keepsNothing, withHinting, withConfirmed, question13, question14, question53, addHints, keepHint, keepConfirmation}
-use Rattle.rules.specs.Merge.{further, mergedScan, merged, mergeNumber, merge, question41, question43}
-use Rattle.rules.specs.Load.{limited}
+use Rattle.rules.specs.Merge.{further, mergedScan, merged, mergeNumber, question41, question43}
 use Rattle.rules.specs.Create.{emptyIndex, bindFingerprint, new}
 use Rattle.rules.proofs.Tests.{test, given, and-left, and-right, both, all→, asked, accepted→}
 use Rattle.rules.proofs.Same.{sameArea-eq}
-use Rattle.laws.proofs.hint_lists.Closure.{add-hints-ok, mark-ok, keep-hinting-ok, merge-ok, bind-ok, new-ok, limit-ok}
+use Rattle.laws.proofs.hint_lists.Closure.{add-hints-ok, mark-ok, keep-hinting-ok, merge-ok, bind-ok, new-ok}
 use Rattle.laws.proofs.hint_lists.Lists.{All}
 use Rattle.laws.proofs.hint_lists.KeptHints.{Unmarked}
 use Rattle.rules.specs.declared.Hint.{Hint}
@@ -88,10 +87,6 @@ unfolding new
 new-holds l a k budget spacing most y e =
     moved (accepted→ _ (emptyIndex a k budget spacing most) y e .1) (new-ok a k budget spacing most)
 
-pub limit-holds : (limit : ℕ) (x : Index) → HintingHolds x → HintingHolds (limited limit x)
-unfolding limited
-limit-holds limit x e = limit-ok (x .scan .area) (x .fingerprint) limit (x .hinting) e
-
 -- ---- merge
 pub merged-holds : (own other : Index) → own .scan .area ≡ other .scan .area → HintingHolds own → HintingHolds other → HintingHolds (merged own other)
 unfolding merged
@@ -125,9 +120,3 @@ taken l m own other e =
       same = q .1 .1 .1 .1 .0;
       agreed = q .1 .1 .1 .1 .1 .1 .0;
     }
-
-pub merge-holds : (l m : Lengths) (own other y : Index) → merge l own m other ≡ Accepted y → HintingHolds y
-unfolding merge
-merge-holds l m own other y e =
-    let t = accepted→ (mergeNumber l own m other) (merged own other) y e in let c = taken l m own other (t .0) in
-    moved (t .1) (merged-holds own other (c .area) (holds-of own (c .four)) (holds-of other (c .four')))

@@ -16,7 +16,7 @@ use Rattle.rules.specs.declared.Fingerprint.the-variants.{Unknown, Checked}
 use Rattle.rules.specs.declared.Fingerprint.the-variants as fingerprint
 use Rattle.rules.specs.declared.Hint.{Hint}
 use Rattle.rules.specs.Tests.{isSome, orElse}
-use Rattle.rules.specs.Values.{Hinting, maxHints, maxList, mergeRoom, stated, isChecked, max32, max64, Lengths}
+use Rattle.rules.specs.Values.{Hinting, maxHints, maxList, mergeRoom, stated, isChecked, max64, Lengths}
 use Rattle.rules.specs.Sections.{hintLsn, hintOk, hintsOk, marksOk, confirmedLsn, confirmationOk, confirmationsOk}
 use Rattle.rules.specs.Questions.{hintingOk, hintingRoom}
 use Rattle.rules.specs.Hints.{lastOnes, thin, unkept, withHints, question13, question14, question53, withMark, placeOf, keep, withConfirmed}
@@ -238,10 +238,6 @@ merge-sized a f own other e d =
 pub limit-sized : (limit : ℕ) (r : Hinting) → hintingSized r ≡ true → hintingSized (limitedHinting limit r) ≡ true
 limit-sized limit r e = resized r (limitedHinting limit r) refl (λ h. all-sub _ (sub-last (min (min (r .most) (limit / 8)) (limit / 16)) (r .confirmed)) h) e
 
-pub new-sized : (a : Area) (k budget spacing most : ℕ) → leb spacing max32 ≡ true → hintingSized (newHinting a k budget spacing most) ≡ true
-unfolding hintingSized
-new-sized a k budget spacing most e = →all _ (e, (→each digestSized [] tt, tt))
-
 -- ---- the fingerprint
 -- merging states the own fingerprint, else the other's
 pub merged-stated : (f g : Fingerprint) → stated (mergedFingerprint f g) ≡ orElse (stated f) (stated g)
@@ -261,9 +257,6 @@ pub merge-known : (f g : Fingerprint) → knownSized (stated f) ≡ true → kno
 merge-known f g h k = rw (merged-stated f g) (either-sized (stated f) (stated g) h k)
 
 -- ---- room
-pub merge-room : (l : Lengths) (a : Area) (f : Fingerprint) (own other : Hinting) → hintingRoom l (mergedHinting a (isChecked f) own other .most) ≡ hintingRoom l (own .most)
-merge-room l a f own other = refl
-
 pub limit-room : (l : Lengths) (limit : ℕ) (r : Hinting) → hintingRoom l (r .most) ≡ true → hintingRoom l (limitedHinting limit r .most) ≡ true
 unfolding hintingRoom
 limit-room l limit r e =

@@ -144,9 +144,3 @@ module _ {A : Type 0} (key : A → ℕ) (meet : A → A → A) (x : A) where
   all-insert P p m [] h = rw insert-none (p, tt)
   all-insert P p m (y ∷ ys) h =
       insert-cases y ys (All P) (λ e. (p, h)) (λ e. (h .0, all-insert P p m ys (h .1))) (λ e. (m y e (h .0), h .1))
-
-  -- what holds of each afterwards held of each before, where it goes back from two that meet to the held one
-  pub all-before : (P : A → Type 0) → ((y : A) → key y ≡ key x → P (meet y x) → P y) → (ys : List A) → All P (insert key meet x ys) → All P ys
-  all-before P m [] h = tt
-  all-before P m (y ∷ ys) h =
-      insert-cases y ys (λ l. All P l → All P (y ∷ ys)) (λ e k. k .1) (λ e k. (k .0, all-before P m ys (k .1))) (λ e k. (m y e (k .0), k .1)) h

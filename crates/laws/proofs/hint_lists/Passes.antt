@@ -118,6 +118,3 @@ module _ {A : Type 0} {w : ℕ} {d : List ℕ → A} {e : A → List ℕ} {Fits 
     begins-at i h =
         let z : i ≡ j + (i - j) = omega arith in
         rw (z, ← (record-drop w d j new (i - j)), ← (record-drop w d j old (i - j))) (ap (λ (y : List ℕ). recordAt w d y (i - j)) begins-past)
-
-    pub begins-length : length new ≡ length (bytesOf e xs) + length (drop (j * w) old)
-    begins-length = ap length (s .bytes) ∙ length-append (bytesOf e xs) (drop (j * w) old)

@@ -1,16 +1,15 @@
 -- Laws of sections in the order of an LSN, over any key, test and meeting. Assumes nothing.
-use mathlib.Core.Path.{_≡_, refl}
-use mathlib.Core.Bool.{Bool, true, _&&_}
-use mathlib.Core.List.{List, [], _∷_, _++_, append-nil}
+use mathlib.Core.Path.{_≡_}
+use mathlib.Core.Bool.{Bool, true}
+use mathlib.Core.List.{List, [], _∷_, _++_}
 use Prim.Native.Nat.{ℕ, zero, suc, _<_, _≤_}
 use native.Mathlib.Omega.{arith}
 use lib.ListN.{length, getD}
-use Rattle.rules.specs.Tests.{walk}
 use Rattle.rules.specs.Sections.{risingOk, risen, rising}
 use Rattle.rules.specs.Hints.{insert}
 use Rattle.laws.specs.Order.{Rises}
 use Rattle.rules.proofs.Walk.{walk-none, walk-cons, walk-head, walk-tail, risen→, →risen}
-use Rattle.laws.proofs.hint_lists.Lists.{Sub, empty, same, skip, sub-none, sub-self, sub-append, All, all-sub, all-append, all-map, all-both, all-insert, insert-none, insert-cases}
+use Rattle.laws.proofs.hint_lists.Lists.{Sub, empty, same, skip, All, all-sub, all-map, all-insert, insert-none, insert-cases}
 
 -- ---- keys that rise from b on
 module _ {A : Type 0} (key : A → ℕ) where
@@ -83,48 +82,9 @@ module _ {A : Type 0} (key : A → ℕ) (ok : A → Bool) where
   pub rising-none : (start end : ℕ) → rising key ok start end [] ≡ true
   rising-none start end = →rising start end [] (record { order = tt; each = tt })
 
-  pub rising-cons : (start end : ℕ) (x : A) (xs : List A) → rising key ok start end (x ∷ xs) ≡ (risingOk key ok end start x && rising key ok (suc (key x)) end xs)
-  unfolding rising walk
-  rising-cons start end x xs = refl
-
-  -- a lower start, a higher end
-  pub rising-wider : (b c start end : ℕ) (xs : List A) → b ≤ start → end ≤ c → rising key ok start end xs ≡ true → rising key ok b c xs ≡ true
-  rising-wider b c start end xs l m e =
-      let r = rising→ start end xs e in
-      →rising b c xs
-      (record { order = rises-from key b start xs l (r .order); each = all-map (Inside key ok end) (Inside key ok c) (λ x h. let w = h .0 in (omega arith, h .1)) xs (r .each) })
-
   pub rising-sub : (start end : ℕ) {xs ys : List A} → Sub xs ys → rising key ok start end ys ≡ true → rising key ok start end xs ≡ true
   rising-sub start end {xs} {ys} s e =
       let r = rising→ start end ys e in →rising start end xs (record { order = rises-sub key start s (r .order); each = all-sub (Inside key ok end) s (r .each) })
-
-  pub rising-append : (start mid end : ℕ) (xs ys : List A) → start ≤ mid → mid ≤ end → rising key ok start mid xs ≡ true → rising key ok mid end ys ≡ true
-      → rising key ok start end (xs ++ ys) ≡ true
-  rising-append start mid end xs ys l m e d =
-      let r = rising→ start mid xs e in let w = rising→ start end xs (rising-wider start end start mid xs (omega arith) m e) in let s = rising→ mid end ys d in
-      →rising start end (xs ++ ys)
-      (record {
-        order = rises-append key start mid xs ys l (r .order) (all-map (Inside key ok mid) (λ x. key x < mid) (λ x h. h .0) xs (r .each)) (s .order);
-        each = all-append (Inside key ok end) xs ys (w .each) (s .each);
-      })
-
-  pub rising-left : (start end : ℕ) (xs ys : List A) → rising key ok start end (xs ++ ys) ≡ true → rising key ok start end xs ≡ true
-  rising-left start end xs ys e = rising-sub start end (rw append-nil at (sub-append (sub-self xs) (sub-none ys))) e
-
-  pub rising-right : (start end : ℕ) (xs ys : List A) → rising key ok start end (xs ++ ys) ≡ true → rising key ok start end ys ≡ true
-  rising-right start end xs ys e = rising-sub start end (sub-append (sub-none xs) (sub-self ys)) e
-
-  -- what comes before y is below it, and what comes behind is above it
-  pub rising-split : (start end : ℕ) (xs : List A) (y : A) (ys : List A) → rising key ok start end (xs ++ y ∷ ys) ≡ true
-      → (rising key ok start (key y) xs ≡ true) × (rising key ok (suc (key y)) end ys ≡ true)
-  rising-split start end xs y ys e =
-      let s = rises-split key start xs y ys (rising→ start end (xs ++ y ∷ ys) e .order) in
-      let l = rising→ start end xs (rising-left start end xs (y ∷ ys) e) .each in
-      let r = rising→ start end (y ∷ ys) (rising-right start end xs (y ∷ ys) e) .each in
-      let o = all-map (Inside key ok end) (λ x. ok x ≡ true) (λ x h. h .1) xs l in (
-        →rising start (key y) xs (record { order = s .1; each = all-both (λ x. key x < key y) (λ x. ok x ≡ true) xs (s .2) o }),
-        →rising (suc (key y)) end ys (record { order = s .3; each = r .1 }),
-      )
 
   pub rising-insert : (meet : A → A → A) (x : A) → ((y : A) → key y ≡ key x → key (meet y x) ≡ key x) → ((y : A) → key y ≡ key x → ok y ≡ true → ok (meet y x) ≡ true)
       → (start end : ℕ) (ys : List A) → start ≤ key x → key x < end → ok x ≡ true → rising key ok start end ys ≡ true → rising key ok start end (insert key meet x ys) ≡ true

@@ -6,13 +6,13 @@ use mathlib.Core.Option.{Option, none, some}
 use Prim.Native.Nat.{ℕ, zero, suc, _+_, _-_, _<_, _≤_, min}
 use native.Mathlib.Omega.{arith}
 use lib.Dec.{leb, ltb}
-use lib.ListN.{length, take}
-use borrow.Author.Tests.{leb-true, ltb-true, ltb-false, le-leb}
+use lib.ListN.{length}
+use borrow.Author.Tests.{leb-true, ltb-true, ltb-false}
 use Rattle.rules.specs.declared.Area.{Area}
 use Rattle.rules.specs.declared.Checkpoint.{Checkpoint}
 use Rattle.rules.specs.declared.Held.{Held}
 use Rattle.rules.specs.Tests.{walk}
-use Rattle.rules.specs.Values.{Frame, Scan, frameAt, used}
+use Rattle.rules.specs.Values.{Frame, Scan, frameAt}
 use Rattle.rules.specs.Sections.{Filled, unfilled, partOk, follows}
 use Rattle.rules.specs.Load.{fitting, within, limitedScan}
 use Rattle.rules.specs.Run.{Content, contentOf}
@@ -39,14 +39,6 @@ fit-at b (f ∷ fs) zero =
 fit-at b (f ∷ fs) (suc i) =
     choose (λ l. suc i < length l → frameAt l (suc i) ≡ frameAt fs i) (leb (length (f .bytes)) b) (f ∷ fitting (b - length (f .bytes)) fs) []
     (λ e l. fit-at (b - length (f .bytes)) fs i (omega arith)) (λ e l. let z : ⊥ = omega arith in absurd z)
-
--- they are the most first frames that fit: "drops last frames while they exceed the budget"
-pub fit-largest : (b : ℕ) (fs : List Frame) (k : ℕ) → k ≤ length fs → used (take k fs) ≤ b → k ≤ length (fitting b fs)
-unfolding used fitting
-fit-largest b [] k l u = omega arith
-fit-largest b (f ∷ fs) zero l u = omega arith
-fit-largest b (f ∷ fs) (suc k) l u =
-    let e = le-leb (length (f .bytes)) b (omega arith) in rw e (omega (arith, fit-largest (b - length (f .bytes)) fs k (omega arith) (omega arith)))
 
 -- their rule holds with the lowered budget
 fit-walk : (a : Area) (budget low : ℕ) (s : Filled) (b : ℕ) (fs : List Frame) → s .used + b ≡ low → walk (frameIn a budget) fill s fs ≡ true

@@ -1,47 +1,28 @@
 -- Absorbing, merging and loading with a limit keep question 4. Assumes nothing.
 use mathlib.Core.Path.{_≡_}
-use mathlib.Core.Bool.{true, cond, false}
-use mathlib.Core.List.{List, _++_}
-use Prim.Native.Nat.{ℕ, _≤_}
+use mathlib.Core.Bool.{true, cond}
+use mathlib.Core.List.{List}
+use Prim.Native.Nat.{ℕ}
 use lib.Dec.{eqb}
-use lib.ListN.{length}
 use borrow.Author.Tests.{eqb-true, eqb-false}
 use Rattle.rules.specs.declared.Mode.the-variants.{Stopped}
-use Rattle.rules.specs.Values.{Index, used, Frame, Scan, Recorder, Lengths}
-use Rattle.rules.specs.Questions.{scanOk, question1, question2, heldOk}
-use Rattle.rules.specs.Record.{absorb, absorbNumber, Absorbed, absorbedIndex, emptied, isStopped, withMode, joined, takenMalformed}
+use Rattle.rules.specs.Values.{Index, Scan, Recorder, Lengths}
+use Rattle.rules.specs.Questions.{scanOk, question1, question2}
+use Rattle.rules.specs.Record.{absorb, absorbNumber, Absorbed, absorbedIndex, emptied, isStopped, withMode}
 use Rattle.rules.specs.Merge.{question41, question43, mergedScan}
 use Rattle.rules.specs.Run.{Content}
 use Rattle.laws.specs.Kept.{Says, Sound, SoundIndex}
 use Rattle.rules.proofs.Tests.{choose, all→}
 use Rattle.rules.proofs.Same.{sameArea-eq}
-use Rattle.laws.proofs.scans.Parts.{held→, →held, held-append, held-counts}
-use Rattle.laws.proofs.scans.Scans.{scan-of, ScanIs, scan→, →scan}
+use Rattle.laws.proofs.scans.Scans.{ScanIs, scan→, →scan}
 use Rattle.laws.proofs.scans.Merge.{further-prefix, merged-ok}
 use Rattle.laws.proofs.scans.Limit.{limited-ok, limited-says}
 use Rattle.laws.proofs.scans.Record.{emptied-sound}
 use Rattle.laws.proofs.scans.Absorb.{absorb-asked, absorbed-ok}
-use Rattle.rules.specs.declared.Held.{Held}
-use Rattle.rules.specs.Create.{recorder}
-use Rattle.rules.specs.declared.Area.{Area}
 use mathlib.Core.Option.{Option}
 use Rattle.rules.specs.Load.{limitedScan}
-use Rattle.rules.specs.declared.Checkpoint.{Checkpoint}
-
--- ---- the part rule
-pub more-checkpoints : (a : Area) (k budget first : ℕ) (cs ds : List Checkpoint) (fs : List Frame) (ps : List Held) → heldOk a k budget first cs fs ps ≡ true
-    → heldOk a k budget first (cs ++ ds) fs ps ≡ true
-more-checkpoints a k budget first cs ds fs ps e = →held _ _ _ _ _ _ _ (held-append a k budget first cs ds fs ps (held→ _ _ _ _ _ _ _ e))
-
-pub held-few : (a : Area) (k budget first : ℕ) (cs : List Checkpoint) (fs : List Frame) (ps : List Held) → heldOk a k budget first cs fs ps ≡ true
-    → (length fs ≤ length ps) × (length ps ≤ length cs) × (used fs ≤ budget)
-held-few a k budget first cs fs ps e = held-counts a k budget first cs fs ps (held→ _ _ _ _ _ _ _ e)
 
 -- ---- scans
-pub absorb-closed : (l : Lengths) (x : Index) (m : Lengths) (r : Recorder) (image : Option ℕ) (ms : List ℕ) → absorbNumber l x m r image ms ≡ 0 → isStopped (r .mode) ≡ false
-    → scanOk (joined (x .scan) r (takenMalformed (x .scan) r ms)) ≡ true
-absorb-closed l x m r image ms e s = scan-of _ (absorbed-ok l x m r image ms e s)
-
 pub absorb-sound : (l : Lengths) (x : Index) (m : Lengths) (r : Recorder) (image : Option ℕ) (ms : List ℕ) → absorb l x m r image ms .number ≡ 0
     → SoundIndex (absorb l x m r image ms .index) × Sound (absorb l x m r image ms .recorder)
 unfolding absorb question1 question2
