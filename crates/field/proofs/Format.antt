@@ -6,7 +6,7 @@ use Prim.Native.Nat.{ℕ, zero, suc, _+_, _*_, _-_, _^_, _<_, _≤_}
 use native.Mathlib.Nat.{zero-mul, suc-mul, add-comm, mul-le-mul-right, pow-le-pow-right}
 use native.Mathlib.Numerals.{add-one}
 use native.Mathlib.Omega.{arith}
-use lib.ListN.{length, take, drop, getD, set, length-drop, length-take, length-append, take-append-drop}
+use lib.ListN.{length, take, drop, getD, set, length-drop, length-take, length-append}
 use lib.Seq.{take-add, take-at, drop-at, length-take-le, sets, sets-eq, set-at, append-snoc}
 use Rattle.field.specs.Number.{encode, decode, sameBytes}
 use Rattle.field.specs.Records.{records, bytesOf, Bytes, recordAt}
@@ -31,30 +31,6 @@ numbers w = record {
   fit = λ b l h. let p : 256 ^ length b ≤ 256 ^ w = pow-le-pow-right (let z : 0 < 256 = omega arith in z) l in omega (arith, decode-below b h);
 }
 
--- one layout after another
-module _ {A B C : Type 0} {w n : ℕ} {d : List ℕ → A} {e : A → List ℕ} {F : A → Type 0} {d' : List ℕ → B} {e' : B → List ℕ} {G : B → Type 0}
-    (l : Layout w d e F) (m : Layout n d' e' G) (make : A → B → C) (left : C → A) (right : C → B)
-    (is-left : (a : A) (b : B) → left (make a b) ≡ a) (is-right : (a : A) (b : B) → right (make a b) ≡ b) (whole : (c : C) → make (left c) (right c) ≡ c) where
-  pub both : Layout (w + n) (λ b. make (d (take w b)) (d' (drop w b))) (λ c. e (left c) ++ e' (right c)) (λ c. F (left c) × G (right c))
-  both = record {
-    size = λ c. rw (length-append, l .size (left c), m .size (right c));
-    byte = λ c. bytes-append (e (left c)) (e' (right c)) (l .byte (left c)) (m .byte (right c));
-    back = λ c f. rw (take-at (e (left c)) (e' (right c)) w (l .size (left c)), drop-at (e (left c)) (e' (right c)) w (l .size (left c)), l .back (left c) (f .0), m .back (right c) (f .1)) (whole c);
-    forth = λ b h g. rw (is-left, is-right, l .forth (take w b) (length-take-le w b (omega arith)) (bytes-take b w g), m .forth (drop w b) (simp length-drop (omega arith)) (bytes-drop b w g)) (take-append-drop w b);
-    fit = λ b h g. rw (is-left, is-right) (l .fit (take w b) (simp length-take (omega arith)) (bytes-take b w g), m .fit (drop w b) (simp length-drop (omega arith)) (bytes-drop b w g));
-  }
-
--- the same layout with what fits said otherwise
-pub refit : {A : Type 0} {w : ℕ} {d : List ℕ → A} {e : A → List ℕ} {F : A → Type 0} (G : A → Type 0) → Layout w d e F
-    → ((x : A) → G x → F x) → ((x : A) → F x → G x) → Layout w d e G
-refit G l to from = record {
-  size = l .size;
-  byte = l .byte;
-  back = λ x g. l .back x (to x g);
-  forth = l .forth;
-  fit = λ b h g. from _ (l .fit b h g);
-}
-
 -- ---- each of a list
 pub data Each {A : Type 0} (P : A → Type 0) : List A → Type 0 where
   none : Each P []
@@ -63,16 +39,6 @@ pub data Each {A : Type 0} (P : A → Type 0) : List A → Type 0 where
 pub each-append : {A : Type 0} {P : A → Type 0} {xs ys : List A} → Each P xs → Each P ys → Each P (xs ++ ys)
 each-append none q = q
 each-append (one p ps) q = one p (each-append ps q)
-
-pub each-take : {A : Type 0} {P : A → Type 0} {xs : List A} (k : ℕ) → Each P xs → Each P (take k xs)
-each-take zero p = none
-each-take (suc k) none = none
-each-take (suc k) (one p ps) = one p (each-take k ps)
-
-pub each-drop : {A : Type 0} {P : A → Type 0} {xs : List A} (k : ℕ) → Each P xs → Each P (drop k xs)
-each-drop zero p = p
-each-drop (suc k) none = none
-each-drop (suc k) (one p ps) = each-drop k ps
 
 pub each-at : {A : Type 0} {P : A → Type 0} {xs : List A} (k : ℕ) (z : A) → Each P xs → P z → P (getD xs k z)
 each-at k z none q = q
@@ -90,9 +56,6 @@ module _ {A : Type 0} (e : A → List ℕ) where
   unfolding bytesOf
   bytesOf-one x = append-nil (e x)
 
-  bytesOf-split : (k : ℕ) (xs : List A) → bytesOf e xs ≡ bytesOf e (take k xs) ++ bytesOf e (drop k xs)
-  bytesOf-split k xs = sym (ap (bytesOf e) (take-append-drop k xs)) ∙ bytesOf-append (take k xs) (drop k xs)
-
 module _ {A : Type 0} {w : ℕ} {d : List ℕ → A} {e : A → List ℕ} {Fits : A → Type 0} (l : Layout w d e Fits) where
   pub bytesOf-length : (xs : List A) → length (bytesOf e xs) ≡ length xs * w
   unfolding bytesOf
@@ -103,17 +66,6 @@ module _ {A : Type 0} {w : ℕ} {d : List ℕ → A} {e : A → List ℕ} {Fits 
   unfolding bytesOf
   bytesOf-bytes [] = λ i. omega arith
   bytesOf-bytes (x ∷ xs) = bytes-append (e x) (bytesOf e xs) (l .byte x) (bytesOf-bytes xs)
-
-  front-length : (k : ℕ) (xs : List A) → k ≤ length xs → length (bytesOf e (take k xs)) ≡ k * w
-  front-length k xs h = bytesOf-length (take k xs) ∙ rw (length-take-le k xs h)
-
-  pub take-bytesOf : (k : ℕ) (xs : List A) → k ≤ length xs → take (k * w) (bytesOf e xs) ≡ bytesOf e (take k xs)
-  take-bytesOf k xs h =
-      ap (take (k * w)) (bytesOf-split e k xs) ∙ take-at (bytesOf e (take k xs)) (bytesOf e (drop k xs)) (k * w) (front-length k xs h)
-
-  pub drop-bytesOf : (k : ℕ) (xs : List A) → k ≤ length xs → drop (k * w) (bytesOf e xs) ≡ bytesOf e (drop k xs)
-  drop-bytesOf k xs h =
-      ap (drop (k * w)) (bytesOf-split e k xs) ∙ drop-at (bytesOf e (take k xs)) (bytesOf e (drop k xs)) (k * w) (front-length k xs h)
 
   -- ---- read, and written again
   pub bytes-records : (n : ℕ) (t : List ℕ) → Bytes t → n * w ≤ length t → bytesOf e (records w d n t) ≡ take (n * w) t
@@ -141,10 +93,6 @@ module _ {A : Type 0} {w : ℕ} {d : List ℕ → A} {e : A → List ℕ} {Fits 
   records-bytes r none = refl
   records-bytes r (one {x = x} {xs = xs} f g) =
       rw (append-assoc, take-at (e x) (bytesOf e xs ++ r) w (l .size x), drop-at (e x) (bytesOf e xs ++ r) w (l .size x), l .back x f, records-bytes r g)
-
-  -- what is saved is loaded
-  pub round : (n : ℕ) (t r : List ℕ) → Bytes t → records w d n (bytesOf e (records w d n t) ++ r) ≡ records w d n t
-  round n t r b = rw (records-length w d n t) at (records-bytes r (records-fit n t b))
 
   -- the first n stretches of t, copied over the start of o, are the first n records
   pub written : {o' : List ℕ} (n : ℕ) (t o : List ℕ) → Bytes t → n * w ≤ length t

@@ -3,4 +3,3 @@ pub mod Fields
 pub mod Format
 pub mod Number
 pub mod Records
-pub mod Widths

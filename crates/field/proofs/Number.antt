@@ -1,19 +1,18 @@
 -- Laws of numbers in bytes, over any width. Assumes nothing.
 use mathlib.Core.Path.{_≡_, refl, sym, ap, _∙_}
-use mathlib.Core.Bool.{Bool, true, false, _||_}
-use mathlib.Core.Logic.{⊎-elim, _⊎_, inl, inr}
-use mathlib.Core.List.{List, [], _∷_, _++_, append-assoc}
-use Prim.Native.Nat.{ℕ, zero, suc, _+_, _*_, _-_, _/_, _%_, _^_, _<_, _≤_}
+use mathlib.Core.Bool.{true}
+use mathlib.Core.List.{List, [], _∷_, _++_}
+use Prim.Native.Nat.{ℕ, zero, suc, _+_, _*_, _/_, _%_, _^_, _<_, _≤_}
 use native.Mathlib.Nat.{add-zero, zero-add, pow-zero, mul-assoc, mod-add-div, div-div-eq-div-mul}
 use native.Mathlib.Numerals.{add-one}
 use native.Mathlib.Omega.{arith, pow-step}
 use borrow.Author.Tests.{leb-true}
 use lib.Dec.{leb}
-use lib.ListN.{length, take, drop, getD, set, length-drop, List·getD-append}
-use lib.Seq.{sets, sets-eq, length-sets, take-at, drop-at, drop-append-add, drop-drop, length-take-le, getD-take, drop-set-lt, drop-set-add, take-set-le}
+use lib.ListN.{length, take, drop, getD, length-drop, List·getD-append}
+use lib.Seq.{sets, sets-eq, length-sets, drop-drop, length-take-le, getD-take}
 use Rattle.field.specs.Number.{encode, decode, numberAt, put}
 use Rattle.field.specs.Records.{Bytes}
-use Rattle.field.proofs.Bytes.{bytes-take, bytes-drop, bytes-sets, sets-more}
+use Rattle.field.proofs.Bytes.{bytes-take, bytes-drop, sets-more}
 
 -- ---- encode and decode
 pub encode-length : (w v : ℕ) → length (encode w v) ≡ w
@@ -48,14 +47,6 @@ encode-decode (b ∷ bs) h =
     let e0 : (b + 256 * decode bs) % 256 ≡ b = omega arith in
     let e1 : (b + 256 * decode bs) / 256 ≡ decode bs = omega arith in
     rw (e0, e1, encode-decode bs (λ i. h (suc i)))
-
-pub decode-append : (a b : List ℕ) → decode (a ++ b) ≡ decode a + 256 ^ length a * decode b
-unfolding decode
-decode-append [] b = rw pow-zero (omega arith)
-decode-append (x ∷ a) b = rw (decode-append a b, pow-step) (omega arith)
-
-pub decode-same : (a b : List ℕ) → Bytes a → Bytes b → length a ≡ length b → decode a ≡ decode b → a ≡ b
-decode-same a b ha hb l e = sym (encode-decode a ha) ∙ rw (l, e) (encode-decode b hb)
 
 -- the low bytes, and then the high ones
 pub encode-add : (w n v : ℕ) → encode (w + n) v ≡ encode w v ++ encode n (v / 256 ^ w)
@@ -112,10 +103,6 @@ number-take w n t i h = number-same w (take n t) t i i (λ k l. getD-take n t (i
 pub number-append : (w : ℕ) (a b : List ℕ) (i : ℕ) → i + w ≤ length a → numberAt w (a ++ b) i ≡ numberAt w a i
 number-append w a b i h = number-same w (a ++ b) a i i (λ k l. List·getD-append a b 0 (i + k) (omega arith))
 
-pub number-append-add : (w : ℕ) (a b : List ℕ) (i : ℕ) → numberAt w (a ++ b) (length a + i) ≡ numberAt w b i
-unfolding numberAt
-number-append-add w a b i = rw drop-append-add
-
 -- a field of a stretch. That the field lies in it is a test, which computes at numerals
 pub number-part : (w n k i : ℕ) (t : List ℕ) → leb (i + w) n ≡ true → numberAt w (take n (drop k t)) i ≡ numberAt w t (k + i)
 number-part w n k i t h = number-take w n (drop k t) i (leb-true _ _ h) ∙ number-drop w k t i
@@ -151,50 +138,12 @@ pub put-sets : (w : ℕ) (t : List ℕ) (at v : ℕ) → put w t at v ≡ sets t
 unfolding put
 put-sets w t at v = refl
 
--- a number outside the stores is as it was
-number-set-other : (w : ℕ) (t : List ℕ) (j v i : ℕ) → (i + w ≤ j) ⊎ (j < i) → numberAt w (set t j v) i ≡ numberAt w t i
-unfolding numberAt
-number-set-other w t j v i o =
-    ⊎-elim
-    (λ (h : i + w ≤ j). let e : j ≡ i + (j - i) = omega arith in let g : w ≤ j - i = omega arith in rw (e, drop-set-add i t (j - i) v, take-set-le w (drop i t) (j - i) v g))
-    (λ (h : j < i). rw drop-set-lt)
-    o
-
-number-sets-other : (w : ℕ) (t : List ℕ) (j : ℕ) (vs : List ℕ) (i : ℕ) → (i + w ≤ j) ⊎ (j + length vs ≤ i) → numberAt w (sets t j vs) i ≡ numberAt w t i
-number-sets-other w t j [] i o = refl
-number-sets-other w t j (v ∷ vs) i o =
-    number-sets-other w (set t j v) (suc j) vs i (⊎-elim (λ (h : i + w ≤ j). inl (omega arith)) (λ (h : j + suc (length vs) ≤ i). inr (omega arith)) o)
-    ∙ number-set-other w t j v i (⊎-elim (λ (h : i + w ≤ j). inl h) (λ (h : j + suc (length vs) ≤ i). inr (omega arith)) o)
-
-pub number-put-other : (w n : ℕ) (t : List ℕ) (at v i : ℕ) → (i + w ≤ at) ⊎ (at + n ≤ i) → numberAt w (put n t at v) i ≡ numberAt w t i
-unfolding put
-number-put-other w n t at v i o = number-sets-other w t at (encode n v) i (rw encode-length o)
-
-either : (a b n m : ℕ) (p : Bool) → leb a b ≡ p → (p || leb n m) ≡ true → (a ≤ b) ⊎ (n ≤ m)
-either a b n m true q e = inl (leb-true a b q)
-either a b n m false q e = inr (leb-true n m e)
-
--- the same, where that the stretches are apart is a test
-pub number-put-apart : (w n : ℕ) (t : List ℕ) (at v i : ℕ) → (leb (i + w) at || leb (at + n) i) ≡ true → numberAt w (put n t at v) i ≡ numberAt w t i
-number-put-apart w n t at v i h = number-put-other w n t at v i (either (i + w) at (at + n) i (leb (i + w) at) refl h)
-
-pub number-put : (w : ℕ) (t : List ℕ) (at v : ℕ) → at + w ≤ length t → v < 256 ^ w → numberAt w (put w t at v) at ≡ v
-unfolding numberAt
-number-put w t at v h g =
-    let l : length (take at t) ≡ at = length-take-le at t (omega arith) in
-    rw (put-split w t at v h, append-assoc, drop-at (take at t) (encode w v ++ drop (at + w) t) at l, take-at (encode w v) (drop (at + w) t) w (encode-length w v))
-    (decode-encode w v g)
-
 -- a number written in two parts
 pub put-join : (w n : ℕ) (t : List ℕ) (at v : ℕ) → put n (put w t at (v % 256 ^ w)) (at + w) (v / 256 ^ w) ≡ put (w + n) t at v
 unfolding put
 put-join w n t at v =
     rw (encode-low w v, encode-add w n v)
     (rw (encode-length w v) at (sets-more (encode w v) (encode n (v / 256 ^ w)) t at))
-
-pub bytes-put : (w : ℕ) (t : List ℕ) (at v : ℕ) → Bytes t → Bytes (put w t at v)
-unfolding put
-bytes-put w t at v h = bytes-sets (encode w v) t at h (encode-bytes w v)
 
 -- the same number is in the same bytes
 pub stretch-same : (w : ℕ) (s t : List ℕ) (i j : ℕ) → Bytes s → Bytes t → i + w ≤ length s → j + w ≤ length t

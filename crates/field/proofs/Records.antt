@@ -1,11 +1,11 @@
 -- Laws of `records`, over any width and reader. Assumes nothing.
 use mathlib.Core.Path.{_≡_, refl, sym, ap, _∙_}
-use mathlib.Core.List.{List, [], _∷_, _++_, append-assoc}
+use mathlib.Core.List.{List, [], _∷_, _++_}
 use Prim.Native.Nat.{ℕ, zero, suc, _+_, _*_, _-_, _<_, _≤_}
 use native.Mathlib.Nat.{zero-mul, suc-mul, zero-add, suc-add, add-comm, add-mul, mul-le-mul-right}
 use native.Mathlib.Omega.{arith}
-use lib.ListN.{length, take, drop, getD, length-drop, length-append, List·getD-eq-default}
-use lib.Seq.{drop-drop, take-at, drop-at, take-take, take-append-le, length-take-le}
+use lib.ListN.{length, take, drop, getD, List·getD-eq-default}
+use lib.Seq.{drop-drop, take-at, drop-at, take-take, take-append-le}
 use Rattle.field.specs.Records.{records, recordAt}
 use Rattle.field.proofs.Bytes.{drop-take}
 
@@ -71,10 +71,6 @@ module _ {A : Type 0} (w : ℕ) (d : List ℕ → A) where
       let g : n * w ≤ k - w = omega arith in
       rw (take-take w k t f) (rw (q, drop-take w (k - w) t, records-take n (k - w) (drop w t) g))
 
-  -- the part t[at..at + n * w] has the n records from at on
-  pub records-within : (n at : ℕ) (t : List ℕ) → records w d n (take (at + n * w - at) (drop at t)) ≡ records w d n (drop at t)
-  records-within n at t = records-take n (at + n * w - at) (drop at t) (omega arith)
-
   pub records-same : (n : ℕ) (s t : List ℕ) → take (n * w) s ≡ take (n * w) t → records w d n s ≡ records w d n t
   records-same n s t e =
       sym (records-take n (n * w) s (omega arith)) ∙ ap (records w d n) e ∙ records-take n (n * w) t (omega arith)
@@ -88,53 +84,9 @@ module _ {A : Type 0} (w : ℕ) (d : List ℕ → A) where
       let h' : n * w ≤ length a = omega arith in
       records-add n m (a ++ b) ∙ rw (records-front n a b h', drop-at a b (n * w) h)
 
-  -- the first n of s copied over the start of t
-  pub records-copied : (n m : ℕ) (s t : List ℕ) → n * w ≤ length s
-      → records w d (n + m) (take (n * w) s ++ drop (n * w) t) ≡ records w d n s ++ records w d m (drop (n * w) t)
-  records-copied n m s t h =
-      records-join n m (take (n * w) s) (drop (n * w) t) (length-take-le (n * w) s h)
-      ∙ rw (records-take n (n * w) s (omega arith))
-
-  -- m records of s after the first n of t
-  pub records-appended : (n m : ℕ) (s t r : List ℕ) → n * w ≤ length t → m * w ≤ length s
-      → records w d (n + m) (take (n * w) t ++ (take (m * w) s ++ r)) ≡ records w d n t ++ records w d m s
-  records-appended n m s t r h k =
-      let k' : m * w ≤ length (take (m * w) s) = rw (length-take-le (m * w) s k) (omega arith) in
-      records-join n m (take (n * w) t) (take (m * w) s ++ r) (length-take-le (n * w) t h)
-      ∙ rw (records-take n (n * w) t (omega arith), records-front m (take (m * w) s) r k', records-take m (m * w) s (omega arith))
-
   -- a stretch of records lies in the table
   pub stretch-fits : (a m n : ℕ) (t : List ℕ) → a + m ≤ n → n * w ≤ length t → a * w + m * w ≤ length t
   stretch-fits a m n t l h =
       let f : (a + m) * w ≤ n * w = mul-le-mul-right w l in
       let f' : a * w + m * w ≤ n * w = rw add-mul at f in
       omega arith
-
-  -- the m records of o from number a on, copied after the n of t
-  pub appended : {t' : List ℕ} (n m a k : ℕ) (t o : List ℕ) → n * w ≤ length t → k * w ≤ length o → a + m ≤ k
-      → t' ≡ take (n * w) t ++ (take (m * w) (drop (a * w) o) ++ drop (n * w + m * w) t)
-      → records w d (n + m) t' ≡ records w d n t ++ take m (drop a (records w d k o))
-  appended n m a k t o h g l e =
-      let f = stretch-fits a m k o l g in
-      let u : m * w ≤ length (drop (a * w) o) = simp length-drop (omega arith) in
-      rw (e, ← records-part k a m o l) (records-appended n m (drop (a * w) o) t (drop (n * w + m * w) t) h u)
-
-  -- the m records of o from number a on, copied over those of t from number j on
-  pub copied-over : {t' : List ℕ} (n m j a k : ℕ) (t o : List ℕ) → j + m ≤ n → n * w ≤ length t → a + m ≤ k → k * w ≤ length o
-      → t' ≡ take (j * w) t ++ (take (m * w) (drop (a * w) o) ++ drop (j * w + m * w) t)
-      → records w d n t' ≡ take j (records w d n t) ++ take m (drop a (records w d k o)) ++ drop (j + m) (records w d n t)
-  copied-over {t'} n m j a k t o l h i g e =
-      let f = stretch-fits j m n t l h in
-      let f' = stretch-fits a m k o i g in
-      let u : m * w ≤ length (drop (a * w) o) = simp length-drop (omega arith) in
-      let v : j * w ≤ length t = omega arith in
-      let x = take (j * w) t in
-      let y = take (m * w) (drop (a * w) o) in
-      let z = drop (j * w + m * w) t in
-      let q : n ≡ j + m + (n - (j + m)) = omega arith in
-      let p : (j + m) * w ≡ j * w + m * w = add-mul j m w in
-      let lxy : length (x ++ y) ≡ (j + m) * w = length-append x y ∙ rw (length-take-le (j * w) t v, length-take-le (m * w) (drop (a * w) o) u, p) in
-      let rest : drop ((j + m) * w) t' ≡ drop ((j + m) * w) t =
-      ap (drop ((j + m) * w)) (e ∙ sym (append-assoc x y z)) ∙ drop-at (x ++ y) z ((j + m) * w) lxy ∙ rw p in
-      ap (λ (c : ℕ). records w d c t') q ∙ records-add (j + m) (n - (j + m)) t'
-      ∙ rw (appended j m a k t o v g i e, rest, take-records j n t (omega arith), drop-records (j + m) n t l)
