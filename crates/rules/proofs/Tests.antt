@@ -10,7 +10,7 @@ use lib.Dec.{eqb, leb, ltb}
 use lib.ListN.{length, take, drop, getD, set}
 use borrow.Author.Tests.{eqb-true, eqb-false, leb-true, ltb-true, ltb-false, lt-ltb}
 use Rattle.field.proofs.Format.{Each, none as nothing, one}
-use Rattle.rules.specs.Tests.{all, each, orElse, agree, agrees, Ask, ask, firstNo, Answer, Refused, Accepted, after, bind, numberOf}
+use Rattle.rules.specs.Tests.{all, each, agree, agrees, Ask, ask, firstNo, Answer, Refused, Accepted, after, bind, numberOf}
 
 -- ---- cases
 -- by cases on a test
@@ -183,17 +183,7 @@ unfolding agree
 agree-none same none = refl
 agree-none same (some a) = refl
 
-pub orElse-none : {A : Type 0} (o : Option A) → orElse o none ≡ o
-unfolding orElse
-orElse-none none = refl
-orElse-none (some a) = refl
-
 module _ {A : Type 0} (same : A → A → Bool) (self : (a : A) → same a a ≡ true) where
-  pub agree-self : (o : Option A) → agree same o o ≡ true
-  unfolding agree
-  agree-self none = refl
-  agree-self (some a) = self a
-
   -- two first parts of one list agree
   pub agrees-take : (n m : ℕ) (l : List A) → agrees same (take n l) (take m l) ≡ true
   unfolding agrees
@@ -228,10 +218,6 @@ Asked (q ∷ qs) = (q .ok ≡ true) × Asked qs
 abbrev pub numbered : List Ask → Bool
 numbered [] = true
 numbered (q ∷ qs) = leb 1 (q .number) && numbered qs
-
-pub firstNo-yes : (b : Bool) (n : ℕ) (qs : List Ask) → b ≡ true → firstNo (ask b n ∷ qs) ≡ firstNo qs
-unfolding firstNo
-firstNo-yes b n qs e = rw e
 
 -- a question of another number than the one that refuses was answered yes
 pub later : (b : Bool) (n m : ℕ) (qs : List Ask) → n ≢ m → firstNo (ask b n ∷ qs) ≡ m → (b ≡ true) × (firstNo qs ≡ m)

@@ -57,11 +57,6 @@ module _ {S A : Type 0} (next : S → A → S) where
   unfolding arrived
   arrived-cons s x xs = refl
 
-  pub arrived-append : (s : S) (xs ys : List A) → arrived next s (xs ++ ys) ≡ arrived next (arrived next s xs) ys
-  unfolding arrived
-  arrived-append s [] ys = refl
-  arrived-append s (x ∷ xs) ys = arrived-append (next s x) xs ys
-
   pub arrived-snoc : (s : S) (xs : List A) (x : A) → arrived next s (xs ++ (x ∷ [])) ≡ next (arrived next s xs) x
   unfolding arrived
   arrived-snoc s [] x = refl
@@ -113,12 +108,6 @@ module _ {S A : Type 0} (ok : S → A → Bool) (next : S → A → S) where
   walk-at d s [] i e l = let z : ⊥ = omega arith in absurd z
   walk-at d s (x ∷ xs) zero e l = rw (arrived-none next s) (walk-head s x xs e)
   walk-at d s (x ∷ xs) (suc i) e l = rw (arrived-cons next s x (take i xs)) (walk-at d (next s x) xs i (walk-tail s x xs e) (omega arith))
-
-  pub walk-of : (d : A) (s : S) (xs : List A) → ((i : ℕ) → i < length xs → ok (arrived next s (take i xs)) (getD xs i d) ≡ true) → walk ok next s xs ≡ true
-  walk-of d s [] h = walk-none s
-  walk-of d s (x ∷ xs) h =
-      walk-cons s x xs (rw (arrived-none next s) at (h zero (omega arith)))
-      (walk-of d (next s x) xs (λ i l. rw (arrived-cons next s x (take i xs)) at (h (suc i) (omega arith))))
 
 -- a rule that asks less
 pub walk-weaken : {S A : Type 0} (ok ok' : S → A → Bool) (next : S → A → S) → ((s : S) (x : A) → ok s x ≡ true → ok' s x ≡ true) → (s : S) (xs : List A) → walk ok next s xs ≡ true
