@@ -52,13 +52,6 @@ frame-length [] store i = refl
 frame-length (h ∷ hs) store zero = stretch-length (h .len) store
 frame-length (h ∷ hs) store (suc i) = frame-length hs (drop (h .len) store) i
 
--- the frame that has no store
-pub frame-blank : (hs : List FrameHeader) (i : ℕ) → frameOf (headerAt hs i) [] ≡ frameAt (framesOf hs []) i
-unfolding framesOf stretch
-frame-blank [] i = refl
-frame-blank (h ∷ hs) zero = refl
-frame-blank (h ∷ hs) (suc i) = rw drop-nil (frame-blank hs i)
-
 pub frames-used : (hs : List FrameHeader) (s t : List ℕ) → used (framesOf hs s) ≡ used (framesOf hs t)
 unfolding framesOf used
 frames-used [] s t = refl

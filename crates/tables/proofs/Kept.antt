@@ -15,14 +15,11 @@ use Rattle.field.specs.Fields.{FieldsFit}
 use Rattle.field.proofs.Number.{encode-add, encode-low, number-more, number-none, number-part, number-below, number-join}
 use Rattle.field.proofs.Format.{Layout, Each, one}
 use Rattle.field.proofs.Fields.{of-fields, fields-put}
-use Rattle.rules.specs.declared.Area.{Area}
 use Rattle.rules.specs.declared.Hint.{Hint}
 use Rattle.rules.specs.Values.{lim, maxList}
-use Rattle.rules.specs.Sections.{rising, hintLsn, hintOk, hintsOk}
 use Rattle.rules.specs.File.{encodeHint, decodeHint}
 use Rattle.rules.specs.Hints.{question13}
 use Rattle.rules.proofs.Tests.{and-right, each→, each-map}
-use Rattle.rules.proofs.Walk.{rising-each}
 use Rattle.tables.specs.Tables.{hintsIn, encodeKept, decodeKept, keptIn, keptWord}
 
 -- ---- the record of an index's table
@@ -86,9 +83,3 @@ kept-given (suc n) t (one p ps) = rw (given-record (take 8 t) p, kept-given n (d
 pub kept-13 : (n : ℕ) (t : List ℕ) → question13 (hintsIn n t) ≡ true → keptIn n t ≡ hintsIn n t
 unfolding question13
 kept-13 n t q = kept-given n t (each-map (λ h p. let l = ltb-true (h .number) lim p in omega arith) (each→ _ (hintsIn n t) (and-right (leb (length (hintsIn n t)) maxList) _ q)))
-
-pub kept-36 : (a : Area) (n : ℕ) (t : List ℕ) → hintsOk a (hintsIn n t) ≡ true → keptIn n t ≡ hintsIn n t
-unfolding hintsOk rising
-kept-36 a n t q =
-    kept-given n t (each-map (λ h p. let l = ltb-true (h .number) lim (p .1) in omega arith)
-    (rising-each hintLsn hintOk (a .end) (a .start) (hintsIn n t) q))

@@ -152,8 +152,3 @@ pub listed-records : {A : Type 0} (w : ℕ) (d : List ℕ → A) (n : ℕ) (b : 
 unfolding eachRead records
 listed-records w d zero b = refl
 listed-records w d (suc n) b = rw (listed-records w d n (drop w b))
-
-pub behind-records : (w n : ℕ) (b : List ℕ) → behindEach (drop w) n b ≡ drop (n * w) b
-unfolding behindEach
-behind-records w zero b = rw zero-mul
-behind-records w (suc n) b = rw (behind-records w n (drop w b), drop-drop, suc-mul, add-comm w (n * w))

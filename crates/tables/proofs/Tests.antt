@@ -1,7 +1,6 @@
 -- Laws of the tests of one record. Assumes nothing.
 use mathlib.Core.Path.{_≡_, refl, sym, subst}
 use mathlib.Core.Bool.{Bool, true, false, _&&_, _||_, and-true}
-use mathlib.Core.List.{[], _∷_}
 use Prim.Native.Nat.{ℕ, _+_, _*_, _-_, _^_, _<_, _≤_}
 use native.Mathlib.Nat.{mul-le-mul}
 use native.Mathlib.Numerals.{add-one}
@@ -22,11 +21,6 @@ product-most j k hj hk =
 
 pub product-fits : (j k : ℕ) → j < 4294967296 → k < 4294967296 → j * k < 2 ^ 64
 product-fits j k hj hk = omega (arith, product-most j k hj hk)
-
--- the last test of `all`
-pub all-one : (b : Bool) → all (b ∷ []) ≡ b
-unfolding all
-all-one b = and-true b
 
 -- at most what is left
 leb-by : (a b c : ℕ) (t : Bool) → leb b (c - a) ≡ t → a ≤ c → leb (a + b) c ≡ t
