@@ -2,7 +2,7 @@
 use mathlib.Core.Path.{_≡_, refl, ap, ap₂, _∙_}
 use mathlib.Core.Bool.{true, false, _&&_, not, cond}
 use mathlib.Core.List.{List, [], _∷_, _++_}
-use Prim.Native.Nat.{ℕ, zero, suc, _+_, _-_, _<_, _≤_}
+use Prim.Native.Nat.{ℕ, zero, suc, _+_, _<_, _≤_}
 use native.Mathlib.Omega.{arith}
 use borrow.Author.Tests.{le-leb}
 use lib.Dec.{leb, ltb}
@@ -15,13 +15,6 @@ use Rattle.rules_shelf.specs.declared.ShelfRecord.{ShelfRecord}
 use Rattle.rules_shelf.specs.Shelf.{noRecord, areaOf, sum, areaPlace, among, noTwo, dropAt, stampAt, older, oldestOf, oldest, roomy, makeRoom}
 
 -- ---- the place of an area
-pub place-le : (a : Area) (rs : List ShelfRecord) → areaPlace a rs ≤ length rs
-unfolding areaPlace
-place-le a [] = omega arith
-place-le a (r ∷ rs) =
-    choose (λ (n : ℕ). n ≤ suc (length rs)) (sameArea (areaOf r) a) 0 (suc (areaPlace a rs)) (λ _. omega arith)
-    (λ _. let h = place-le a rs in omega arith)
-
 module _ (a : Area) (rs : List ShelfRecord) (i : ℕ) (l : i < length rs) where
   pub place-here : sameArea (areaOf (getD rs i noRecord)) a ≡ true → areaPlace a (drop i rs) ≡ 0
   unfolding areaPlace
