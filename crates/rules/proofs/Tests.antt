@@ -1,5 +1,5 @@
 -- Laws of tests, questions and answers. Assumes nothing.
-use mathlib.Core.Path.{_≡_, refl}
+use mathlib.Core.Path.{_≡_, refl, sym}
 use mathlib.Core.Bool.{Bool, true, false, _&&_, _||_, not, cond}
 use mathlib.Core.Logic.{_⊎_, inl, inr, _≢_}
 use mathlib.Core.List.{List, [], _∷_, _++_}
@@ -35,6 +35,19 @@ choose P false x y f g = g refl
 pub given : {A : Type 0} (b : Bool) (x y : A) → cond b none (some x) ≡ some y → x ≡ y
 given true x y e = let z : _≡_ {A = ℕ} 0 1 = cc in let f : ⊥ = omega arith in absurd f
 given false x y e = cc
+
+-- two values that are there are one, and one that is there is not missing
+pub some-eq : {A : Type 0} {a b : A} → some a ≡ some b → a ≡ b
+some-eq e = cc
+
+pub none-some : {A P : Type 0} {a : A} → none ≡ some a → P
+none-some e = let z : _≡_ {A = ℕ} 0 1 = cc in let f : ⊥ = omega arith in absurd f
+
+-- two tests of which each says the other are one
+pub same-test : (a b : Bool) → (a ≡ true → b ≡ true) → (b ≡ true → a ≡ true) → a ≡ b
+same-test true b f g = sym (f refl)
+same-test false true f g = g refl
+same-test false false f g = refl
 
 -- ---- and, or
 pub and-left : (a b : Bool) → (a && b) ≡ true → a ≡ true
@@ -250,6 +263,10 @@ module _ {A : Type 0} where
   unfolding after
   →after h e = rw h e
 
+  pub refused-after : (n : ℕ) (r : Answer A) → n ≢ 0 → after n r ≡ Refused n
+  unfolding after
+  refused-after n r h = test (eqb n 0) (λ t. absurd (h (eqb-true n 0 t))) (λ t. rw t)
+
   pub accepted-eq : (x y : A) → _≡_ {A = Answer A} (Accepted x) (Accepted y) → x ≡ y
   accepted-eq x y e = cc
 
@@ -282,3 +299,8 @@ bind→ (Accepted a) f y e = record { value = a; first = refl; second = e }
 pub →bind : {A B : Type 0} {r : Answer A} {a : A} (f : A → Answer B) {s : Answer B} → r ≡ Accepted a → f a ≡ s → bind r f ≡ s
 unfolding bind
 →bind f h e = rw h e
+
+-- and refuses where the first answer does
+pub refused-bind : {A B : Type 0} {r : Answer A} (f : A → Answer B) (n : ℕ) → r ≡ Refused n → bind r f ≡ Refused n
+unfolding bind
+refused-bind f n e = rw e
