@@ -5,7 +5,7 @@ use mathlib.Core.List.{List, [], _∷_}
 use Prim.Native.Nat.{ℕ, zero, suc, _≤_}
 use native.Mathlib.Omega.{arith}
 use lib.Dec.{ltb}
-use lib.ListN.{take, getD}
+use lib.ListN.{length, take, getD}
 use borrow.Author.Tests.{ltb-true}
 use Rattle.rules.specs.Tests.{walk}
 use Rattle.rules.specs.Sections.{risingOk, risen, rising, ownLsn, anyLsn}
@@ -30,17 +30,22 @@ lower s t end (l ∷ ls) h w =
     let a = risen→ ownLsn anyLsn end t l (walk-head _ _ t l ls w) in let b = a .0 in
     walk-cons _ _ s l ls (→risen ownLsn anyLsn end s l (omega arith) (a .1) refl) (walk-tail _ _ t l ls w)
 
-below-yes : (b l : ℕ) (ls : List ℕ) → ltb l b ≡ true → below b (l ∷ ls) ≡ l ∷ below b ls
+pub below-yes : (b l : ℕ) (ls : List ℕ) → ltb l b ≡ true → below b (l ∷ ls) ≡ l ∷ below b ls
 unfolding below
 below-yes b l ls e = rw e
 
-below-no : (b l : ℕ) (ls : List ℕ) → ltb l b ≡ false → below b (l ∷ ls) ≡ below b ls
+pub below-no : (b l : ℕ) (ls : List ℕ) → ltb l b ≡ false → below b (l ∷ ls) ≡ below b ls
 unfolding below
 below-no b l ls e = rw e
 
-below-none : (b : ℕ) → below b [] ≡ []
+pub below-none : (b : ℕ) → below b [] ≡ []
 unfolding below
 below-none b = refl
+
+pub below-few : (b : ℕ) (ls : List ℕ) → length (below b ls) ≤ length ls
+below-few b [] = rw (below-none b) (omega arith)
+below-few b (l ∷ ls) =
+    test (ltb l b) (λ e. rw (below-yes b l ls e) (omega (arith, below-few b ls))) (λ e. rw (below-no b l ls e) (omega (arith, below-few b ls)))
 
 -- the first n below a bound rise up to it
 pub below-rises : (b end n s : ℕ) (ls : List ℕ) → Rises s end ls → Rises s b (take n (below b ls))

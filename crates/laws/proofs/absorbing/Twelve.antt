@@ -1,9 +1,9 @@
 -- Question 12 by tests on what is not yet joined. Assumes nothing.
-use mathlib.Core.Path.{_≡_, refl, sym}
-use mathlib.Core.Bool.{Bool, true, false}
+use mathlib.Core.Path.{_≡_, refl}
+use mathlib.Core.Bool.{Bool, true}
 use mathlib.Core.Logic.{⊎-elim}
 use mathlib.Core.List.{List, [], _∷_, _++_}
-use mathlib.Core.Option.{Option, none, some}
+use mathlib.Core.Option.{Option}
 use Prim.Native.Nat.{ℕ, _+_, _-_, _≤_, min}
 use native.Mathlib.Nat.{add-zero}
 use native.Mathlib.Omega.{arith}
@@ -13,24 +13,18 @@ use lib.Seq.{getD-drop, length-take-le}
 use borrow.Author.Tests.{leb-true, le-leb, leb-false}
 use Rattle.field.specs.Number.{sameBytes}
 use Rattle.rules.specs.declared.Checkpoint.{Checkpoint}
-use Rattle.rules.specs.declared.EndState.{EndState}
-use Rattle.rules.specs.Tests.{all, walk, isSome, orElse}
+use Rattle.rules.specs.Tests.{all, walk, isSome}
 use Rattle.rules.specs.Values.{Scan, Index, Recorder, maxMalformed, max32, noCheckpoint, checkpointAt, lastCheckpoint, boundaries, count, counted}
 use Rattle.rules.specs.Sections.{Passed, begun, passed, checkpointOk, checkpointsOk, endingOk, malformedOk, rising, ownLsn, anyLsn}
 use Rattle.rules.specs.Questions.{scanOk, hintingOk, question4, endOf}
 use Rattle.rules.specs.Record.{question12, joined, moves}
-use Rattle.rules.proofs.Tests.{test, or-left, or-right, or-cases, all→, →all}
+use Rattle.rules.proofs.Tests.{test, or-left, or-right, or-cases, all→, →all, same-test}
 use Rattle.rules.proofs.Walk.{arrived, walk-none, walk-cons, walk-head, walk-tail, walk-right, walk-join, walk-at, arrived-none}
 use Rattle.laws.proofs.scans.Scans.{checkpoint→, →checkpoint, checkpoints-walk, passed-number, passed-last, StretchIs, RecorderIs, ScanIs, scan→, →scan}
 use Rattle.laws.proofs.scans.Merge.{index-takes}
 use Rattle.laws.specs.Twelve.{common, notBelow, continues, takenBelow, listOk, joinedOk}
 use Rattle.laws.proofs.absorbing.Rising.{taken-rises, rising-first}
-
--- two tests that imply each other
-same-tests : (a b : Bool) → (a ≡ true → b ≡ true) → (b ≡ true → a ≡ true) → a ≡ b
-same-tests true b f g = sym (f refl)
-same-tests false true f g = g refl
-same-tests false false f g = refl
+use Rattle.laws.proofs.scans.Absorb.{joined-full}
 
 -- ---- checkpoints
 notBelow→ : (c d : Checkpoint) → notBelow c d ≡ true → (c .threshold ≤ d .threshold) × (c .malformed ≤ d .malformed)
@@ -89,13 +83,6 @@ module _ (k first : ℕ) (cs ds : List Checkpoint) (joins : first ≤ length cs)
       or-right (leb (length ds) i) (→notBelow (lastCheckpoint cs) (checkpointAt ds i) (rw (← p .0) (h .rises)) (rw (← p .1) (h .counts))))
 
 -- ---- the joined list
--- a complete one has all checkpoints
-full : (n m first b : ℕ) (e e' : Option EndState) → first ≤ n → n ≤ b → first + m ≤ b → (isSome e ≡ true → n ≡ b) → (isSome e' ≡ true → first + m ≡ b) → isSome (orElse e' e) ≡ true
-    → n + (m - (n - first)) ≡ b
-unfolding orElse isSome
-full n m first b e none l w w' f f' x = let y = f x in omega arith
-full n m first b e (some v) l w w' f f' x = let y = f' refl in omega arith
-
 module _ (x : Scan) (r : Recorder) (ok : ScanIs x) (ok' : RecorderIs r) (ea : r .area ≡ x .area) (ei : r .interval ≡ x .interval) (joins : r .first ≤ count x) where
   theirs : StretchIs (x .area) (x .interval) (r .budget) (r .first) (r .checkpoints) (r .frames) (r .parts) (endOf (r .mode))
   theirs = rw (ea, ei) at ok'
@@ -114,7 +101,7 @@ module _ (x : Scan) (r : Recorder) (ok : ScanIs x) (ok' : RecorderIs r) (ea : r 
           stretch =
               record {
                 within = omega arith;
-                full = λ z. let y = full (count x) (length (r .checkpoints)) (r .first) _ (x .ending) (endOf (r .mode)) joins (omega arith) u' whole (t .full) z in omega arith;
+                full = λ z. let y = joined-full (count x) (length (r .checkpoints)) (r .first) _ (x .ending) (endOf (r .mode)) joins (omega arith) u' whole (t .full) z in omega arith;
                 checkpoints = →continued (x .interval) (r .first) (x .checkpoints) (r .checkpoints) joins (s .checkpoints) (t .checkpoints) cs;
                 held =
                     index-takes (λ i c. Unit {0}) (x .area) (x .interval) (x .budget) (r .budget) (r .first) (x .checkpoints) (r .checkpoints) (r .frames) (r .parts)
@@ -136,7 +123,7 @@ module _ (x : Scan) (r : Recorder) (ok : ScanIs x) (ok' : RecorderIs r) (ea : r 
         ∷ endingOk (x .area) (joined x r [] .checkpoints) (joined x r [] .ending) ∷ [])
     unfolding listOk malformedOk
     joined-tests hs h =
-        same-tests _ _
+        same-test _ _
         (λ e.
         let a = all→ _ e in
         let j = scan→ (joined x r w) (all→ (scanOk (joined x r w) ∷ hs ∷ []) (a .1 .1 .1 .0) .0) in

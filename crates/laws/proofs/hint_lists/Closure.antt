@@ -78,7 +78,7 @@ checked-known Unknown e = e
 checked-known (fingerprint.Held v) e = refl
 checked-known (Checked v) e = refl
 
-merged-known : (f g : Fingerprint) → isSome (stated f) ≡ true → isSome (stated (mergedFingerprint f g)) ≡ true
+pub merged-known : (f g : Fingerprint) → isSome (stated f) ≡ true → isSome (stated (mergedFingerprint f g)) ≡ true
 unfolding stated isSome mergedFingerprint
 merged-known Unknown g e = never {b = false} e refl
 merged-known (fingerprint.Held v) g e = refl
@@ -248,7 +248,7 @@ merged-stated Unknown (Checked v) = refl
 merged-stated (fingerprint.Held v) g = refl
 merged-stated (Checked v) g = refl
 
-either-sized : (f g : Option ℕ) → knownSized f ≡ true → knownSized g ≡ true → knownSized (orElse f g) ≡ true
+pub either-sized : (f g : Option ℕ) → knownSized f ≡ true → knownSized g ≡ true → knownSized (orElse f g) ≡ true
 unfolding orElse
 either-sized none g h k = k
 either-sized (some v) g h k = h

@@ -109,7 +109,7 @@ module _ (a : Area) (k first : ℕ) (cs ds : List Checkpoint) (ms : List ℕ) (p
       (eq-or-lt-of-le (let z : 0 ≤ length cs = omega arith in z))
 
 -- a complete list has all checkpoints
-joined-full : (n m first b : ℕ) (e e' : Option EndState) → first ≤ n → n ≤ b → first + m ≤ b → (isSome e ≡ true → n ≡ b) → (isSome e' ≡ true → first + m ≡ b) → isSome (orElse e' e) ≡ true
+pub joined-full : (n m first b : ℕ) (e e' : Option EndState) → first ≤ n → n ≤ b → first + m ≤ b → (isSome e ≡ true → n ≡ b) → (isSome e' ≡ true → first + m ≡ b) → isSome (orElse e' e) ≡ true
     → n + (m - (n - first)) ≡ b
 unfolding orElse isSome
 joined-full n m first b e none l w w' f f' x = let y = f x in omega arith

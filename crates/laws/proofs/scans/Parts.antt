@@ -18,7 +18,7 @@ use Rattle.rules.specs.Sections.{Filled, unfilled, filled, frameOk, framesOk, f
 use Rattle.rules.specs.Questions.{heldOk}
 use Rattle.laws.specs.Kept.{Grow}
 use Rattle.rules.proofs.Tests.{test, all→, →all, or-cases, or-left, or-right}
-use Rattle.rules.proofs.Walk.{Snoc, ends, lastOr-snoc, arrived, arrived-none, arrived-cons, arrived-snoc, walk-none, walk-head, walk-tail, walk-last, walk-at, walk-weaken}
+use Rattle.rules.proofs.Walk.{Snoc, ends, lastOr-snoc, arrived, arrived-none, arrived-cons, arrived-snoc, walk-none, walk-head, walk-tail, walk-last, walk-at, walk-weaken, walk-rises}
 
 -- ---- frames
 -- a frame in its state, and the state after it
@@ -227,6 +227,13 @@ module _ (a : Area) (k first : ℕ) (cs : List Checkpoint) (fs : List Frame) whe
   latest-below o (p ∷ ps) l e =
       let x = part→ a k first cs fs o p (walk-head (partOk a k first cs fs) keep o p ps e) .0 .high in
       rw (arrived-cons keep o p ps) (latest-below (some p) ps (omega arith) (walk-tail (partOk a k first cs fs) keep o p ps e))
+
+-- the checkpoints that parts belong to rise
+pub parts-rise : (a : Area) (k first : ℕ) (cs : List Checkpoint) (fs : List Frame) (ps : List Held) → walk (partOk a k first cs fs) keep none ps ≡ true → (i j : ℕ) → i < j → j < length ps
+    → getD ps i noHeld .at < getD ps j noHeld .at
+parts-rise a k first cs fs ps h i j l m =
+    let w = walk-rises (partOk a k first cs fs) keep (λ p. p .at) atAfter 1 (λ o p x. follows→ o p (part→ a k first cs fs o p x .1) .0) (λ o p. omega arith) noHeld none ps i j h l m in
+    omega arith
 
 -- no more frames than parts, no more parts than checkpoints, no more bytes than the budget
 pub held-counts : (a : Area) (k budget first : ℕ) (cs : List Checkpoint) (fs : List Frame) (ps : List Held) → HeldIs a k budget first cs fs ps
