@@ -24,7 +24,7 @@ use Rattle.tables.specs.Index.{Tables, roomOf, indexIn, kindsIn, orFour, idIn}
 use Rattle.index.proofs.Lent.{sized-in}
 use Rattle.index.proofs.Standing.{stands, kinds-from}
 use Rattle.tables.specs.Recorder.{RecorderTables, recorderRoom, recorderIn, recorderKinds, recorderFrom}
-use Rattle.absorb.specs.Absorb.{absorbed, kindedBoth, absorbedOutOf, absorbIn}
+use Rattle.absorb.specs.Absorb.{kindedBoth, absorbedOutOf, absorbIn}
 use Rattle.absorb.specs.Absorb as absorbing
 use Rattle.tables.specs.Tables.{givenIn}
 use Rattle.theorems.specs.Terms.{Valid, ValidRecorder}

@@ -17,7 +17,6 @@ use Rattle.rules.specs.declared.Recorder.{Recorder}
 use Rattle.rules.specs.declared.UnderAssembly.{UnderAssembly}
 use Rattle.rules.specs.Tests.{Answer, Refused, Accepted, after, ask, firstNo, numberOf}
 use Rattle.rules.specs.Values.{max32, boundaries, lastCheckpoint}
-use Rattle.rules.specs.Values as values
 use Rattle.rules.specs.Sections.{endOk}
 use Rattle.rules.specs.Questions.{areaOk, numbersOk}
 use Rattle.rules.specs.Plan.{planned}

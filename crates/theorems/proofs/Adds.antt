@@ -5,14 +5,14 @@ use mathlib.Core.List.{List}
 use Prim.Native.Nat.{ℕ}
 use borrow.Author.Tests.{eqb-true}
 use lib.Dec.{eqb}
-use Rattle.rules.specs.Tests.{all, Answer, Accepted, after}
+use Rattle.rules.specs.Tests.{Answer, Accepted}
 use Rattle.rules.specs.Values.{Scan, Index, Lengths, sameCheckpoint, sameEnd}
 use Rattle.rules.specs.Questions.{question1, question2, question3, question4}
 use Rattle.rules.specs.Plan.{plan, bytesAt}
 use Rattle.rules_jump.specs.Names.{namedHint}
-use Rattle.rules.specs.Merge.{further, mergedScan, merged, mergeNumber, merge}
+use Rattle.rules.specs.Merge.{mergedScan, merged, mergeNumber, merge}
 use Rattle.rules.specs.File.{over, hasHinting, versionOf, headerOf, hintSection, confirmedSection, bodyOf, saved}
-use Rattle.rules.proofs.Tests.{test, both, and-left, and-right, all→, →all, accepted→, accepted-eq, →after}
+use Rattle.rules.proofs.Tests.{both, and-left, and-right, all→, →all, accepted→, accepted-eq, →after}
 use Rattle.rules.proofs.Same.{eqb-self, sameCheckpoint-self, sameCheckpoint-eq, sameEnd-self, sameEnd-eq}
 use Rattle.rules_lacks.specs.Lacks.{equalHint}
 use Rattle.rules_lacks.proofs.Laws.{equalHint-self, equalHint-eq}
@@ -28,6 +28,7 @@ use Rattle.theorems.specs.Adds.{noneButImage, noneNamed, NothingNamed, O
 use Rattle.theorems.proofs.MergeInTables.{kinded→, Left, merge-left}
 use Rattle.theorems.proofs.TableRun.{kinds-pass}
 use Rattle.adds.proofs.Same.{sameKnown-self, sameKnown-eq, sameFrame-self, sameFrame-eq, sameHeld-self, sameHeld-eq, sameFingerprint-self, sameFingerprint-eq}
+use Rattle.laws.proofs.hint_lists.Calls.{merged-numbers}
 
 same-of : {a : Bool} → not (not a) ≡ true → a ≡ true
 same-of {a} e = twice a e
@@ -36,20 +37,6 @@ same-of {a} e = twice a e
     twice true e = refl
     twice false e = e
 
--- ---- what a merge never changes
-module _ (own other : Scan) where
-  pub area-kept : mergedScan own other .area ≡ own .area
-  unfolding mergedScan
-  area-kept = test (further own other) (λ e. rw e) (λ e. rw e)
-
-  pub interval-kept : mergedScan own other .interval ≡ own .interval
-  unfolding mergedScan
-  interval-kept = test (further own other) (λ e. rw e) (λ e. rw e)
-
-  pub budget-kept : mergedScan own other .budget ≡ own .budget
-  unfolding mergedScan
-  budget-kept = test (further own other) (λ e. rw e) (λ e. rw e)
-
 -- ---- nothing but the image id
 module _ (own other : Index) (e : noneButImage (bringsOf own (merged own other)) ≡ true) where
   pub scan-same : merged own other .scan ≡ own .scan
@@ -57,9 +44,9 @@ module _ (own other : Index) (e : noneButImage (bringsOf own (merged own other))
   scan-same =
       let x = mergedScan (own .scan) (other .scan) in
       let t = all→ _ e in
-      let e0 : x .area ≡ own .scan .area = area-kept (own .scan) (other .scan) in
-      let e1 : x .interval ≡ own .scan .interval = interval-kept (own .scan) (other .scan) in
-      let e2 : x .budget ≡ own .scan .budget = budget-kept (own .scan) (other .scan) in
+      let e0 : x .area ≡ own .scan .area = merged-numbers (own .scan) (other .scan) .0 in
+      let e1 : x .interval ≡ own .scan .interval = merged-numbers (own .scan) (other .scan) .1 in
+      let e2 : x .budget ≡ own .scan .budget = merged-numbers (own .scan) (other .scan) .2 in
       let e3 : own .scan .checkpoints ≡ x .checkpoints = sameList-eq sameCheckpoint sameCheckpoint-eq _ _ (same-of (t .0)) in
       let e4 : own .scan .ending ≡ x .ending = sameKnown-eq sameEnd sameEnd-eq _ _ (same-of (t .1 .0)) in
       let p : (sameList sameFrame (own .scan .frames) (x .frames) && sameList sameHeld (own .scan .parts) (x .parts)) ≡ true = same-of (t .1 .1 .0) in

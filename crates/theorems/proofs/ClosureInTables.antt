@@ -3,29 +3,27 @@ use mathlib.Core.Path.{_≡_, refl, sym, ap, subst, _∙_}
 use mathlib.Core.Bool.{Bool, true, false, cond}
 use mathlib.Core.List.{List, [], _∷_}
 use mathlib.Core.Option.{Option, none, some}
-use Prim.Native.Nat.{ℕ, zero, suc, _/_, _≤_}
+use Prim.Native.Nat.{ℕ, _/_, _≤_}
 use native.Mathlib.Omega.{arith}
 use lib.Dec.{eqb}
-use lib.ListN.{length, take, drop}
+use lib.ListN.{length}
 use borrow.Author.Tests.{le-leb}
 use Rattle.field.specs.Records.{Bytes, records}
 use Rattle.rules.specs.declared.Area.{Area}
 use Rattle.rules.specs.declared.AreaIndex.{AreaIndex}
 use Rattle.rules.specs.declared.Confirmation.{Confirmation}
 use Rattle.rules.specs.declared.Fingerprint.the-variants.{Checked}
-use Rattle.rules.specs.declared.Hint.{Hint}
 use Rattle.rules.specs.Tests.{Answer, Refused, Accepted, each, ask, firstNo, agree}
 use Rattle.rules.specs.Values.{Hinting, Index, Lengths, max64, stated, isChecked}
 use Rattle.rules.specs.Sizes.{hintingSized, sized}
 use Rattle.rules.specs.Questions.{question1, question2, question3, question4, four}
 use Rattle.rules.specs.Create.{emptyIndex, new, bound, bindFingerprint}
 use Rattle.rules.specs.Hints.{question13, withHints, withHinting, addHints, unkept, question53, withMark, keepHint, question14, keepsNothing, keepConfirmation}
-use Rattle.rules.specs.File.{decodeHint}
 use Rattle.rules.specs.Load.{load}
 use Rattle.rules.proofs.Tests.{all→, →all, accepted→}
 use Rattle.laws.specs.Statements.{Savable}
 use Rattle.laws.proofs.hint_lists.Closure.{keptHinting, add-hints-sized, keep-hinting-sized}
-use Rattle.tables.specs.Tables.{hintsIn, framesOf, hintsOf}
+use Rattle.tables.specs.Tables.{framesOf, hintsOf}
 use Rattle.tables.specs.Index.{kindsOk, Tables, roomOf, indexIn, kindsIn, kinded, endIn, endFrom, idIn, idFrom, numbersFrom, tablesFrom, tablesCleared, MadeOut, madeOut, madeOutOf}
 use Rattle.rules.specs.declared.Made.the-variants as made
 use Rattle.index.specs.Index.{numbersOf, newIn, boundIn}
@@ -47,6 +45,7 @@ use Rattle.theorems.proofs.MergeInTables.{kinded→, merge-left}
 use Rattle.theorems.proofs.RecordersInTables.{started-stands, recorded-stands, finished-stands, created-stands, seen-stands, flushed-stands, taken-stands}
 use Rattle.theorems.proofs.AbsorbInTables.{absorb-left, stopped-left}
 use Rattle.theorems.proofs.disc.AcceptsInTables.{load-savable}
+use Rattle.add_hints.proofs.Arriving.{given-plain}
 
 -- numbers and tables that hold a valid list
 stands-by : (l : Lengths) (x : Index) (n : AreaIndex) (t : Tables) → Valid l x → indexIn n t ≡ x → kindsIn n t ≡ true → Stands n t
@@ -110,13 +109,8 @@ put-stands l x n t t' v z e f =
 
 -- ---- hints
 -- a delivered list has no marks
-records-unkept : (n : ℕ) (t : List ℕ) → unkept (hintsIn n t) ≡ hintsIn n t
-unfolding unkept records decodeHint
-records-unkept zero t = refl
-records-unkept (suc n) t = ap (λ (l : List Hint). decodeHint (take 8 t) ∷ l) (records-unkept n (drop 8 t))
-
 given-unkept : (list : List ℕ) → unkept (hintsOf list) ≡ hintsOf list
-given-unkept list = records-unkept (length list / 8) list
+given-unkept list = given-plain (length list / 8) list
 
 hinted-in : (x : AreaIndex) (t : Tables) (list : List ℕ) (y : AreaIndex) (t' : Tables) → LentIn x t → addHintsIn x t list ≡ madeOut (made.Index y) t' → Stands y t'
 unfolding addHintsIn addHints sized

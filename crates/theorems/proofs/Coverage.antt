@@ -1,11 +1,11 @@
 -- The row of a file is what loading it gives. Assumes nothing.
 use Prim.Native.Nat.{ℕ, _*_, _≤_, _<_}
-use mathlib.Core.Path.{_≡_, refl, sym, _∙_}
+use mathlib.Core.Path.{_≡_, refl, sym}
 use mathlib.Core.Bool.{Bool, true, false}
 use mathlib.Core.List.{List, [], _∷_}
 use native.Mathlib.Omega.{arith}
 use lib.Dec.{eqb, leb}
-use borrow.Author.Tests.{eq-eqb, ne-eqb, eqb-true, eqb-false}
+use borrow.Author.Tests.{eqb-true, eqb-false}
 use lib.ListN.{length, drop}
 use Rattle.rules.specs.declared.Area.{Area}
 use Rattle.rules.specs.Tests.{all, Ask, ask, Answer, Refused, Accepted, firstNo, after, bind}
@@ -13,13 +13,14 @@ use Rattle.rules.specs.Values.{Index, Lengths}
 use Rattle.rules.specs.Questions.{areaOk, question3, question4}
 use Rattle.rules.specs.File.{readHeader}
 use Rattle.rules.specs.Load.{bodyIn, headerNumber, fileNumber, fromBytes, limited, load}
-use Rattle.rules.proofs.Tests.{test, never, asked, asked→, after→, accepted→, and-right}
+use Rattle.rules.proofs.Tests.{test, never, asked, asked→, after→, accepted→, and-right, →after, refused-after}
 use Rattle.laws.proofs.Limit.{large-limit}
 use Rattle.rules_coverage.specs.declared.Row.{Row}
 use Rattle.rules_coverage.specs.Coverage.{keyIn, areaIn, rangeOk, rowFrom, rowOf}
 use Rattle.theorems.specs.Demand1.{among}
 use Rattle.theorems.specs.Coverage.{OwnKey, OwnSlot, RowIsLoading}
-use Rattle.theorems.proofs.Files.{key-self, other-number}
+use Rattle.theorems.proofs.Files.{other-number}
+use Rattle.rules.proofs.Same.{sameKey-self}
 
 refused-below : (q : Answer Index) (n : ℕ) → bind q (λ x. Accepted (rowFrom x)) ≡ Refused n → q ≡ Refused n
 unfolding bind
@@ -44,17 +45,9 @@ own-26 b s e h =
 
 pub own-key : OwnKey
 unfolding among
-own-key b s e h = never (other-number (areaIn b s e) b (key-self (keyIn b)) .number 26 (own-26 b s e h)) refl
+own-key b s e h = never (other-number (areaIn b s e) b (sameKey-self (keyIn b)) .number 26 (own-26 b s e h)) refl
 
 -- ---- a slot above 1
-refused-by : {A : Type 0} (n : ℕ) (r : Answer A) → (n ≡ 0 → ⊥) → after n r ≡ Refused n
-unfolding after
-refused-by n r h = rw (ne-eqb n 0 h)
-
-passed-by : {A : Type 0} (n : ℕ) (r : Answer A) → n ≡ 0 → after n r ≡ r
-unfolding after
-passed-by n r e = rw (eq-eqb n 0 e)
-
 file-low : (a b c : Bool) → firstNo (ask a 20 ∷ ask b 21 ∷ ask c 22 ∷ []) < 25
 unfolding firstNo
 file-low false b c = omega arith
@@ -72,8 +65,8 @@ unfolding fromBytes headerNumber fileNumber
 slot-refused a b h =
     let h' = slot-low _ _ _ h in
     test (eqb (fileNumber b) 0)
-    (λ z. (_, (passed-by _ _ (eqb-true (fileNumber b) 0 z) ∙ refused-by _ _ (h' .1), h' .0)))
-    (λ z. (fileNumber b, (refused-by _ _ (eqb-false (fileNumber b) 0 z), file-low _ _ _)))
+    (λ z. (_, (→after (eqb-true (fileNumber b) 0 z) (refused-after _ _ (h' .1)), h' .0)))
+    (λ z. (fileNumber b, (refused-after _ _ (eqb-false (fileNumber b) 0 z), file-low _ _ _)))
 
 pub own-slot-refused : OwnSlot
 unfolding rowOf firstNo after bind

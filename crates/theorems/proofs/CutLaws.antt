@@ -16,7 +16,6 @@ use Rattle.rules.specs.Record.{below}
 use Rattle.rules.specs.Merge.{question41, question42, question43, further, takenScan, mergedScan, merged, mergeNumber}
 use Rattle.rules.specs.Load.{limited}
 use Rattle.rules.specs.Run.{Reading, checkpointsOf, endStateOf, Cut}
-use Rattle.laws.proofs.hint_lists.Closure as hinting
 use Rattle.laws.proofs.scans.Scans.{ScanIs, scan-of, scan→}
 use Rattle.laws.proofs.scans.Merge.{appended, further-prefix}
 use Rattle.laws.proofs.scans.Theorems.{merge-bytes, limit-bytes}

@@ -23,14 +23,10 @@ use Rattle.theorems.specs.Demand3.{Outcome, Outcomes, MergedParts, JustL
 use Rattle.rules.proofs.Tests.{test, all→, →all, agree-none, asked}
 use Rattle.rules.proofs.Same.{eqb-self}
 use Rattle.theorems.proofs.Jump.{jump-not-back}
-use Rattle.theorems.proofs.ScanLaws.{one, level, merged-level}
+use Rattle.theorems.proofs.ScanLaws.{one, level, merged-level, one-most}
 use Rattle.theorems.proofs.Useful.{merge-takes}
 use Rattle.laws.proofs.hint_lists.Closure.{merged-stated}
 use Rattle.theorems.proofs.CutLaws.{same-level, merged-three, limited-three, cut-scan, cut-counts, cut-read, cut-merged, cut-limited, not-refused}
-
-one-most : (b : Bool) → one b ≤ 1
-one-most true = omega arith
-one-most false = omega arith
 
 at-least : (b n m : ℕ) (w v : Bool) → n ≤ b → (v ≡ true → m ≡ b) → n + one w ≤ m + one v → n ≤ m
 at-least b n m w true l f h = let x = f refl in omega arith

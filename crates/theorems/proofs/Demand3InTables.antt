@@ -2,26 +2,22 @@
 use mathlib.Core.Path.{_≡_, refl, sym, ap, ap₂, subst, _∙_}
 use mathlib.Core.List.{List, [], _∷_, _++_}
 use mathlib.Core.Bool.{true}
-use mathlib.Core.Option.{Option, none, some}
 use Prim.Native.Nat.{ℕ, zero, suc, _+_, _<_, _≤_}
 use native.Mathlib.Omega.{arith}
-use lib.Dec.{eqb, leb}
+use lib.Dec.{eqb}
 use lib.ListN.{length, getD, take, drop, replicate, length-drop}
 use lib.Seq.{take-take, take-append-le, drop-drop}
 use borrow.Author.Tests.{eqb-true, eq-eqb, le-leb}
 use Rattle.rules.specs.declared.Area.{Area}
 use Rattle.rules.specs.declared.Assembly.{Assembly}
 use Rattle.rules.specs.declared.Assembly.the-variants.{Replayed, Stored}
-use Rattle.rules.specs.declared.EndState.{EndState}
 use Rattle.rules.specs.declared.Held.{Held}
 use Rattle.rules.specs.declared.HeldPart.{HeldPart}
-use Rattle.rules.specs.declared.Plan.{Plan}
-use Rattle.rules.specs.declared.Plan.the-variants.{Start, At, End}
-use Rattle.rules.specs.declared.Resume.{Resume}
+use Rattle.rules.specs.declared.Plan.the-variants.{At}
 use Rattle.rules.specs.Tests.{firstNo}
-use Rattle.rules.specs.Values.{Frame, Scan, Index, Lengths, noHeld, frameAt, partBytes, used}
+use Rattle.rules.specs.Values.{Frame, Index, Lengths, noHeld, frameAt, partBytes, used}
 use Rattle.rules.specs.Questions.{question1, question2, four}
-use Rattle.rules.specs.Plan.{offsetOf, assemblyOf, lastNotAbove, planFrom, planOr, planned, plan, startOf, bytesAt}
+use Rattle.rules.specs.Plan.{offsetOf, assemblyOf, planned, plan, startOf, bytesAt}
 use Rattle.rules.specs.Run.{Reading, Content, Cut, Place, State, begin, mergeRefusal}
 use Rattle.rules.proofs.Tests.{test, asked, both, accepted→, and-left}
 use Rattle.laws.proofs.scans.Parts.{part-at}
@@ -41,6 +37,7 @@ use Rattle.theorems.proofs.Demand3.{Good, run-good, start-good, parts-l
 use Rattle.theorems.proofs.Jump.{jump-not-back}
 use Rattle.theorems.proofs.MergeInTables.{kinded→, merge-left}
 use Rattle.theorems.proofs.TableRun.{cut-savable, cut-list, left, step-same, merged-place, kinds-pass}
+use Rattle.theorems.proofs.lacking.Planned.{planned-part}
 
 -- ---- what a run leaves
 pub outcomes-in-tables : OutcomesInTables
@@ -92,31 +89,6 @@ jump-not-back-in-tables x t y u z t' f a b e =
     }
 
 -- ---- held parts
--- an At from a plan
-planKind : Plan → ℕ
-planKind Start = 0
-planKind (At r) = 1
-planKind (End e) = 2
-
-resumeOf : Resume → Plan → Resume
-resumeOf d Start = d
-resumeOf d (At r) = r
-resumeOf d (End e) = d
-
-at-from : (x : Scan) (o : Option ℕ) (r : Resume) → planFrom x o ≡ At r → r .assembly ≡ assemblyOf (x .frames) (x .parts) (r .number)
-unfolding planFrom planKind resumeOf assemblyOf
-at-from x none r e = let z : _≡_ {A = ℕ} 0 1 = ap planKind e in let f : ⊥ = omega arith in absurd f
-at-from x (some j) r e =
-    let q = ap (resumeOf r) e in
-    ap (λ (s : Resume). s .assembly) (sym q) ∙ ap (λ (s : Resume). assemblyOf (x .frames) (x .parts) (s .number)) q
-
-at-or : (x : Scan) (t : ℕ) (e : Option EndState) (o : Option ℕ) (r : Resume) → planOr t e (planFrom x o) ≡ At r
-    → r .assembly ≡ assemblyOf (x .frames) (x .parts) (r .number)
-unfolding planOr planKind
-at-or x t none o r h = at-from x o r h
-at-or x t (some s) o r h =
-    test (leb (s .threshold) t) (λ b. let z : _≡_ {A = ℕ} 2 1 = ap planKind (rw b at h) in let f : ⊥ = omega arith in absurd f) (λ b. at-from x o r (rw b at h))
-
 -- the part that a plan names
 named : List Frame → Held → HeldPart
 named fs p = record { kind = p .kind; number = p .number; remaining = p .remaining; offset = offsetOf fs (p .frame); len = p .len }
@@ -197,7 +169,7 @@ plans-held-part p t r h e s =
     let q = asked _ refl (a .0) in
     let fs = v .scan .frames in
     let w : assemblyOf fs (v .scan .parts) (r .number) ≡ Stored h =
-    sym (at-or (v .scan) t (v .scan .ending) (lastNotAbove t (v .scan .checkpoints) (length (v .scan .checkpoints))) r (a .1)) ∙ s in
+    sym (planned-part (v .scan) t r (a .1)) ∙ s in
     let f = found fs (v .scan .parts) (r .number) h w in
     let d = getD (v .scan .parts) (f .0) noHeld in
     let i = part-at (v .scan .area) (v .scan .interval) (v .scan .budget) 0 (v .scan .checkpoints) fs (v .scan .parts) (f .0) (scan→ (v .scan) (scan-of v (q .1 .1 .1 .0)) .stretch .held) (f .1) in

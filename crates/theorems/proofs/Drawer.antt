@@ -13,18 +13,18 @@ use Rattle.field.proofs.Bytes.{bytes-take, bytes-drop}
 use Rattle.field.proofs.Format.{Each, none as nothing, one}
 use Rattle.rules.specs.declared.Area.{Area}
 use Rattle.rules.specs.Tests.{Ask, ask, firstNo, Refused, Accepted}
-use Rattle.rules.specs.Values.{Index, Lengths, count}
+use Rattle.rules.specs.Values.{Index, Lengths}
 use Rattle.rules.specs.Questions.{question1, question2, question3, question4, four}
 use Rattle.rules.specs.Load.{load}
 use Rattle.rules.specs.Merge.{merged, mergeNumber, merge}
-use Rattle.rules.proofs.Tests.{test, and-left, and-right, both, asked, asks, asked→, →asked, accepted→, accepted-eq, →after, bind→, →bind}
+use Rattle.rules.proofs.Tests.{test, and-left, and-right, both, asked, asks, asked→, →asked, accepted→, accepted-eq, →after, bind→, →bind, none-some, some-eq, refused-bind, refused-after}
 use Rattle.laws.proofs.scans.Scans.{ScanIs, scan-of, scan→}
 use Rattle.rules_drawer.specs.Drawer.{question44, loadFiles, pairNumber, pairsWith, pairsNumber, mergeEach, mergeLists, mergeAll}
 use Rattle.theorems.specs.Terms.{Valid}
 use Rattle.theorems.specs.Drawer.{FileLoads, EachLoads, SetAsked, mergeTurns, SetIsTurns, roomAt, SetIsPairs, SetValid, Loaded, FileFails, past, refused, SetNumber}
 use Rattle.theorems.proofs.Closure.{closure}
 use Rattle.rules_drawer.proofs.Pairs.{first-of→, →first-of, pairs-at, pairs-of, pairs-first, mergeable→}
-use Rattle.rules_drawer.proofs.Files.{none-some, some-eq, behind→, →behind, first-file, next-file, file-inside, refused-bind, refused-after, no-first}
+use Rattle.rules_drawer.proofs.Files.{behind→, →behind, first-file, next-file, file-inside, no-first}
 use Rattle.drawer.proofs.Joining.{pairs-both, pairs-each}
 
 -- ---- a merge of two lists that pass 1 to 4
@@ -102,7 +102,7 @@ module _ (m : Lengths) (a : Area) (limit : ℕ) where
   loaded-files (n ∷ ns) b (y ∷ ys) h =
       let f = h .file 0 y (omega arith) in
       let l = file-inside n ns b 0 (f .bytes) (f .place) in
-      let e = some-eq (take n b) (f .bytes) (sym (first-file n ns b l) ∙ f .place) in
+      let e = some-eq (sym (first-file n ns b l) ∙ f .place) in
       →behind m a limit n ns b (y ∷ ys)
       (record {
         inside = l;
@@ -243,16 +243,16 @@ module _ (m : Lengths) (a : Area) (limit : ℕ) where
   unfolding loadFiles
   file-refused [] b k n h f g = let z : ⊥ = omega arith in absurd z
   file-refused (i ∷ ns) b zero n h f (past e q) =
-      test (leb i (length b)) (λ t. none-some (take i b) (sym e ∙ first-file i ns b (leb-true i (length b) t)))
+      test (leb i (length b)) (λ t. none-some (sym e ∙ first-file i ns b (leb-true i (length b) t)))
       (λ t. let f = no-first (leb i (length b)) 20 t in rw (f, q) (refused-after 20 _ (λ z. omega arith)))
   file-refused (i ∷ ns) b zero n h f (refused c e q) =
       let l = file-inside i ns b 0 c e in
-      let w = some-eq (take i b) c (sym (first-file i ns b l) ∙ e) in
+      let w = some-eq (sym (first-file i ns b l) ∙ e) in
       →asked (ask (leb i (length b)) 20 ∷ []) (le-leb i (length b) l, tt) (refused-bind _ n (ap (λ (c : List ℕ). load m a c limit) w ∙ q))
   file-refused (i ∷ ns) b (suc k) n h f g =
       let d = f 0 (omega arith) in
       let l = file-inside i ns b 0 (d .file .bytes) (d .file .place) in
-      let w = some-eq (take i b) (d .file .bytes) (sym (first-file i ns b l) ∙ d .file .place) in
+      let w = some-eq (sym (first-file i ns b l) ∙ d .file .place) in
       let r = file-refused ns (drop i b) k n (omega arith) (λ j t. behind i ns b j l (f (suc j) (omega arith))) (fails-behind i ns b k n l g) in
       →asked (ask (leb i (length b)) 20 ∷ []) (le-leb i (length b) l, tt)
       (→bind _ (ap (λ (c : List ℕ). load m a c limit) w ∙ d .file .loads) (refused-bind _ n r))

@@ -7,13 +7,12 @@ use native.Mathlib.Omega.{arith}
 use lib.Dec.{eqb}
 use lib.ListN.{length, drop}
 use Rattle.rules.specs.declared.Area.{Area}
-use Rattle.rules.specs.declared.AreaKey.{AreaKey}
-use Rattle.rules.specs.Tests.{all, ask, firstNo, Answer, Refused, Accepted, after}
+use Rattle.rules.specs.Tests.{ask, firstNo, Answer, Refused, Accepted, after}
 use Rattle.rules.specs.Values.{Index, sameKey}
 use Rattle.rules.specs.File.{readHeader}
 use Rattle.rules.specs.Load.{keyOf, bodyIn, fileNumber, headerNumber, fromBytes}
-use Rattle.rules.proofs.Same.{eqb-self}
-use Rattle.rules.proofs.Tests.{test, never, →all, asked, after→, accepted→}
+use Rattle.rules.proofs.Same.{sameKey-self}
+use Rattle.rules.proofs.Tests.{test, never, asked, after→, accepted→}
 use Rattle.sizes.specs.Sizes.{rangeOf, beforeSum, fileArea}
 use Rattle.theorems.specs.Demand1.{among}
 use Rattle.theorems.specs.Player.{FileAreaIsLoadings}
@@ -39,10 +38,6 @@ refused-too b n e a =
     rw (m .0) (ap (λ (k : ℕ). Refused k) (m .1))
 
 -- ---- 26
-pub key-self : (k : AreaKey) → sameKey k k ≡ true
-unfolding sameKey
-key-self k = →all _ (eqb-self (k .slot), (eqb-self (k .start), (eqb-self (k .end), (eqb-self (k .channels), (eqb-self (k .sectors), tt)))))
-
 abbrev except26 : List ℕ
 except26 = 20 ∷ 21 ∷ 22 ∷ 23 ∷ 24 ∷ 25 ∷ 27 ∷ 28 ∷ 29 ∷ 30 ∷ ofSections
 
@@ -63,7 +58,7 @@ given-key : (b : List ℕ) (a : Area) → fileArea b ≡ Accepted a → sameKey 
 unfolding fileArea rangeOf
 given-key b a e =
     let q : rangeOf (keyOf (readHeader (bodyIn b))) ≡ a = accepted→ (beforeSum (fileNumber b)) (rangeOf (keyOf (readHeader (bodyIn b)))) a e .1 in
-    subst (λ (c : Area). sameKey (keyOf (readHeader (bodyIn b))) (c .key) ≡ true) q (key-self (keyOf (readHeader (bodyIn b))))
+    subst (λ (c : Area). sameKey (keyOf (readHeader (bodyIn b))) (c .key) ≡ true) q (sameKey-self (keyOf (readHeader (bodyIn b))))
 
 area-there : (b : List ℕ) → fileNumber b ≡ 0 → fileArea b ≡ Accepted (rangeOf (keyOf (readHeader (bodyIn b))))
 unfolding fileArea beforeSum after

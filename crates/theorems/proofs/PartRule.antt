@@ -17,9 +17,9 @@ use Rattle.rules.specs.Values.{Frame, noHeld}
 use Rattle.rules.specs.Sections.{partOk}
 use Rattle.rules.specs.PartRule.{Stored, stores, addPart, piece, addParts}
 use Rattle.rules.specs.Run.{Content, contentOf}
-use Rattle.rules.proofs.Walk.{arrived, length-snoc, walk-head, walk-tail, walk-left, walk-right, walk-rises}
+use Rattle.rules.proofs.Walk.{arrived, length-snoc, walk-head, walk-tail, walk-left, walk-right}
 use Rattle.laws.specs.Kept.{Keeps, Says}
-use Rattle.laws.proofs.scans.Parts.{keep, atAfter, part→, follows→, HeldIs, held→, →held, part-at}
+use Rattle.laws.proofs.scans.Parts.{keep, atAfter, part→, follows→, HeldIs, held→, →held, part-at, parts-rise}
 use Rattle.laws.proofs.scans.PartRule.{Taken, onward, content-kept, keeps-self, added-keeps, addPart-passed, addPart-added, addParts-add, addParts-start, addParts-on, addParts-ok, onward-piece, take-add, next-part}
 use Rattle.theorems.specs.Terms.{Stays, Holds}
 use Rattle.theorems.specs.PartRule.{PartClosed, PartStored, PartPassedOver, Admits, PartsAdmitted}
@@ -139,9 +139,7 @@ module _ (a : Area) (k budget budget' first first' : ℕ) (cs ds : List Checkpoi
     Other at c = at ≢ q .at
 
     rises : (i j : ℕ) → i < j → j < length (xs ++ (q ∷ ys)) → getD (xs ++ (q ∷ ys)) i noHeld .at < getD (xs ++ (q ∷ ys)) j noHeld .at
-    rises i j l m =
-        let w = walk-rises (partOk a k first' ds gs) keep (λ p. p .at) atAfter 1 (λ o p x. follows→ o p (part→ a k first' ds gs o p x .1) .0) (λ o p. omega arith) noHeld none
-        (xs ++ (q ∷ ys)) i j whole l m in omega arith
+    rises = parts-rise a k first' ds gs (xs ++ (q ∷ ys)) whole
 
     lengths : length (xs ++ (q ∷ ys)) ≡ length xs + suc (length ys)
     lengths = length-append xs (q ∷ ys)

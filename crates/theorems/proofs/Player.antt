@@ -1,5 +1,5 @@
 -- The numbers and tables that a player in C rests on. Assumes nothing.
-use Prim.Native.Nat.{ℕ, zero, suc, _≤_}
+use Prim.Native.Nat.{ℕ, _≤_}
 use mathlib.Core.Path.{_≡_, refl, sym}
 use mathlib.Core.Bool.{Bool, true, false, cond}
 use mathlib.Core.List.{List, [], _∷_}
@@ -8,13 +8,12 @@ use borrow.Author.Tests.{le-leb}
 use lib.Dec.{eqb, leb}
 use lib.ListN.{length}
 use Rattle.rules.specs.declared.HintRecorder.{HintRecorder}
-use Rattle.rules.specs.Tests.{Refused, Accepted, ask, firstNo, after, numberOf, all}
+use Rattle.rules.specs.Tests.{Accepted, ask, firstNo, after, numberOf, all}
 use Rattle.rules.specs.Values.{Index, Hinting, boundaries}
-use Rattle.rules.specs.Values as values
 use Rattle.rules.specs.Questions.{recorderQuestion3, scanRoom}
 use Rattle.rules.specs.Create.{emptyHintRecorder, hintRecorder}
 use Rattle.rules.specs.File.{saved, savedLength, save}
-use Rattle.rules.proofs.Tests.{test, never}
+use Rattle.rules.proofs.Tests.{test}
 use Rattle.laws.proofs.Length.{savedLength-is}
 use Rattle.tables.specs.Index.{indexIn, orFour, kindedNumber, kinded, refusal}
 use Rattle.rules.specs.declared.Created.the-variants as created
@@ -25,6 +24,7 @@ use Rattle.sizes.specs.Sizes.{sizesOf, fileLength}
 use Rattle.player.specs.Block.{savedNumber}
 use Rattle.theorems.specs.Player.{Told, SaveNumber, LengthIsSaved, hasFour, RecorderRoomIsSizes, HintListIsSize, MadeHasSpacing}
 use Rattle.theorems.proofs.Sizes.{fits24, fits8}
+use Rattle.theorems.proofs.Demand1.{some-number}
 
 -- ---- saving
 refused-told : (m n : ℕ) → 1 ≤ m → m ≤ 40 → Told (told.Refused m) n
@@ -101,10 +101,6 @@ recorder-room-is-sizes r t most =
 pub hint-list-is-size : HintListIsSize
 hint-list-is-size list = fits8 65536 (length list)
 
-positive : (n : ℕ) → eqb n 0 ≡ false → 1 ≤ n
-positive zero e = never refl e
-positive (suc n) e = omega arith
-
 module _ {A : Type 0} {h : HintRecorder} where
   not-refused : (n : ℕ) → created.Refused n ≡ created.Recorder h → A
   not-refused n e = let z : _≡_ {A = ℕ} 0 1 = cc in let f : ⊥ = omega arith in absurd f
@@ -123,7 +119,7 @@ made-by true n g h e =
     test (eqb n 0)
     (λ z.
     test (eqb (g .spacing) 0) (λ s. not-none (rw (z, s) at e))
-    (λ s. test (eqb (g .most) 0) (λ m. not-none (rw (z, s, m) at e)) (λ m. rw (← same-spacing _ h (rw (z, s, m) at e)) (positive (g .spacing) s))))
+    (λ s. test (eqb (g .most) 0) (λ m. not-none (rw (z, s, m) at e)) (λ m. rw (← same-spacing _ h (rw (z, s, m) at e)) (some-number (g .spacing) s))))
     (λ z. not-refused n (rw z at e))
 
 pub made-has-spacing : MadeHasSpacing

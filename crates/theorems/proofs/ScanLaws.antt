@@ -27,6 +27,10 @@ abbrev pub one : Bool → ℕ
 one true = 1
 one false = 0
 
+pub one-most : (b : Bool) → one b ≤ 1
+one-most true = omega arith
+one-most false = omega arith
+
 unfoldable pub level : Scan → ℕ
 level x = count x + one (complete x)
 

@@ -18,27 +18,29 @@ use Rattle.rules.specs.declared.Area.{Area}
 use Rattle.rules.specs.declared.Checkpoint.{Checkpoint}
 use Rattle.rules.specs.declared.Held.{Held}
 use Rattle.rules.specs.declared.Hint.{Hint}
-use Rattle.rules.specs.Tests.{all, walk, isSome, Refused, Accepted, after, Ask, ask, firstNo}
-use Rattle.rules.specs.Values.{Index, Lengths, lim, max64, boundaries, lsnOf, count, complete, frontier, stated}
-use Rattle.rules.specs.Sections.{begun, checkpointsOk, unfilled, framesOk, partOk, partsOk, malformedOk, rising, ownLsn, anyLsn, hintLsn, hintOk, hintsOk, markOk, marksOk, confirmedLsn, confirmationOk, confirmationsOk}
+use Rattle.rules.specs.Tests.{all, isSome, Refused, Accepted, after, Ask, ask, firstNo}
+use Rattle.rules.specs.Values.{Index, Lengths, lim, boundaries, lsnOf, complete, stated}
+use Rattle.rules.specs.Sections.{rising, hintLsn, hintOk, hintsOk, markOk, marksOk}
 use Rattle.rules.specs.Questions.{four}
 use Rattle.rules.specs.Hints.{unkept}
-use Rattle.rules.specs.Sizes.{sized, knownSized}
+use Rattle.rules.specs.Sizes.{sized}
 use Rattle.rules.specs.File.{encodeLsn, encodeHint, decodeHint, encodeConfirmation, decodeConfirmation, bit, orZero}
-use Rattle.rules.proofs.Tests.{test, choose, all→, →all, each→, each-map, each-both, asked, accepted→}
+use Rattle.rules.proofs.Tests.{test, choose, all→, →all, each→, each-both, asked, accepted→, some-eq}
 use Rattle.rules.proofs.Walk.{rising-each}
 use Rattle.laws.proofs.Numbers.{front-back}
 use Rattle.laws.proofs.Layouts.{CheckpointFits, lsn-layout, LsnFits, hint-layout, HintFits, confirmation-layout, ConfirmationFits, HeldFits}
 use Rattle.laws.proofs.Marks.{unkept-length, unkept-bytes, unkept-each}
 use Rattle.laws.proofs.Facts.{Facts, facts}
 use Rattle.laws.proofs.Header.{scan-counts, few-boundaries}
-use Rattle.laws.proofs.Ranges.{AreaFacts, frontier-small, checkpoints-fit, Placed, frames-placed, parts-fit}
+use Rattle.laws.proofs.Ranges.{AreaFacts}
 use Rattle.laws.proofs.scans.Scans.{in-boundary}
 use Rattle.view.proofs.Layouts.{headWidths, head-writes, head-length, countWidths, counts-writes, counts-length, SeenFits, seen-layout, BackingFits, behind-layout, LengthFits, length-layout, seen-count, lengths-count, same-counts, marks-length, seen-length, workshop-length, view-length}
 use Rattle.rules_view.specs.View.{listener, workshop, Listener, seenFrom, listenerOf, Workshop, backingsOf, lengthsOf, workshopOf, wordBytes, Head, headWords, readHead, headOf, encodeSeen, seenBytes, listenerBytes, Totals, totalWords, readTotals, totalsOf, encodeBacking, encodeHeldLength, encodeMark, workshopBytes, listenerFrom, seenIn, readListener, withMarks, workshopFrom, workshopSize, behindSeen, readWorkshop, isRole, viewBytes, viewLength, view, viewSize}
 use Rattle.rules_view.specs.Roles.{asWorkshop}
 use Rattle.theorems.specs.Terms.{Valid}
 use Rattle.theorems.specs.View.{ListenerTold, WorkshopTold, ViewsTell, ListenerSees, WorkshopAdds, WorkshopIsBase, ListenerRefused, ViewNumber}
+use Rattle.laws.proofs.Saved.{known-small}
+use Rattle.index.proofs.Standing.{checkpoints-fits, parts-fits, malformed-fits, confirmed-fits}
 
 -- ---- layouts
 abbrev headFrom : List ℕ → Head
@@ -144,12 +146,6 @@ behind-fits nothing = nothing
 behind-fits (one {x = c} p ps) = one (p .1 .0, (p .1 .1 .1 .0, tt)) (behind-fits ps)
 
 module _ (x : Index) (f : Facts x) where
-  each-checkpoint : Each CheckpointFits (x .scan .checkpoints)
-  unfolding checkpointsOk
-  each-checkpoint =
-      checkpoints-fit (x .scan .area) (x .scan .interval) (f .numbers .low) (f .area) (begun 0) (x .scan .checkpoints)
-      (let c = scan-counts x f in omega arith) (f .scan .checkpoints) (f .sizes .checkpoints)
-
   head-fits : (role : ℕ) → role ≤ 2 → FieldsFit headWidths (headWords (headOf role (listenerOf x)))
   unfolding headOf listenerOf
   head-fits role r =
@@ -166,7 +162,7 @@ module _ (x : Index) (f : Facts x) where
         head' = head-fits workshop (omega arith);
         seen =
             unfold listenerOf in
-            seen-fits (x .scan .area) (x .scan .interval) (f .numbers .low) (f .area) 0 (let c = scan-counts x f in omega arith) each-checkpoint;
+            seen-fits (x .scan .area) (x .scan .interval) (f .numbers .low) (f .area) 0 (let c = scan-counts x f in omega arith) (checkpoints-fits x f);
       }
 
 -- ---- an accepted view
@@ -334,47 +330,13 @@ unfolding lengthsOf
 lengths-fit nothing = nothing
 lengths-fit (one {x = p} h hs) = let n = h .numbers in one (n .0, (n .1 .1 .0, tt)) (lengths-fit hs)
 
-known-small : (o : Option ℕ) → knownSized o ≡ true → orZero o ≤ max64
-unfolding knownSized orZero
-known-small none h = omega arith
-known-small (some v) h = leb-true v max64 h
-
 module _ (x : Index) (f : Facts x) where
-  parts-walk : walk (partOk (x .scan .area) (x .scan .interval) 0 (x .scan .checkpoints) (x .scan .frames)) (λ o p. some p) none (x .scan .parts) ≡ true
-  unfolding partsOk
-  parts-walk = all→ _ (f .scan .parts) .0
-
-  placed : Each (Placed (x .scan .area)) (x .scan .frames)
-  unfolding framesOk
-  placed = frames-placed (x .scan .area) (x .scan .budget) (unfilled (x .scan .area)) (x .scan .frames) (f .scan .frames)
-
-  each-part : Each HeldFits (x .scan .parts)
-  each-part =
-      let c = scan-counts x f in
-      let n = few-boundaries x f in
-      parts-fit (x .scan .area) (x .scan .interval) (x .scan .checkpoints) (x .scan .frames) none (x .scan .parts) (f .area)
-      (omega arith) (omega arith) placed parts-walk (f .sizes .parts)
-
-  each-lsn : Each LsnFits (x .scan .malformed)
-  unfolding malformedOk rising
-  each-lsn =
-      let w = all→ _ (f .scan .malformed) .1 .0 in
-      let c = scan-counts x f in
-      let u = frontier-small (x .scan .area) (x .scan .interval) (count (x .scan)) (x .scan .ending) (f .numbers .low) (f .area) (c .passed) in
-      each-map (λ l p. omega arith) (rising-each ownLsn anyLsn (frontier (x .scan)) (x .scan .area .start) (x .scan .malformed) w)
-
   each-hint : Each HintShown (x .hinting .hints)
   unfolding hintsOk rising marksOk
   each-hint =
       each-both (λ h p q. let n = ltb-true (h .number) lim (p .1) in let m = leb-true (h .mark) 1 q in omega arith)
       (rising-each hintLsn hintOk (x .scan .area .end) (x .scan .area .start) (x .hinting .hints) (f .hinting .hints))
       (each→ markOk (x .hinting .hints) (all→ _ (f .hinting .marks) .0))
-
-  each-confirmation : Each ConfirmationFits (x .hinting .confirmed)
-  unfolding confirmationsOk rising
-  each-confirmation =
-      each-both (λ h p q. let d = leb-true (h .digest) max64 q in let n = ltb-true (h .threshold) lim (p .1) in omega arith)
-      (rising-each confirmedLsn confirmationOk (x .scan .area .end) (x .scan .area .start) (x .hinting .confirmed) (f .hinting .confirmed)) (f .sizes .confirmed)
 
   counts-fit : FieldsFit countWidths (totalWords (totalsOf (workshopOf x)))
   unfolding totalsOf workshopOf
@@ -392,11 +354,11 @@ module _ (x : Index) (f : Facts x) where
         seen = unfold workshopOf in listener-fits x f;
         counts = counts-fit;
         same = same-counts x;
-        behind = unfold workshopOf in behind-fits (each-checkpoint x f);
-        malformed = unfold workshopOf in each-lsn;
-        parts = unfold workshopOf in lengths-fit each-part;
+        behind = unfold workshopOf in behind-fits (checkpoints-fits x f);
+        malformed = unfold workshopOf in malformed-fits x f;
+        parts = unfold workshopOf in lengths-fit (parts-fits x f);
         hints = unfold workshopOf in each-hint;
-        confirmed = unfold workshopOf in each-confirmation;
+        confirmed = unfold workshopOf in confirmed-fits x f;
       }
 
 pub workshop-tells : WorkshopTold
@@ -436,9 +398,6 @@ workshop-adds x =
     ∙ ap (drop 8) (take-at (seenBytes workshop v) (s0 w) (length (seenBytes listener v)) l) ∙ behind-role workshop v ∙ sym (behind-role listener v)
 
 -- ---- equal views
-some-eq : {A : Type 0} (x y : A) → some x ≡ some y → x ≡ y
-some-eq x y e = cc
-
 listener-role : (x : Index) → decode (take 8 (listenerBytes (listenerOf x))) ≡ listener
 unfolding listenerBytes
 listener-role x = rw append-nil at (role-told listener (listenerOf x) [] (omega arith))
@@ -449,8 +408,8 @@ workshop-role x = ap (λ (b : List ℕ). decode (take 8 b)) (workshop-split (wor
 pub views-tell : ViewsTell
 views-tell =
     record {
-      listeners = λ l m x y out out' b z z' e e'. some-eq _ _ (sym (listener-tells l x out b z e) ∙ listener-tells m y out' b z' e');
-      workshops = λ l m x y out out' b z z' e e'. some-eq _ _ (sym (workshop-tells l x out b z e) ∙ workshop-tells m y out' b z' e');
+      listeners = λ l m x y out out' b z z' e e'. some-eq (sym (listener-tells l x out b z e) ∙ listener-tells m y out' b z' e');
+      workshops = λ l m x y out out' b z z' e e'. some-eq (sym (workshop-tells l x out b z e) ∙ workshop-tells m y out' b z' e');
       apart = λ l m x y out out' b c e e' q.
           let p : decode (take 8 b) ≡ 1 = ap (λ (b : List ℕ). decode (take 8 b)) (sym (viewed listener l x out b e .is) ∙ listener-bytes x) ∙ listener-role x in
           let p' : decode (take 8 c) ≡ 2 = ap (λ (b : List ℕ). decode (take 8 b)) (sym (viewed workshop m y out' c e' .is) ∙ workshop-bytes y) ∙ workshop-role y in

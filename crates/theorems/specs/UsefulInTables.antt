@@ -24,7 +24,6 @@ use Rattle.rules.specs.declared.Tail.the-variants.{Empty}
 use Rattle.rules.specs.declared.UnderAssembly.{UnderAssembly}
 use Rattle.rules.specs.Tests.{isSome, agree, Accepted, numberOf}
 use Rattle.rules.specs.Values.{Index, max32, maxHints, noHint, boundaries, lsnOf, frontierOf, lastCheckpoint, stated, isChecked}
-use Rattle.rules.specs.Values as values
 use Rattle.rules.specs.Sections.{endOk}
 use Rattle.rules.specs.Questions.{areaOk, numbersOk, question1, question2, question3}
 use Rattle.rules.specs.Create.{emptyIndex, bound}

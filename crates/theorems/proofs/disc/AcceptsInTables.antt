@@ -1,6 +1,6 @@
 -- Disc files in tables: one file for equal content, and what is right is accepted. Assumes nothing.
 use mathlib.Core.Path.{_≡_, refl, subst}
-use mathlib.Core.Bool.{Bool, true, _&&_}
+use mathlib.Core.Bool.{_&&_}
 use mathlib.Core.List.{List}
 use mathlib.Core.Option.{Option, none, some}
 use Prim.Native.Nat.{ℕ}
@@ -28,9 +28,7 @@ use Rattle.theorems.proofs.TableRun.{kinds-pass}
 use Rattle.theorems.proofs.disc.Accepts.{disc-save-accepts, disc-load-accepts}
 use Rattle.theorems.proofs.disc.DiscFile.{one-disc-file}
 use Rattle.theorems.proofs.disc.InTables.{swap-in, holds-both, holds-first, holds-second}
-
-both-kinds : (p q : Bool) → p ≡ true → q ≡ true → (p && q) ≡ true
-both-kinds p q e f = rw (e, f) refl
+use Rattle.rules.proofs.Tests.{both}
 
 pub one-disc-file-in : OneDiscFileIn
 unfolding saveBothIn
@@ -40,8 +38,8 @@ one-disc-file-in =
           let s = one-disc-file .same (roomOf t) (roomOf u) (roomOf t') (roomOf u') (indexIn x t) (indexIn y u) (indexIn x' t') (indexIn y' u') (length old)
           (v .valid) (w .valid) (v' .valid) (w' .valid) (sized-in x t (a .typed) (a .bytes)) (sized-in y u (b .typed) (b .bytes)) (sized-in x' t' (a' .typed) (a' .bytes)) (sized-in y' u' (b' .typed) (b' .bytes)) e f in
           rw (
-            kinds-pass (kindsIn x t && kindsIn y u) (saveBoth (roomOf t) (indexIn x t) (roomOf u) (indexIn y u) (length old)) (both-kinds (kindsIn x t) (kindsIn y u) (v .kinds) (w .kinds)),
-            kinds-pass (kindsIn x' t' && kindsIn y' u') (saveBoth (roomOf t') (indexIn x' t') (roomOf u') (indexIn y' u') (length old)) (both-kinds (kindsIn x' t') (kindsIn y' u') (v' .kinds) (w' .kinds)),
+            kinds-pass (kindsIn x t && kindsIn y u) (saveBoth (roomOf t) (indexIn x t) (roomOf u) (indexIn y u) (length old)) (both (v .kinds) (w .kinds)),
+            kinds-pass (kindsIn x' t' && kindsIn y' u') (saveBoth (roomOf t') (indexIn x' t') (roomOf u') (indexIn y' u') (length old)) (both (v' .kinds) (w' .kinds)),
             s,
           );
       swapped = swap-in;

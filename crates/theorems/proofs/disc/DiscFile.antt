@@ -14,7 +14,7 @@ use Rattle.field.specs.Records.{bytesOf}
 use Rattle.field.proofs.Format.{none as nothing, one}
 use Rattle.rules.specs.declared.Area.{Area}
 use Rattle.rules.specs.declared.Header.{Header}
-use Rattle.rules.specs.Tests.{all, ask, firstNo, Answer, Accepted, after, bind}
+use Rattle.rules.specs.Tests.{ask, firstNo, Answer, Accepted, after, bind}
 use Rattle.rules.specs.Values.{Index, Lengths}
 use Rattle.rules.specs.Questions.{areaOk, question1, question2, question3, question4, Four, both, askFour, fourOf}
 use Rattle.rules.specs.Sizes.{sized}

@@ -7,13 +7,12 @@ use native.Mathlib.Omega.{arith}
 use borrow.Author.Tests.{le-leb, eqb-true, eqb-false}
 use lib.Dec.{eqb, ltb}
 use lib.ListN.{length}
-use Rattle.rules.specs.Tests.{Refused, Accepted, ask, firstNo, after, numberOf}
+use Rattle.rules.specs.Tests.{Accepted, ask, firstNo, after, numberOf}
 use Rattle.rules.specs.Values.{Index}
 use Rattle.rules_disc.specs.Disc.{slotOf, contentsOf, entriesOk, bodiesLength, discLength, discBytes, saveLists, saveOne, bySlot, saveBoth}
 use Rattle.rules.proofs.Tests.{test}
 use Rattle.laws.proofs.Length.{savedLength-is}
 use Rattle.tables.specs.Index.{indexIn, orFour, kinded, refusal, lowest}
-use Rattle.rules.specs.declared.Saved.{Saved}
 use Rattle.rules.specs.declared.Saved.the-variants as told
 use Rattle.save.specs.Save.{SaveOut, made, saveOut}
 use Rattle.player.specs.Block.{savedNumber}

@@ -3,7 +3,7 @@ use mathlib.Core.Path.{_≡_, refl, sym, ap, _∙_}
 use mathlib.Core.Bool.{true, false}
 use mathlib.Core.List.{List, [], _∷_, _++_}
 use mathlib.Core.Option.{Option, none, some}
-use Prim.Native.Nat.{ℕ, _+_, _-_, _*_, _≤_}
+use Prim.Native.Nat.{ℕ, _+_, _*_, _≤_}
 use native.Mathlib.Omega.{arith}
 use borrow.Author.Tests.{eqb-true, eqb-false, eq-eqb, ne-eqb, leb-true, le-leb}
 use lib.Dec.{eqb, leb}
@@ -15,12 +15,12 @@ use Rattle.field.proofs.Bytes.{bytes-drop}
 use Rattle.field.proofs.Number.{encode-number}
 use Rattle.field.proofs.Format.{Each, none as nothing, one, bytes-records}
 use Rattle.rules.specs.declared.Area.{Area}
-use Rattle.rules.specs.Tests.{Accepted, ask, bind}
+use Rattle.rules.specs.Tests.{Accepted, ask}
 use Rattle.rules.specs.Values.{Index, Lengths, max32}
 use Rattle.rules.specs.Questions.{areaOk, question1, question3, four}
 use Rattle.rules.specs.File.{saved, savedLength, save}
 use Rattle.rules.specs.Load.{fromBytes, limited, load}
-use Rattle.rules.proofs.Tests.{test, all→, →all, asked→, accepted-eq, bind→}
+use Rattle.rules.proofs.Tests.{test, all→, →all, asked→, accepted-eq, bind→, none-some, some-eq}
 use Rattle.laws.specs.Statements.{Savable, stripped}
 use Rattle.laws.proofs.Facts.{sized→}
 use Rattle.laws.proofs.Length.{savedLength-is}
@@ -34,6 +34,7 @@ use Rattle.theorems.proofs.RoundTrip.{loaded-saves, loaded-area}
 use Rattle.rules_disc.specs.declared.Entry.{Entry}
 use Rattle.rules_disc.specs.Disc.{entry, encodeEntry, tableSize, countIn, entriesIn, laid, contentsOk, entryOf, bodyAt, slotOf, entriesFrom, contentsOf, discBytes, entriesOk, loadBody}
 use Rattle.theorems.proofs.disc.Tables.{EntryFits, entry-layout}
+use Rattle.disc_load.proofs.contents.Inside.{none-laid, laid-below}
 
 -- ---- the rule of a table, by its first entry
 pub record Front (size s at : ℕ) (e : Entry) (es : List Entry) : Type 0 where
@@ -48,14 +49,6 @@ front size s at e es h =
     let g = all→ _ h in
     record { low = leb-true s (e .slot) (g .0); slot = leb-true (e .slot) 1 (g .1 .0); here = eqb-true (e .offset) at (g .1 .1 .0); rest = g .1 .1 .1 .0 }
 
-pub ends : (size s at : ℕ) → laid size s at [] ≡ true → at ≡ size
-unfolding laid
-ends size s at h = eqb-true at size h
-
-below : (size s at : ℕ) (es : List Entry) → laid size s at es ≡ true → at ≤ size
-below size s at [] h = let g = ends size s at h in omega arith
-below size s at (e ∷ es) h = let g = below size (e .slot + 1) (at + e .len) es (front size s at e es h .rest) in omega arith
-
 -- ---- lists whose files are the bodies
 pub data Bodies (b : List ℕ) : List Entry → List Index → Type 0 where
   no-more : Bodies b [] []
@@ -69,12 +62,12 @@ pub record Rebuilt (b : List ℕ) (at : ℕ) (es : List Entry) (xs : List Index)
 pub rebuilt : (b : List ℕ) (s at : ℕ) {es : List Entry} {xs : List Index} → Bodies b es xs → laid (length b) s at es ≡ true → Rebuilt b at es xs
 unfolding entriesFrom bytesOf
 rebuilt b s at no-more h =
-    let e = ends (length b) s at h in
+    let e = none-laid (length b) s at h in
     record { entries = refl; bodies = drop-of-length-le b {i = at} (omega arith) }
 rebuilt b s at (body {e = e} {es = es} {x = x} {xs = xs} p q r) h =
     let f = front (length b) s at e es h in
     let o = f .here in
-    let w = below (length b) (e .slot + 1) (at + e .len) es (f .rest) in
+    let w = laid-below (length b) (e .slot + 1) (at + e .len) es (f .rest) in
     let t : take (e .len) (drop at b) ≡ saved x = rw o at q in
     let n : e .len ≡ savedLength x =
     let k = savedLength-is x .0 in let j : length (take (e .len) (drop at b)) ≡ e .len = length-take (e .len) (drop at b) ∙ rw length-drop (omega arith) in
@@ -104,12 +97,6 @@ own-file b xs g h c k =
     rw (e, ← c, head, two, ← three, take-append-drop (countIn b * 12) d) (take-append-drop 4 b)
 
 -- ---- the table's entries by slot
-none-some : {A B : Type 0} {a : A} → _≡_ {A = Option A} none (some a) → B
-none-some e = let z : _≡_ {A = ℕ} 0 1 = cc in let f : ⊥ = omega arith in absurd f
-
-some-eq : {A : Type 0} {a b : A} → _≡_ {A = Option A} (some a) (some b) → a ≡ b
-some-eq e = cc
-
 -- the tests of a slot
 first-zero : (e : Entry) → e .slot ≡ 0 → eqb (e .slot) 0 ≡ true
 first-zero e h = eq-eqb (e .slot) 0 h

@@ -10,12 +10,12 @@ use borrow.Author.Tests.{ltb-true}
 use lib.Dec.{ltb}
 use lib.ListN.{length}
 use Rattle.rules.specs.declared.Area.{Area}
-use Rattle.rules.specs.Tests.{Answer, Refused, after, bind, ask, firstNo}
+use Rattle.rules.specs.Tests.{Refused, after, bind, ask, firstNo}
 use Rattle.rules.specs.Values.{Index, Lengths, max32}
 use Rattle.rules.specs.Questions.{Four}
 use Rattle.rules.specs.File.{saved, savedLength}
 use Rattle.rules.specs.Load.{load}
-use Rattle.rules.proofs.Tests.{test, both, →asked, →bind}
+use Rattle.rules.proofs.Tests.{test, both, →asked, →bind, refused-bind}
 use Rattle.laws.proofs.Length.{savedLength-is}
 use Rattle.blocks.specs.Blocks.{isIndex}
 use Rattle.rules_disc.specs.Disc.{slotOf, slotArea, contentsOk, contentsOf, entriesOk, saveLists, saveOne, bySlot, saveBoth, loadBody, loadBodies, loadDisc}
@@ -37,10 +37,6 @@ use Rattle.theorems.proofs.disc.RoundTripInC.{→in-head, loads-c}
 body-refused : (l : Lengths) (a : Area) (limit : ℕ) (o : Option (List ℕ)) (c : List ℕ) (n : ℕ) → o ≡ some c → load l a c limit ≡ Refused n → loadBody l a limit o ≡ Refused n
 unfolding loadBody bind
 body-refused l a limit o c n e f = rw (e, f) refl
-
-refused-bind : {A B : Type 0} (n : ℕ) (r : Answer A) (f : A → Answer B) → r ≡ Refused n → bind r f ≡ Refused n
-unfolding bind
-refused-bind n r f e = rw e
 
 -- lists that pass 1 to 4, and not 54
 lists-refused : (p : Four) (xs : List Index) (out : ℕ) → p .one ≡ true → p .two ≡ true → p .three ≡ true → p .four ≡ true → entriesOk 0 (contentsOf xs) ≡ false
@@ -74,9 +70,9 @@ disc-refusals =
       areas = λ l m a0 a1 b limit q. rw q refl;
       table = λ l m a0 a1 b limit p q c. let k : (slotArea 0 a0 && slotArea 1 a1) ≡ true = both p q in rw (k, c) refl;
       first = λ l m a0 a1 b limit c n p q k e f.
-          →asked (ask (slotArea 0 a0 && slotArea 1 a1) 1 ∷ ask (contentsOk b) 54 ∷ []) (both p q, (k, tt)) (refused-bind n _ _ (body-refused l a0 limit _ c n e f));
+          →asked (ask (slotArea 0 a0 && slotArea 1 a1) 1 ∷ ask (contentsOk b) 54 ∷ []) (both p q, (k, tt)) (refused-bind _ n (body-refused l a0 limit _ c n e f));
       second = λ l m a0 a1 b limit o d n p q k e f g.
-          →asked (ask (slotArea 0 a0 && slotArea 1 a1) 1 ∷ ask (contentsOk b) 54 ∷ []) (both p q, (k, tt)) (→bind _ e (refused-bind n _ _ (body-refused m a1 limit _ d n f g)));
+          →asked (ask (slotArea 0 a0 && slotArea 1 a1) 1 ∷ ask (contentsOk b) 54 ∷ []) (both p q, (k, tt)) (→bind _ e (refused-bind _ n (body-refused m a1 limit _ d n f g)));
       share = λ l m x y out v w e.
           let n : ltb (slotOf x) (slotOf y) ≡ false = same-slot x y e in
           rw n (lists-refused _ (y ∷ x ∷ []) out (both (v .one) (w .one)) (both (v .two) (w .two)) (both (v .three) (w .three)) (both (v .four) (w .four)) (equal-slots y x (sym e)));

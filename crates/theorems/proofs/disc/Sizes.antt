@@ -11,7 +11,7 @@ use Rattle.rules.specs.Values.{Index}
 use Rattle.rules.specs.Questions.{areaOk}
 use Rattle.rules.specs.Load.{fromBytes, limited}
 use Rattle.rules_disc.specs.Disc.{entriesIn, entryOf, contentsOk, bodyAt, slotArea, loadBody, loadBodies, loadDisc}
-use Rattle.rules.proofs.Tests.{asked→, →asked, accepted-eq, bind→, →bind}
+use Rattle.rules.proofs.Tests.{asked→, →asked, accepted-eq, bind→, →bind, refused-bind}
 use Rattle.tables.specs.Index.{Tables, roomOf}
 use Rattle.rules.specs.declared.TableSizes.{TableSizes}
 use Rattle.sizes.specs.Sizes.{hasSizes, sizesFor, fileSizes}
@@ -48,10 +48,6 @@ unfolding bind
 bind-refused (Refused m) f e first later = first (same-number e)
 bind-refused (Accepted v) f e first later = later v refl e
 
-→refused : {A B : Type 0} {r : Answer A} (f : A → Answer B) {n : ℕ} → r ≡ Refused n → bind r f ≡ Refused n
-unfolding bind
-→refused f h = rw h
-
 -- ---- the body of a slot
 module _ (a : Area) (limit : ℕ) (t : Tables) where
   body-fits : (o : Option (List ℕ)) (s : Option TableSizes) → bodySizes a limit o ≡ Accepted s → hasSlot s t ≡ true → Listed (loadBody (roomOf t) a limit o)
@@ -66,7 +62,7 @@ module _ (a : Area) (limit : ℕ) (t : Tables) where
   unfolding bodySizes loadBody
   body-refused none e = not-refused e
   body-refused (some b) {n} e =
-      bind-refused (fileSizes a b limit) (λ x. Accepted (some x)) e (λ h. →refused _ (load-refused a b limit n t h)) (λ v h k. not-refused k)
+      bind-refused (fileSizes a b limit) (λ x. Accepted (some x)) e (λ h. refused-bind _ _ (load-refused a b limit n t h)) (λ v h k. not-refused k)
 
 -- ---- the file
 -- 1 and 54 refuse alike
@@ -105,10 +101,10 @@ module _ (a0 a1 : Area) (b : List ℕ) (limit : ℕ) (t u : Tables) where
   disc-refused n e h =
       asked-refused (slotArea 0 a0 && slotArea 1 a1) (contentsOk b)
       (λ z.
-      bind-refused (bodySizes a0 limit first) _ z (λ g. →refused _ (body-refused a0 limit t first g))
+      bind-refused (bodySizes a0 limit first) _ z (λ g. refused-bind _ _ (body-refused a0 limit t first g))
       (λ v g w.
       bind-refused (bodySizes a1 limit second) _ w
-      (λ k. let x = body-fits a0 limit t first v g (h v g) in →bind _ (x .is) (→refused _ (body-refused a1 limit u second k))) (λ s k j. not-refused j)))
+      (λ k. let x = body-fits a0 limit t first v g (h v g) in →bind _ (x .is) (refused-bind _ _ (body-refused a1 limit u second k))) (λ s k j. not-refused j)))
       e
 
 pub disc-sizes-told : DiscSizesTold

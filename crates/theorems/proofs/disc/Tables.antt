@@ -16,7 +16,6 @@ use Rattle.field.specs.Fields.{FieldsFit}
 use Rattle.field.proofs.Number.{encode-length, decode-encode}
 use Rattle.field.proofs.Format.{Layout, Each, none as nothing, one, records-bytes, bytesOf-length}
 use Rattle.field.proofs.Fields.{of-fields}
-use Rattle.rules.specs.Tests.{all}
 use Rattle.rules.specs.Values.{Index, max32}
 use Rattle.rules.specs.File.{saved, savedLength}
 use Rattle.rules.proofs.Tests.{all→, →all, test}

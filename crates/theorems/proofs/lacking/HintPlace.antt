@@ -17,18 +17,12 @@ use Rattle.rules.specs.Tests.{isSome, orElse, Accepted, ask, firstNo}
 use Rattle.rules.specs.Values.{Index, hintReach, noHint, noConfirmation, isChecked}
 use Rattle.rules.specs.Questions.{four, question1, question2, question3, question4}
 use Rattle.rules.specs.Hints.{unkeptHint, larger, largerOf, largestOf, near, confirmedAt, hintPlace, Hinted, hintedLocally, hintedLater, hintedAt, hint}
-use Rattle.rules.proofs.Tests.{test, never, choose, both, and-left, and-right, or-cases, or-left, or-right, asked, asks, accepted→, →after}
+use Rattle.rules.proofs.Tests.{test, never, choose, both, and-left, and-right, or-cases, or-left, or-right, asked, asks, accepted→, →after, some-eq, none-some}
 use Rattle.theorems.specs.Hints.{Stands}
 use Rattle.theorems.specs.Lacks.{Serves, HintServes, LacksHint}
 use Rattle.theorems.proofs.Useful.{largest-found}
 use Rattle.theorems.proofs.lacking.Trans.{lacks→}
 use Rattle.theorems.proofs.lacking.Serves.{nothing-lacking}
-
-some-is : {A : Type 0} {a b : A} → _≡_ {A = Option A} (some a) (some b) → a ≡ b
-some-is e = cc
-
-none-some : {P : Type 0} {A : Type 0} {a : A} → _≡_ {A = Option A} none (some a) → P
-none-some e = let z : _≡_ {A = ℕ} 0 1 = cc in let f : ⊥ = omega arith in absurd f
 
 cases : {A : Type 0} (P : Type 0) (o : Option A) → (o ≡ none → P) → ((a : A) → o ≡ some a → P) → P
 cases P none f g = f refl
@@ -107,16 +101,16 @@ module _ (p : ℕ → Bool) (hs : List Hint) where
       → Most (suc n) k
   unfolding largerOf isSome
   step n none found most k e i l y =
-      let q : n ≡ k = some-is e in
+      let q : n ≡ k = some-eq e in
       last-or i n l (λ z. subst (λ (v : ℕ). NotBelow v i) q (subst (λ (v : ℕ). NotBelow n v) (sym z) (self n))) (λ z. never {b = false} (found i z y) refl)
   step n (some m) found most k e i l y =
       test (larger hs m n)
       (λ w.
-      let q : n ≡ k = some-is (rw w at e) in
+      let q : n ≡ k = some-eq (rw w at e) in
       last-or i n l (λ z. subst (λ (v : ℕ). NotBelow v i) q (subst (λ (v : ℕ). NotBelow n v) (sym z) (self n)))
       (λ z. subst (λ (v : ℕ). NotBelow v i) q (larger-on m n i w (most m refl i z y))))
       (λ w.
-      let q : m ≡ k = some-is (rw w at e) in
+      let q : m ≡ k = some-eq (rw w at e) in
       last-or i n l (λ z. subst (λ (v : ℕ). NotBelow v i) q (subst (λ (v : ℕ). NotBelow m v) (sym z) (larger-no m n w)))
       (λ z. subst (λ (v : ℕ). NotBelow v i) q (most m refl i z y)))
 
@@ -129,9 +123,9 @@ module _ (p : ℕ → Bool) (hs : List Hint) where
 
   larger-passes : (k : ℕ) (o : Option ℕ) (i : ℕ) → ((m : ℕ) → o ≡ some m → p m ≡ true) → p k ≡ true → some (largerOf hs o k) ≡ some i → p i ≡ true
   unfolding largerOf
-  larger-passes k none i h y e = ap p (sym (some-is e)) ∙ y
+  larger-passes k none i h y e = ap p (sym (some-eq e)) ∙ y
   larger-passes k (some m) i h y e =
-      test (larger hs m k) (λ w. let q : k ≡ i = some-is (rw w at e) in ap p (sym q) ∙ y) (λ w. let q : m ≡ i = some-is (rw w at e) in ap p (sym q) ∙ h m refl)
+      test (larger hs m k) (λ w. let q : k ≡ i = some-eq (rw w at e) in ap p (sym q) ∙ y) (λ w. let q : m ≡ i = some-eq (rw w at e) in ap p (sym q) ∙ h m refl)
 
   passes : (n i : ℕ) → largestOf p hs n ≡ some i → p i ≡ true
   unfolding largestOf
@@ -145,10 +139,10 @@ module _ (p : ℕ → Bool) (hs : List Hint) where
       test (p n)
       (λ y.
       let d = rw y at e in
-      cases (i < suc n) (largestOf p hs n) (λ q. let w : n ≡ i = some-is (rw q at d) in omega arith)
+      cases (i < suc n) (largestOf p hs n) (λ q. let w : n ≡ i = some-eq (rw q at d) in omega arith)
       (λ m q.
       let l = within n m q in let b = rw q at d in
-      test (larger hs m n) (λ v. let w : n ≡ i = some-is (rw v at b) in omega arith) (λ v. let w : m ≡ i = some-is (rw v at b) in omega arith)))
+      test (larger hs m n) (λ v. let w : n ≡ i = some-eq (rw v at b) in omega arith) (λ v. let w : m ≡ i = some-eq (rw v at b) in omega arith)))
       (λ y. let l = within n i (rw y at e) in omega arith)
 
 -- ---- confirmations
@@ -276,7 +270,7 @@ hinted-from : (a : Area) (hs : List Hint) (end playtime : ℕ) (o : Option ℕ) 
 unfolding hintedAt
 hinted-from a hs end playtime none b e = none-some e
 hinted-from a hs end playtime (some i) b e =
-    let r = hinted-at a hs end playtime i in let q : r .0 ≡ b = some-is (sym (r .1) ∙ e) in
+    let r = hinted-at a hs end playtime i in let q : r .0 ≡ b = some-eq (sym (r .1) ∙ e) in
     (i, refl, ap (λ (z : Hinted). z .lsn) (sym q) ∙ r .2, ap (λ (z : Hinted). z .number) (sym q) ∙ r .3)
 
 -- ---- all of it

@@ -1,6 +1,6 @@
 -- The statements over lent tables. Assumes nothing.
 use mathlib.Core.Path.{_≡_, refl, sym, ap, subst, _∙_}
-use mathlib.Core.Bool.{Bool, true, _&&_}
+use mathlib.Core.Bool.{true, _&&_}
 use mathlib.Core.List.{List}
 use mathlib.Core.Option.{some}
 use Prim.Native.Nat.{ℕ, _≤_}
@@ -9,7 +9,7 @@ use Rattle.rules.specs.declared.AreaIndex.{AreaIndex}
 use Rattle.rules.specs.declared.Area.{Area}
 use Rattle.rules.specs.declared.Plan.{Plan}
 use Rattle.rules.specs.declared.Plan.the-variants.{At}
-use Rattle.rules.specs.Tests.{Answer, Accepted}
+use Rattle.rules.specs.Tests.{Accepted}
 use Rattle.rules.specs.Values.{used}
 use Rattle.rules.specs.Plan.{planned, startOf, bytesAt}
 use Rattle.rules.specs.Merge.{question41, merged}
@@ -18,7 +18,7 @@ use Rattle.rules_jump.proofs.Values.{named-some, some-named}
 use Rattle.rules.proofs.Tests.{both, and-left, and-right, all→, after→, accepted→, →after}
 use Rattle.adds.specs.Adds.{bringsOf, brings}
 use Rattle.rules.proofs.Same.{sameArea-eq}
-use Rattle.tables.specs.Index.{Tables, roomOf, indexIn, kindsIn, kinded, refusal}
+use Rattle.tables.specs.Index.{Tables, roomOf, indexIn, kindsIn, refusal}
 use Rattle.index.specs.Steps.{Passes}
 use Rattle.index.proofs.Questions.{passes}
 use Rattle.index.proofs.Lent.{store-is}
@@ -36,6 +36,7 @@ use Rattle.theorems.proofs.lacking.HintPlace.{lacks-hint}
 use Rattle.theorems.proofs.lacking.MergeLacks.{merge-lacks}
 use Rattle.theorems.proofs.lacking.MergeLeft as left
 use Rattle.theorems.proofs.lacking.Malformed.{merge-malformed}
+use Rattle.theorems.proofs.TableRun.{kinds-pass}
 
 -- a plan that is accepted in tables
 record Plans (x : AreaIndex) (t : Tables) (f : ℕ) (p : Plan) : Type 0 where
@@ -78,10 +79,6 @@ nothing-lacking-in-tables x t y u b e h =
           );
     }
 
-kinded-is : {A : Type 0} (ok : Bool) (r : Answer A) → ok ≡ true → kinded ok r ≡ r
-unfolding kinded
-kinded-is ok r e = rw e
-
 pub lacks-hint-in-tables : LacksHintInTables
 unfolding hintIn
 lacks-hint-in-tables x t y u b e h mark first end playtime q d =
@@ -89,7 +86,7 @@ lacks-hint-in-tables x t y u b e h mark first end playtime q d =
     let f = kinded→ (kindsIn y u) (namedHint (roomOf u) (indexIn y u) first end playtime) (some q) d in
     let r = lacks-hint (roomOf t) (roomOf u) (indexIn x t) (indexIn y u) b (k .1) h mark first end playtime (q .hinted) (named-some (roomOf u) (indexIn y u) first end playtime q (f .1)) in
     let p = some-named (roomOf t) (indexIn x t) first end playtime (r .0) (r .1) in
-    (p .0, kinded-is (kindsIn x t) (namedHint (roomOf t) (indexIn x t) first end playtime) (and-left (kindsIn x t) (kindsIn y u) (k .0)) ∙ p .1, rw (p .2) (r .2))
+    (p .0, kinds-pass (kindsIn x t) (namedHint (roomOf t) (indexIn x t) first end playtime) (and-left (kindsIn x t) (kindsIn y u) (k .0)) ∙ p .1, rw (p .2) (r .2))
 
 pub lacks-trans-in-tables : LacksTransInTables
 lacks-trans-in-tables x t y u z v b c e h f g i =
@@ -97,7 +94,7 @@ lacks-trans-in-tables x t y u z v b c e h f g i =
     let m = kinded→ (kindsIn y u && kindsIn z v) (lacks (roomOf u) (indexIn y u) (roomOf v) (indexIn z v)) c f in
     let r = lacks-trans (roomOf t) (roomOf u) (roomOf v) (indexIn x t) (indexIn y u) (indexIn z v) b c (k .1) h (m .1) g i in
     let ok = both (and-left (kindsIn x t) (kindsIn y u) (k .0)) (and-right (kindsIn y u) (kindsIn z v) (m .0)) in
-    (r .0, kinded-is (kindsIn x t && kindsIn z v) (lacks (roomOf t) (indexIn x t) (roomOf v) (indexIn z v)) ok ∙ r .1, r .2)
+    (r .0, kinds-pass (kindsIn x t && kindsIn z v) (lacks (roomOf t) (indexIn x t) (roomOf v) (indexIn z v)) ok ∙ r .1, r .2)
 
 pub lacks-adds-in-tables : LacksAddsInTables
 unfolding brings
@@ -106,7 +103,7 @@ lacks-adds-in-tables x t y u b z t' lx ly e h m =
     let p = lacks→ (roomOf t) (roomOf u) (indexIn x t) (indexIn y u) b (k .1) h in
     let a : brings (roomOf t) (indexIn x t) (roomOf u) (indexIn y u) ≡ Accepted (bringsOf (indexIn x t) (merged (indexIn x t) (indexIn y u))) =
     →after (→asked (roomOf t) (roomOf u) (indexIn x t) (indexIn y u) (p .0)) refl in
-    only-image-named-in-tables x t y u _ z t' lx ly (kinded-is (kindsIn x t && kindsIn y u) _ (k .0) ∙ a) m
+    only-image-named-in-tables x t y u _ z t' lx ly (kinds-pass (kindsIn x t && kindsIn y u) _ (k .0) ∙ a) m
     (lacks-brings (roomOf t) (roomOf u) (indexIn x t) (indexIn y u) b _ (k .1) h a)
 
 pub merge-lacks-in-tables : MergeLacksInTables

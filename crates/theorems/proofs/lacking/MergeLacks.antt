@@ -24,6 +24,7 @@ use Rattle.theorems.proofs.Useful.{merge-takes}
 use Rattle.rules_lacks.specs.Lacks.{covers, samePart, lacking}
 use Rattle.rules_lacks.proofs.Laws.{Found, →covers, →samePart, none-missing}
 use Rattle.theorems.specs.Lacks.{MergeLacks}
+use Rattle.laws.proofs.hint_lists.Closure.{merged-known}
 
 -- ---- nothing of a kind
 none-more : (n m : ℕ) → m ≤ n → m - n ≡ 0
@@ -34,12 +35,6 @@ known-none true b f = rw (f refl)
 known-none false b f = refl
 
 -- ---- the fingerprint and the image id
-stated-own : (f g : Fingerprint) → isSome (stated f) ≡ true → isSome (stated (mergedFingerprint f g)) ≡ true
-unfolding stated isSome mergedFingerprint
-stated-own Unknown g e = never {b = false} e refl
-stated-own (fingerprint.Held v) g e = refl
-stated-own (Checked v) g e = refl
-
 stated-other : (f g : Fingerprint) → isSome (stated g) ≡ true → isSome (stated (mergedFingerprint f g)) ≡ true
 unfolding stated isSome mergedFingerprint heldFrom
 stated-other Unknown Unknown e = e
@@ -130,7 +125,7 @@ merge-lacks l m own other y e =
       checkpoints = none-more _ _ (counts-own (own .scan) (other .scan) (y .scan) t o w);
       ending = known-none _ _ (complete-own (own .scan) (other .scan) (y .scan) t o w);
       parts = none-missing _ _ _ (parts-own (own .scan) (other .scan) (y .scan) t o w);
-      fingerprint = known-none _ _ (λ z. ap (λ (g : Fingerprint). isSome (stated g)) (sym f) ∙ stated-own (own .fingerprint) (other .fingerprint) z);
+      fingerprint = known-none _ _ (λ z. ap (λ (g : Fingerprint). isSome (stated g)) (sym f) ∙ merged-known (own .fingerprint) (other .fingerprint) z);
       image = known-none _ _ (λ z. ap isSome (sym i) ∙ else-own (own .image) (other .image) z);
       budget = rw b (le-ltb (own .scan .budget) (own .scan .budget) (omega arith));
       most = rw (← h) (le-ltb (own .hinting .most) (own .hinting .most) (omega arith));

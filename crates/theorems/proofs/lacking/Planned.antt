@@ -3,14 +3,12 @@ use mathlib.Core.Path.{_≡_, refl, sym, ap, _∙_}
 use mathlib.Core.Bool.{true}
 use mathlib.Core.List.{List, [], _∷_, _++_}
 use mathlib.Core.Option.{Option, none, some}
-use Prim.Native.Nat.{ℕ, zero, suc, _+_, _<_}
+use Prim.Native.Nat.{ℕ, zero, suc, _<_}
 use native.Mathlib.Omega.{arith}
 use lib.Dec.{eqb, leb}
 use lib.ListN.{length, getD}
 use borrow.Author.Tests.{eqb-true, eq-eqb, ne-eqb}
-use Rattle.rules.specs.declared.Area.{Area}
 use Rattle.rules.specs.declared.Assembly.the-variants.{Stored}
-use Rattle.rules.specs.declared.Checkpoint.{Checkpoint}
 use Rattle.rules.specs.declared.EndState.{EndState}
 use Rattle.rules.specs.declared.Held.{Held}
 use Rattle.rules.specs.declared.HeldPart.{HeldPart}
@@ -18,11 +16,9 @@ use Rattle.rules.specs.declared.Plan.{Plan}
 use Rattle.rules.specs.declared.Plan.the-variants.{At, End}
 use Rattle.rules.specs.declared.Resume.{Resume}
 use Rattle.rules.specs.Values.{Frame, Scan, noHeld}
-use Rattle.rules.specs.Sections.{partOk}
 use Rattle.rules.specs.Plan.{offsetOf, assemblyOf, planFrom, planOr, planned, bytesAt}
 use Rattle.rules.proofs.Tests.{test}
-use Rattle.rules.proofs.Walk.{walk-rises}
-use Rattle.laws.proofs.scans.Parts.{keep, atAfter, part→, follows→, HeldIs, part-at}
+use Rattle.laws.proofs.scans.Parts.{part-at, parts-rise}
 use Rattle.laws.proofs.scans.Scans.{ScanIs}
 use Rattle.tables.specs.Index.{storeOf}
 use Rattle.index.proofs.Store.{store-part}
@@ -46,7 +42,7 @@ or-some f none p r e = e
 or-some f (some s) p r e =
     test (leb (s .threshold) f) (λ q. let w : End s ≡ At r = rw q at e in let z : _≡_ {A = ℕ} 0 1 = cc in let g : ⊥ = omega arith in absurd g) (λ q. rw q at e)
 
-planned-part : (x : Scan) (f : ℕ) (r : Resume) → planned x f ≡ At r → r .assembly ≡ assemblyOf (x .frames) (x .parts) (r .number)
+pub planned-part : (x : Scan) (f : ℕ) (r : Resume) → planned x f ≡ At r → r .assembly ≡ assemblyOf (x .frames) (x .parts) (r .number)
 unfolding planned
 planned-part x f r e = from-some x _ r (or-some f (x .ending) _ r e)
 
@@ -75,13 +71,6 @@ first-part fs (p ∷ ps) zero l f = rw (eq-eqb (p .at) (p .at) refl)
 first-part fs (p ∷ ps) (suc i) l f =
     let w = f zero (omega arith) in
     rw (ne-eqb (p .at) (getD ps i noHeld .at) (λ z. omega arith)) (first-part fs ps i (omega arith) (λ k m. f (suc k) (omega arith)))
-
-parts-rise : (a : Area) (k budget : ℕ) (cs : List Checkpoint) (fs : List Frame) (ps : List Held) → HeldIs a k budget 0 cs fs ps → (i j : ℕ) → i < j → j < length ps
-    → getD ps i noHeld .at < getD ps j noHeld .at
-parts-rise a k budget cs fs ps h i j l m =
-    let w =
-    walk-rises (partOk a k 0 cs fs) keep (λ p. p .at) atAfter 1 (λ o p e. follows→ o p (part→ a k 0 cs fs o p e .1) .0) (λ o p. omega arith) noHeld none ps i j (h .parts) l m in
-    omega arith
 
 -- ---- the same part
 kind-is : (fs : List Frame) (p : Held) (h : HeldPart) → Stored h ≡ storedOf fs p → h .kind ≡ p .kind
@@ -116,7 +105,7 @@ module _ (own other : Scan) (ok : ScanIs own) (ok' : ScanIs other) (c : covers (
       let theirs = part-at (other .area) (other .interval) (other .budget) 0 (other .checkpoints) (other .frames) (other .parts) (f .place) (ok' .stretch .held) (f .within) in
       let first : assemblyOf (own .frames) (own .parts) (p .at) ≡ Stored k =
       first-part (own .frames) (own .parts) (g .place) (g .inside)
-      (λ i l. parts-rise (own .area) (own .interval) (own .budget) (own .checkpoints) (own .frames) (own .parts) (ok .stretch .held) i (g .place) l (g .inside)) in (
+      (λ i l. parts-rise (own .area) (own .interval) 0 (own .checkpoints) (own .frames) (own .parts) (ok .stretch .held .parts) i (g .place) l (g .inside)) in (
         k,
         ap (assemblyOf (own .frames) (own .parts)) (sym at) ∙ first,
         record {

@@ -15,7 +15,7 @@ use Rattle.rules.specs.declared.EndState.{EndState}
 use Rattle.rules.specs.declared.Hint.{Hint}
 use Rattle.rules.specs.declared.Plan.{Plan}
 use Rattle.rules.specs.Tests.{isSome, agree, agrees}
-use Rattle.rules.specs.Values.{Scan, Index, Lengths, noCheckpoint, noHeld, noHint, noConfirmation, checkpointAt, boundaries, count, complete, stated, sameCheckpoint, sameEnd}
+use Rattle.rules.specs.Values.{Scan, Index, Lengths, noCheckpoint, noHeld, noHint, noConfirmation, checkpointAt, boundaries, count, stated, sameCheckpoint, sameEnd}
 use Rattle.rules.specs.Questions.{areaOk, question1, question2, question4}
 use Rattle.rules.specs.Merge.{question41, question42, question43}
 use Rattle.rules.specs.Plan.{lastNotAbove, planFrom, planOr, planned, startOf, jump}
