@@ -1,4 +1,4 @@
--- New, the fingerprint entry and the recorders that an index gives.
+-- Document 01, "New", "Confirmation" and "Index": new, the fingerprint entry and the recorders that an index gives.
 use Prim.Native.Nat.{ℕ, min}
 use mathlib.Core.Bool.{_||_, cond}
 use mathlib.Core.List.{[], _∷_}
@@ -11,7 +11,7 @@ use Rattle.rules.specs.Tests.{agree, Answer, Accepted, after, ask, first
 use Rattle.rules.specs.Values.{Scan, Hinting, Index, Recorder, HintRecorder, Lengths, maxHints, count, complete, stated}
 use Rattle.rules.specs.Questions.{question1, question2, question3, four}
 
--- an empty index; M above 262,144 is lowered
+-- an empty index; M above 262,144 is lowered (change request 12)
 abbrev pub emptyIndex : Area → ℕ → ℕ → ℕ → ℕ → Index
 emptyIndex a k budget spacing most =
     record {
@@ -27,14 +27,16 @@ new l a k budget spacing most =
     let x = emptyIndex a k budget spacing most in
     after (firstNo (ask (question1 x) 1 ∷ ask (question2 x) 2 ∷ ask (question3 l x) 3 ∷ [])) (Accepted x)
 
--- the entry that states a fingerprint (bind_fingerprint): 1 to 4, 15; it is stored if none is held, and checked. Behind 15 v is the held one, if any.
+-- The entry that states a fingerprint is added: it stores the fingerprint if none is held and sets the checked mark.
+-- Behind 15 v is the held one, if any.
 abbrev pub bound : Index → ℕ → Index
 bound x v = record { scan = x .scan; hinting = x .hinting; fingerprint = Checked v; image = x .image }
 
+-- 1 to 4, 15: the held one, if any?
 unfoldable pub bindFingerprint : Lengths → Index → ℕ → Answer Index
 bindFingerprint l x v = after (firstNo (four l x (ask (agree eqb (stated (x .fingerprint)) (some v)) 15 ∷ []))) (Accepted (bound x v))
 
--- a complete index gives a stopped recorder
+-- A complete index gives a stopped recorder
 abbrev pub emptyRecorder : Scan → ℕ → Recorder
 emptyRecorder x from =
     record {
@@ -49,13 +51,15 @@ emptyRecorder x from =
       mode = cond (complete x) Stopped Running;
     }
 
+-- the call: 1 to 4
 unfoldable pub recorder : Lengths → Index → ℕ → Answer Recorder
 recorder l x from = after (firstNo (four l x [])) (Accepted (emptyRecorder (x .scan) from))
 
--- spacing or M of 0: no hint recorder
+-- Spacing or M of 0: no hint recorder
 abbrev pub emptyHintRecorder : Hinting → Option HintRecorder
 emptyHintRecorder r =
     cond (eqb (r .spacing) 0 || eqb (r .most) 0) none (some (record { spacing = r .spacing; last = none; tail = none; list = [] }))
 
+-- the call: 1 to 4
 unfoldable pub hintRecorder : Lengths → Index → Answer (Option HintRecorder)
 hintRecorder l x = after (firstNo (four l x [])) (Accepted (emptyHintRecorder (x .hinting)))

@@ -30,7 +30,7 @@ pub record Field : Type 0 where
 abbrev pub field : ℕ → ℕ → Field
 field o w = record { offset = o; width = w }
 
--- the nineteen fields, in the order of the file
+-- One constant table gives offset and width of the header's nineteen fields, in the order of the file
 unfoldable pub headerFields : List Field
 headerFields =
     field 0 8 ∷ field 8 4 ∷ field 12 1 ∷ field 13 1 ∷ field 14 1 ∷ field 15 1 ∷ field 16 4 ∷ field 20 4 ∷ field 24 8 ∷ field 32 4 ∷ field 36 4
@@ -82,7 +82,7 @@ headerBytes h = writeFields headerFields (headerValues h)
 abbrev pub magicBytes : List ℕ
 magicBytes = 83 ∷ 66 ∷ 83 ∷ 69 ∷ 69 ∷ 75 ∷ 73 ∷ 88 ∷ []
 
--- ---- records
+-- ---- from byte 80: checkpoints 24 bytes; frames 8 and bytes; parts 24; malformed LSNs 4; hints 8; confirmations 16
 unfoldable pub encodeCheckpoint : Checkpoint → List ℕ
 encodeCheckpoint c = encode 4 (c .threshold) ++ (encode 4 (c .back) ++ (encode 8 (c .malformed) ++ encode 8 (c .digest)))
 
@@ -169,7 +169,7 @@ hasHinting x =
     isSome (stated (x .fingerprint))
     || (not (eqb (length (x .hinting .hints)) 0) || not (eqb (x .hinting .spacing) defaultSpacing && eqb (x .hinting .most) defaultHints))
 
--- the lowest version that carries the content
+-- The version is the lowest that carries the content; 4 where M is above 65,536 (change request 12)
 unfoldable pub versionOf : Index → ℕ
 versionOf x = cond (ltb maxShortHints (x .hinting .most)) 4 (cond (hasConfirmed x) 3 (cond (hasHinting x) 2 1))
 
@@ -197,7 +197,7 @@ headerOf x =
       counted = endOrZero (x .scan .ending) .malformed;
     }
 
--- from version 2 the fingerprint, spacing, M, count, zero, and the hints
+-- from version 2 a hint header 24 (fingerprint, spacing, M, count, zero) and hints 8
 unfoldable pub hintSection : Index → List ℕ
 hintSection x =
     cond (leb 2 (versionOf x))
@@ -207,7 +207,7 @@ hintSection x =
     ++ (encode 4 (length (x .hinting .hints)) ++ (encode 4 0 ++ bytesOf encodeHint (x .hinting .hints))))))
     []
 
--- from version 3 on the count, zero, and the confirmations
+-- from version 3 a header 8 (count, zero) and confirmations 16
 unfoldable pub confirmedSection : Index → List ℕ
 confirmedSection x =
     cond (leb 3 (versionOf x))
@@ -223,7 +223,7 @@ bodyOf x =
     ++ (bytesOf encodeHeld (x .scan .parts)
     ++ (bytesOf encodeLsn (x .scan .malformed) ++ (hintSection x ++ confirmedSection x)))))
 
--- the saved list
+-- last the sum of all before
 unfoldable pub saved : Index → List ℕ
 saved x = bodyOf x ++ encode 8 (fnv64 (bodyOf x))
 
@@ -236,7 +236,7 @@ savedLength x =
     + cond (leb 3 (versionOf x)) (8 + 16 * length (x .hinting .confirmed)) 0
     + 8
 
--- Save: 1 to 4, 40: is the output long enough? What lies past the length stays.
+-- Save: 1 to 4, 40 is the output long enough? What lies past the length stays.
 unfoldable pub save : Lengths → Index → ℕ → Answer (List ℕ)
 save l x out = after (firstNo (four l x (ask (leb (savedLength x) out) 40 ∷ []))) (Accepted (saved x))
 

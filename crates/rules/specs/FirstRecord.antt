@@ -9,14 +9,15 @@ use Rattle.rules.specs.declared.Absence.the-variants.{NoFrame, Missing}
 use Rattle.rules.specs.declared.First.{First}
 use Rattle.rules.specs.declared.First.the-variants.{Number, Nothing}
 
--- f and k of the header byte h
+-- Header byte h: f = (h >> 2) mod 8
 abbrev pub frames : ℕ → ℕ
 frames h = h / 2 ^ 2 % 8
 
+-- k = h >> 5
 abbrev pub packets : ℕ → ℕ
 packets h = h / 2 ^ 5
 
--- the frame number in the three bytes from r on
+-- bytes a, b, c at r give (a × 60 + b) × 75 + c
 unfoldable pub timeAt : List ℕ → ℕ → ℕ
 timeAt s r = (getD s r 0 * 60 + getD s (r + 1) 0) * 75 + getD s (r + 2) 0
 
@@ -28,7 +29,7 @@ firstRecord s =
     (cond (ltb (length s) (1 + 2 * packets (getD s 0 0) + 3)) (Nothing Missing)
     (Number (record { number = timeAt s (1 + 2 * packets (getD s 0 0)); offset = 1 + 2 * packets (getD s 0 0) }))))
 
--- the frame number alone, as the source tells it: none where the header byte is missing, f is 0 or one of the three bytes is missing
+-- f = 0, or bytes missing: none. Else bytes a, b, c at 1 + 2 × k give the number
 unfoldable pub recordNumber : List ℕ → Option ℕ
 recordNumber s =
     cond (eqb (length s) 0 || eqb (frames (getD s 0 0)) 0 || ltb (length s) (1 + 2 * packets (getD s 0 0) + 3)) none

@@ -17,18 +17,21 @@ use Rattle.rules.specs.Sections.{hintLsn, confirmedLsn, isKept, keptCoun
 use Rattle.rules.specs.Questions.{four, hintRecorderFour}
 
 -- ---- see, flush, take
--- none was ever listed, or it is at least last + spacing (saturating), or below last
+-- if none was ever listed, even before a taking, or it is at least last + spacing (saturating), or below last
 unfoldable pub spaced : Option ℕ → ℕ → ℕ → Bool
 spaced none spacing t = true
 spaced (some l) spacing t = leb (min (l + spacing) max32) t || ltb t l
 
+-- Listing and flushing clear the tail
 abbrev pub listed : HintRecorder → Hint → HintRecorder
 listed r h = record { spacing = r .spacing; last = some (h .number); tail = none; list = r .list ++ (h ∷ []) }
 
+-- it becomes the tail
 abbrev pub tailed : HintRecorder → Hint → HintRecorder
 tailed r h = record { spacing = r .spacing; last = r .last; tail = some h; list = r .list }
 
--- a record is listed while the list has under 65,536; else it becomes the tail
+-- `see` lists a record that is spaced while the list has under 65,536; else it becomes the tail.
+-- A record whose LSN exceeds 4,294,967,295 is passed over.
 unfoldable pub seenRecord : HintRecorder → ℕ → First → HintRecorder
 seenRecord r lsn (Nothing a) = r
 seenRecord r lsn (Number t) =
@@ -41,16 +44,18 @@ pub record SeenSector : Type 0 where
   pub first : First
   pub recorder : HintRecorder
 
+-- the call: 3 and 4 of a hint recorder
 unfoldable pub see : ℕ → HintRecorder → ℕ → List ℕ → Answer SeenSector
 see n r lsn sector =
     after (firstNo (hintRecorderFour n r []))
     (Accepted (record { first = firstRecord sector; recorder = seenRecord r lsn (firstRecord sector) }))
 
--- the tail is listed under the same bound, and cleared
+-- the tail, which `flush` lists under the same bound
 unfoldable pub flushedList : Option Hint → List Hint → List Hint
 flushedList none list = list
 flushedList (some h) list = cond (ltb (length list) maxList) (list ++ (h ∷ [])) list
 
+-- the call
 unfoldable pub flush : ℕ → HintRecorder → Answer HintRecorder
 flush n r =
     after (firstNo (hintRecorderFour n r []))
@@ -61,6 +66,7 @@ pub record TakenHints : Type 0 where
   pub list : List Hint
   pub recorder : HintRecorder
 
+-- the call: the list is taken; last stays
 unfoldable pub takeList : ℕ → HintRecorder → Answer TakenHints
 takeList n r =
     after (firstNo (hintRecorderFour n r []))
@@ -79,11 +85,11 @@ unfoldable pub countOf : (ℕ → Bool) → ℕ → ℕ
 countOf p zero = 0
 countOf p (suc n) = countOf p n + cond (p n) 1 0
 
--- the rise from p to t, or 4,294,967,295 where there is none
+-- the gap is the rise from the neighbour before thinning, or 4,294,967,295 where there is none: the rise from p to t
 unfoldable pub rise : ℕ → ℕ → ℕ
 rise p t = cond (ltb p t) (t - p) max32
 
--- the rise at place i: from the neighbour, kept or not
+-- at place i, from the neighbour, kept or not
 unfoldable pub riseAt : List Hint → ℕ → ℕ
 riseAt hs zero = max32
 riseAt hs (suc i) = rise (getD hs i noHint .number) (getD hs (suc i) noHint .number)
@@ -105,7 +111,7 @@ unfoldable pub kept : (ℕ → Bool) → List Hint → ℕ → List Hint
 kept p hs zero = []
 kept p hs (suc n) = kept p hs n ++ cond (p n) (getD hs n noHint ∷ []) []
 
--- thinned to most: the smallest pairs are dropped, as many as there are too many
+-- Thinning drops the smallest (gap, place) pairs, as many as there are more than most
 unfoldable pub thin : ℕ → List Hint → List Hint
 thin most hs = kept (λ i. leb (length hs - most) (rank hs i)) hs (length hs)
 
@@ -113,20 +119,20 @@ thin most hs = kept (λ i. leb (length hs - most) (rank hs i)) hs (length hs)
 unfoldable pub inArea : Area → ℕ → Bool
 inArea a n = leb (a .start) n && ltb n (a .end)
 
--- of two hints at one LSN the one that arrives stays, with the mark of the held one
+-- Of two hints at one LSN the one that arrives stays (change request 5), with the mark of the held one (11)
 abbrev pub arrivedHint : Hint → Hint → Hint
 arrivedHint h new = record { lsn = new .lsn; number = new .number; mark = h .mark }
 
--- each of the list in turn, LSNs outside the area dropped
+-- drops LSNs outside the area, sorts by LSN: each of the list in turn
 unfoldable pub insertAll : Area → List Hint → List Hint → List Hint
 insertAll a hs [] = hs
 insertAll a hs (x ∷ xs) = insertAll a (cond (inArea a (x .lsn)) (insert hintLsn arrivedHint x hs) hs) xs
 
--- above the limit M the list is thinned to M − M/4
+-- above the limit M thins to M − M/4, rounded down in the division
 unfoldable pub limitedTo : ℕ → List Hint → List Hint
 limitedTo most hs = cond (leb (length hs) most) hs (thin (most - most / 4) hs)
 
--- at M = 0 nothing is kept: hs is empty then (question 4)
+-- At M = 0 nothing is kept: hs is empty then (question 4)
 unfoldable pub joinedHints : Area → ℕ → List Hint → List Hint → List Hint
 joinedHints a most hs list = cond (eqb most 0) hs (limitedTo most (insertAll a hs list))
 
@@ -141,6 +147,7 @@ abbrev pub withHints : Area → Hinting → List Hint → Hinting
 withHints a r list =
     record { spacing = r .spacing; most = r .most; hints = joinedHints a (r .most) (r .hints) list; confirmed = r .confirmed }
 
+-- the call: 1 to 4, 13
 unfoldable pub addHints : Lengths → Index → List Hint → Answer Index
 addHints l x list =
     after (firstNo (four l x (ask (question13 list) 13 ∷ []))) (Accepted (withHinting x (withHints (x .scan .area) (x .hinting) list)))
@@ -174,12 +181,13 @@ withMark r lsn =
     let i = placeOf lsn (r .hints) in
     record { spacing = r .spacing; most = r .most; hints = set (r .hints) i (keptHint (getD (r .hints) i noHint)); confirmed = r .confirmed }
 
+-- the call: 1 to 4, 53
 unfoldable pub keepHint : Lengths → Index → ℕ → Answer Index
 keepHint l x lsn =
     after (firstNo (four l x (ask (question53 (x .hinting) lsn) 53 ∷ []))) (Accepted (withHinting x (withMark (x .hinting) lsn)))
 
 -- ---- confirmations
--- same digest: the lower threshold stays; other digest: replaced
+-- Same digest: the lower threshold stays. Other digest: replaced.
 unfoldable pub heldConfirmation : Confirmation → Confirmation → Confirmation
 heldConfirmation c new =
     cond (eqb (c .digest) (new .digest)) (record { lsn = c .lsn; threshold = min (c .threshold) (new .threshold); digest = c .digest }) new
@@ -188,14 +196,15 @@ heldConfirmation c new =
 unfoldable pub lastOnes : {A : Type 0} → ℕ → List A → List A
 lastOnes n xs = drop (length xs - n) xs
 
--- is nothing kept: is the fingerprint unchecked, or M 0?
+-- Nothing is kept, and that is the answer, while the fingerprint is unchecked or M is 0
 abbrev pub keepsNothing : Bool → ℕ → Bool
 keepsNothing checked most = not checked || eqb most 0
 
--- above M the lowest LSN goes: one, since cs has at most M (question 4); where nothing is kept, cs stays
+-- Above M the lowest LSN goes: one, since cs has at most M (question 4); where nothing is kept, cs stays
 unfoldable pub keep : Bool → ℕ → List Confirmation → Confirmation → List Confirmation
 keep checked most cs c = cond (keepsNothing checked most) cs (lastOnes most (insert confirmedLsn heldConfirmation c cs))
 
+-- of a merge: each of the other's in turn
 unfoldable pub keepAll : Bool → ℕ → List Confirmation → List Confirmation → List Confirmation
 keepAll checked most cs [] = cs
 keepAll checked most cs (x ∷ xs) = keepAll checked most (keep checked most cs x) xs
@@ -207,7 +216,7 @@ question14 a c = inArea a (c .lsn) && ltb (c .threshold) lim
 abbrev pub withConfirmed : Hinting → List Confirmation → Hinting
 withConfirmed r cs = record { spacing = r .spacing; most = r .most; hints = r .hints; confirmed = cs }
 
--- the index afterwards, or that nothing is kept
+-- the call: 1 to 4, 14; the index afterwards, or that nothing is kept
 unfoldable pub keepConfirmation : Lengths → Index → Confirmation → Answer (Option Index)
 keepConfirmation l x c =
     after (firstNo (four l x (ask (question14 (x .scan .area) c) 14 ∷ [])))
@@ -217,7 +226,7 @@ keepConfirmation l x c =
     (withHinting x
     (withConfirmed (x .hinting) (keep (isChecked (x .fingerprint)) (x .hinting .most) (x .hinting .confirmed) c))))))
 
--- ---- hint
+-- ---- `hint` answers as the source does
 -- of the first n places those that p holds of: the one with the largest (number, LSN)
 unfoldable pub larger : List Hint → ℕ → ℕ → Bool
 larger hs i k =
@@ -325,7 +334,7 @@ hintedAt a hs end playtime none = none
 hintedAt a hs end playtime (some i) =
     some (hintedLater (firstFrom end (drop (suc i) hs)) end (getD hs i noHint) (hintedLocally a hs i end playtime))
 
--- 16: end not below first?
+-- the call: 1 to 4, 16: end not below first?
 unfoldable pub hint : Lengths → Index → ℕ → ℕ → ℕ → Answer (Option Hinted)
 hint l x first end playtime =
     after (firstNo (four l x (ask (leb first end) 16 ∷ [])))

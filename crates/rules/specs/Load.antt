@@ -241,7 +241,8 @@ unfoldable pub within : ℕ → List Held → List Held
 within n [] = []
 within n (p ∷ ps) = cond (ltb (p .frame) n) (p ∷ within n ps) []
 
--- the budget at most the limit; last frames are dropped while they exceed the budget, and their parts
+-- Loading with a limit lowers the budget to at most it, drops last frames while they exceed the budget,
+-- and their parts
 abbrev pub limitedScan : ℕ → Scan → Scan
 limitedScan limit x =
     record {
@@ -255,7 +256,8 @@ limitedScan limit x =
       malformed = x .malformed;
     }
 
--- M at most limit/8, the hints, without marks, thinned to M, the last min(M, limit/16) confirmations; the divisions round down
+-- lowers M to at most limit/8, thins to M, and keeps the last min(M, limit/16) confirmations;
+-- the divisions round down, and a file has no marks
 abbrev pub limitedHinting : ℕ → Hinting → Hinting
 limitedHinting limit r =
     record {
@@ -265,7 +267,7 @@ limitedHinting limit r =
       confirmed = lastOnes (min (min (r .most) (limit / 8)) (limit / 16)) (r .confirmed);
     }
 
--- image id, checked mark and kept marks are not saved
+-- Image id and checked mark are not saved, nor kept marks (change request 11)
 unfoldable pub unmarked : Fingerprint → Fingerprint
 unmarked Unknown = Unknown
 unmarked (fingerprint.Held v) = fingerprint.Held v
@@ -280,7 +282,7 @@ limited limit x =
       image = none;
     }
 
--- Load: 1, then 20 to 38, then 3 for the limited index
+-- Load: 1, then 20 to 38 when and as often as `from_bytes` tests. Then 3, for the limited index.
 unfoldable pub load : Lengths → Area → List ℕ → ℕ → Answer Index
 load l a b limit =
     after (firstNo (ask (areaOk a) 1 ∷ []))

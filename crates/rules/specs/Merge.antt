@@ -33,11 +33,11 @@ question43 own other =
 unfoldable pub further : Scan → Scan → Bool
 further own other = not (complete own) && (complete other || ltb (count own) (count other))
 
--- the own parts, then the other's for the checkpoints that are appended
+-- with their parts: the own parts, then the other's for the checkpoints that are appended
 abbrev pub mergedStored : Scan → Scan → Stored
 mergedStored own other = addParts (own .budget) (other .frames) (count own) (other .parts) (record { frames = own .frames; parts = own .parts })
 
--- the rest appended with its parts, and the other's end state and malformed list
+-- appends the rest with their parts and takes its end state and malformed list
 abbrev pub takenScan : Scan → Scan → Scan
 takenScan own other =
     record {
@@ -51,6 +51,7 @@ takenScan own other =
       malformed = other .malformed;
     }
 
+-- if the own list is not complete and the other is, or has more checkpoints; else the own one
 unfoldable pub mergedScan : Scan → Scan → Scan
 mergedScan own other = cond (further own other) (takenScan own other) own
 
@@ -74,6 +75,8 @@ mergedHinting a checked own other =
       confirmed = keepAll checked (own .most) (own .confirmed) (other .confirmed);
     }
 
+-- `merge` takes the other's image id and fingerprint where none is held,
+-- adds its hints and confirmations by their rules, and the rest as above
 unfoldable pub merged : Index → Index → Index
 merged own other =
     record {

@@ -1,4 +1,4 @@
--- Questions 1 to 4, which every call on an index or a recorder asks.
+-- Document 01, "The questions": 1 to 4, which each call on an index or recorder asks.
 use Prim.Native.Nat.{ℕ, _+_}
 use mathlib.Core.Bool.{Bool, _&&_, _||_, not}
 use mathlib.Core.List.{List, [], _∷_}
@@ -25,15 +25,15 @@ unfoldable pub numbersOk : ℕ → ℕ → Bool
 numbersOk k budget = all (leb 1 k ∷ leb k maxInterval ∷ leb budget max32 ∷ [])
 
 -- ---- 3: are the tables long enough?
--- for a recorder's tables: checkpoints, frames and parts at least boundaries, frame bytes the budget
+-- checkpoints, frames and parts at least boundaries, frame bytes the budget
 unfoldable pub scanRoom : Lengths → ℕ → ℕ → Bool
 scanRoom l b budget = all (leb b (l .checkpoints) ∷ leb b (l .frames) ∷ leb b (l .parts) ∷ leb budget (l .store) ∷ [])
 
--- and malformed 4,096, hints M + 262,144, confirmations M + 1
+-- hints M + 262,144, confirmations M + 1 (malformed 4,096: question3)
 unfoldable pub hintingRoom : Lengths → ℕ → Bool
 hintingRoom l most = all (leb (most + mergeRoom) (l .hints) ∷ leb (most + 1) (l .confirmed) ∷ [])
 
--- ---- 4: do they hold what loading would accept?
+-- ---- 4: do they hold what loading would accept, with confirmations or a checked mark only beside a fingerprint?
 unfoldable pub heldOk : Area → ℕ → ℕ → ℕ → List Checkpoint → List Frame → List Held → Bool
 heldOk a k budget first cs fs ps = all (framesOk a budget fs ∷ partsOk a k first cs fs ps ∷ [])
 
@@ -43,7 +43,7 @@ scanOk x =
     ∷ checkpointsOk (x .interval) 0 (x .checkpoints) ∷ heldOk (x .area) (x .interval) (x .budget) 0 (x .checkpoints) (x .frames) (x .parts)
     ∷ endingOk (x .area) (x .checkpoints) (x .ending) ∷ malformedOk (x .area) (frontier x) (counted (x .checkpoints) (x .ending)) (x .malformed) ∷ [])
 
--- confirmations only beside a fingerprint; the kept marks last
+-- confirmations only beside a fingerprint (a checked mark is beside one by its type); the kept marks last
 unfoldable pub hintingOk : Area → Fingerprint → Hinting → Bool
 hintingOk a f r =
     all (leb (r .most) maxHints ∷ leb (length (r .hints)) (r .most) ∷ leb (length (r .confirmed)) (r .most) ∷ hintsOk a (r .hints)
@@ -86,7 +86,7 @@ fourOf l x = record { one = question1 x; two = question2 x; three = question3 l 
 abbrev pub four : Lengths → Index → List Ask → List Ask
 four l x qs = askFour (fourOf l x) qs
 
--- ---- of a recorder, over its own stretch
+-- ---- of a recorder, which keeps these rules over its own stretch
 -- the end state that a recorder has
 unfoldable pub endOf : Mode → Option EndState
 endOf Running = none
@@ -117,6 +117,6 @@ recorderFourOf l r =
 abbrev pub recorderFour : Lengths → Recorder → List Ask → List Ask
 recorderFour l r qs = askFour (recorderFourOf l r) qs
 
--- ---- of a hint recorder, whose list has space for n hints
+-- ---- of a hint recorder, whose own list has space for n hints: 65,536, and it lists at most as many
 abbrev pub hintRecorderFour : ℕ → HintRecorder → List Ask → List Ask
 hintRecorderFour n r qs = ask (leb maxList n) 3 ∷ ask (leb (length (r .list)) maxList) 4 ∷ qs

@@ -1,4 +1,4 @@
--- Document 01, "Checkpoint": record, finish and absorb.
+-- Document 01, "Checkpoint" and "Index": record, finish and absorb.
 use Prim.Native.Nat.{ℕ, _+_, _-_, _*_, min}
 use lib.IntN.{ℤ}
 use mathlib.Core.Bool.{Bool, true, false, _&&_, _||_, not, cond}
@@ -70,6 +70,7 @@ assembled r lsn (some f) =
     (record { at = nextNumber r; start = f .start; bytes = f .bytes; number = f .number; kind = f .kind; remaining = f .remaining }))
     (storedOf r)
 
+-- a further checkpoint: threshold, back, malformed count, digest
 abbrev pub recorded : Recorder → ℕ → ℕ → ℕ → Option Assembling → List ℕ → Recorder
 recorded r lsn threshold malformed f sector =
     record {
@@ -85,6 +86,7 @@ recorded r lsn threshold malformed f sector =
       mode = r .mode;
     }
 
+-- the call: 1 to 4, 5 to 7
 unfoldable pub recordAt : Lengths → Recorder → ℕ → ℕ → ℕ → Option Assembling → List ℕ → Answer Recorder
 recordAt l r lsn threshold malformed f sector =
     after
@@ -107,7 +109,7 @@ withMode r m =
       mode = m;
     }
 
--- 5: is every boundary passed, and the recorder not finished or stopped? 6: as an end state in loading?
+-- Finish: 5 is every boundary passed, and the recorder not finished or stopped? 6 as an end state in loading?
 unfoldable pub finish : Lengths → Recorder → EndState → Answer Recorder
 finish l r e =
     after
@@ -170,7 +172,7 @@ moves x r = ltb (frontier x) (frontier (joined x r []))
 abbrev pub takenMalformed : Scan → Recorder → List ℕ → List ℕ
 takenMalformed x r ms = cond (moves x r) (take maxMalformed (below (frontier (joined x r [])) ms)) (x .malformed)
 
--- the image id is filled in
+-- Absorbing fills in the image id too
 abbrev pub absorbedIndex : Index → Recorder → Option ℕ → List ℕ → Index
 absorbedIndex x r image ms =
     record {
@@ -189,12 +191,13 @@ question12 x r image ms =
     || all (rising ownLsn anyLsn 0 (max32 + 1) ms ∷ sameBytes (take (length (x .scan .malformed)) ms) (x .scan .malformed)
     ∷ eqb (length (y .malformed)) (min (counted (y .checkpoints) (y .ending)) maxMalformed) ∷ question4 (absorbedIndex x r image ms) ∷ [])
 
--- the mode of an emptied recorder: stopped if finished
+-- and stops a finished one
 unfoldable pub drained : Mode → Mode
 drained Running = Running
 drained (Finished e) = Stopped
 drained Stopped = Stopped
 
+-- `absorb` then empties the recorder
 abbrev pub emptied : Recorder → Recorder
 emptied r =
     record {
@@ -229,6 +232,7 @@ absorbNumber l x m r image ms =
     ∷ ask (isStopped (r .mode) || question10 x r) 10 ∷ ask (isStopped (r .mode) || question11 x r) 11
     ∷ ask (isStopped (r .mode) || question12 x r image ms) 12 ∷ []))
 
+-- A "no" refuses with that number and changes nothing, 8 excepted: it stops the recorder
 abbrev pub absorbedBy : ℕ → Index → Recorder → Option ℕ → List ℕ → Absorbed
 absorbedBy n x r image ms =
     cond (eqb n 0)
@@ -236,5 +240,6 @@ absorbedBy n x r image ms =
     (record { number = 0; index = absorbedIndex x r image ms; recorder = emptied r }))
     (record { number = n; index = x; recorder = cond (eqb n 8) (withMode r Stopped) r })
 
+-- the call
 unfoldable pub absorb : Lengths → Index → Lengths → Recorder → Option ℕ → List ℕ → Absorbed
 absorb l x m r image ms = absorbedBy (absorbNumber l x m r image ms) x r image ms

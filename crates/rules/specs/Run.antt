@@ -36,7 +36,8 @@ pub record Content : Type 0 where
   pub kind : FrameKind
   pub remaining : ℤ
 
--- part gives the part for each checkpoint number; threshold is the end state's
+-- one area, interval, checkpoint sequence, part for each checkpoint, malformed list and end state,
+-- of which threshold is given: its malformed count is that of all
 pub record Reading : Type 0 where
   pub area : Area
   pub interval : ℕ
@@ -45,7 +46,7 @@ pub record Reading : Type 0 where
   pub malformed : List ℕ
   pub threshold : ℕ
 
--- each malformed count is the number of malformed LSNs below the checkpoint's own
+-- each malformed count being the number of malformed LSNs below its checkpoint
 unfoldable pub countedFrom : Area → ℕ → List ℕ → ℕ → List Mark → List Checkpoint
 countedFrom a k ls j [] = []
 countedFrom a k ls j (m ∷ ms) =
@@ -54,15 +55,17 @@ countedFrom a k ls j (m ∷ ms) =
 abbrev pub checkpointsOf : Reading → List Checkpoint
 checkpointsOf R = countedFrom (R .area) (R .interval) (R .malformed) 0 (R .marks)
 
--- and the end state's is the number of all
+-- (for the end state, of all)
 abbrev pub endStateOf : Reading → EndState
 endStateOf R = record { threshold = R .threshold; malformed = length (R .malformed) }
 
--- what a held part says
+-- bytes, number, kind and remaining of a held part
 abbrev pub contentOf : List Frame → Held → Content
 contentOf fs p = record { bytes = partBytes fs p; number = p .number; kind = p .kind; remaining = p .remaining }
 
--- ---- x, whose numbers fit their types, is a list cut from the reading R
+-- ---- a list cut from the reading R, its numbers within their types
+-- passes questions 1, 2 and 4 and has its area and interval, the first n checkpoints, some of their parts,
+-- the malformed LSNs below its frontier (first 4,096), and, only if n is the number of boundaries, the end state or not
 pub record Cut (R : Reading) (x : Index) : Type 0 where
   pub one : question1 x ≡ true
   pub two : question2 x ≡ true
@@ -77,12 +80,13 @@ pub record Cut (R : Reading) (x : Index) : Type 0 where
       (i : ℕ) → i < length (x .scan .parts) → contentOf (x .scan .frames) (getD (x .scan .parts) i noHeld) ≡ R .part (getD (x .scan .parts) i noHeld .at)
 
 -- ---- a run
--- a list in its tables
+-- each place holds a list, in tables nobody else writes
 pub record Place : Type 0 where
   pub list : Index
   pub room : Lengths
 
--- merge into a place from another; save a place into an output of a length; load what the call before it saved, with a limit
+-- merge into one place from another; save a place, into an output of a length;
+-- right after an accepted save, load exactly its bytes there, any limit
 pub data Call : Type 0 where
   mergeCall : ℕ → ℕ → Call
   saveCall : ℕ → ℕ → Call
@@ -99,7 +103,7 @@ pub record State : Type 0 where
   pub went : ℕ → List ℕ
   pub just : Option Saved
 
--- at first
+-- Into a place went its first list
 abbrev pub begin : (ℕ → Place) → State
 begin p = record { now = p; went = λ i. i ∷ []; just = none }
 
@@ -107,7 +111,7 @@ begin p = record { now = p; went = λ i. i ∷ []; just = none }
 abbrev pub replace {ℓ} : {A : Type ℓ} → (ℕ → A) → ℕ → A → ℕ → A
 replace s i p k = cond (eqb k i) p (s k)
 
--- a refused call changes nothing
+-- refused ones change nothing
 unfoldable pub answered : Place → Answer Index → Place
 answered p (Refused n) = p
 answered p (Accepted x) = record { list = x; room = p .room }
@@ -122,7 +126,7 @@ unfoldable pub justSaved : ℕ → Answer (List ℕ) → Option Saved
 justSaved i (Refused n) = none
 justSaved i (Accepted b) = some (record { place = i; bytes = b })
 
--- exactly the bytes just saved, loaded where they come from under the area a; nothing where nothing was just saved
+-- exactly the bytes just saved, loaded there under the reading's area a; nothing where nothing was just saved
 unfoldable pub loadInto : Area → ℕ → State → Option Saved → State
 loadInto a limit s none = s
 loadInto a limit s (some b) =
@@ -143,12 +147,13 @@ step a (mergeCall i j) s =
 step a (saveCall i out) s = record { now = s .now; went = s .went; just = justSaved i (save (s .now i .room) (s .now i .list) out) }
 step a (loadCall limit) s = loadInto a limit s (s .just)
 
--- each call works on what those before it left
+-- Each call works on what those before it left
 unfoldable pub run : Area → List Call → State → State
 run a [] s = s
 run a (c ∷ cs) s = run a cs (step a c s)
 
--- ---- the furthest among the first lists p of the places ws: that of w, a complete one, else one with the most checkpoints
+-- ---- the furthest of several lists is a complete one, else one with the most checkpoints:
+-- that of w among the first lists p of the places ws
 abbrev pub Furthest : (ℕ → Place) → List ℕ → ℕ → Type 0
 Furthest p ws w =
     (complete (p w .list .scan) ≡ true)

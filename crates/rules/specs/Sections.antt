@@ -14,11 +14,11 @@ use Rattle.rules.specs.declared.Confirmation.{Confirmation}
 use Rattle.rules.specs.Tests.{all, each, walk, lastOr}
 use Rattle.rules.specs.Values.{Frame, lim, maxFrame, maxMalformed, checkpointAt, frameAt, lastCheckpoint, noHeld, lsnOf, sameKind}
 
--- ---- counts: of boundaries, checkpoints, completeness, frames, parts, malformed LSNs
+-- ---- 30: counts, of boundaries, checkpoints, completeness, frames, parts, malformed LSNs
 unfoldable pub countsOk : ℕ → ℕ → Bool → ℕ → ℕ → ℕ → Bool
 countsOk b n whole f h m = all (leb n b ∷ (not whole || eqb n b) ∷ leb h n ∷ leb f h ∷ leb m maxMalformed ∷ [])
 
--- ---- checkpoints
+-- ---- 31: checkpoints
 -- the number of the next checkpoint, and threshold and malformed count of the one before it
 pub record Passed : Type 0 where
   pub number : ℕ
@@ -41,7 +41,7 @@ checkpointOk k s c =
 unfoldable pub checkpointsOk : ℕ → ℕ → List Checkpoint → Bool
 checkpointsOk k first cs = walk (checkpointOk k) passed (begun first) cs
 
--- ---- frames
+-- ---- 32: frames
 -- the lowest start that the next frame may have, and the bytes so far
 pub record Filled : Type 0 where
   pub floor : ℕ
@@ -62,7 +62,7 @@ unfoldable pub framesOk : Area → ℕ → List Frame → Bool
 framesOk a budget fs =
     walk (λ s f. frameOk a budget s (f .start) (length (f .bytes))) (λ s f. filled s (f .start) (length (f .bytes))) (unfilled a) fs
 
--- ---- parts
+-- ---- 32: parts
 -- may p come after the part before it, if there is one?
 unfoldable pub follows : Option Held → Held → Bool
 follows none p = eqb (p .frame) 0
@@ -90,7 +90,7 @@ reached ps = cond (eqb (length ps) 0) 0 (suc (lastOr noHeld ps .frame))
 unfoldable pub partsOk : Area → ℕ → ℕ → List Checkpoint → List Frame → List Held → Bool
 partsOk a k first cs fs ps = all (walk (partOk a k first cs fs) (λ o p. some p) none ps ∷ eqb (reached ps) (length fs) ∷ [])
 
--- ---- the end state, after the last checkpoint c; behind question 1, which keeps end − start from falling below 0
+-- ---- 34: the end state, after the last checkpoint c; behind question 1, which keeps end − start from falling below 0
 unfoldable pub endOk : Area → Checkpoint → EndState → Bool
 endOk a c e =
     all (leb (c .threshold) (e .threshold) ∷ leb (e .threshold) lim ∷ leb (c .malformed) (e .malformed) ∷ leb (e .malformed) (a .end - a .start) ∷ [])
@@ -109,7 +109,7 @@ risen key s x = suc (key x)
 unfoldable pub rising : {A : Type 0} → (A → ℕ) → (A → Bool) → ℕ → ℕ → List A → Bool
 rising key ok start end xs = walk (risingOk key ok end) (risen key) start xs
 
--- malformed LSNs: as many as are counted, at most 4,096, below the frontier
+-- 35: malformed LSNs, as many as are counted, at most 4,096, below the frontier
 abbrev pub ownLsn : ℕ → ℕ
 ownLsn l = l
 
@@ -119,6 +119,7 @@ anyLsn l = true
 unfoldable pub malformedOk : Area → ℕ → ℕ → List ℕ → Bool
 malformedOk a front n ms = all (eqb (length ms) (min n maxMalformed) ∷ rising ownLsn anyLsn (a .start) front ms ∷ [])
 
+-- 36: hints
 abbrev pub hintLsn : Hint → ℕ
 hintLsn h = h .lsn
 
@@ -128,7 +129,7 @@ hintOk h = ltb (h .number) lim
 unfoldable pub hintsOk : Area → List Hint → Bool
 hintsOk a hs = rising hintLsn hintOk (a .start) (a .end) hs
 
--- the kept marks of an index's hints: each is 0 or 1, and at most a quarter of M, rounded down, are kept
+-- at most a quarter of the hint limit, rounded down, may be kept at a time (change request 11); each mark is 0 or 1
 unfoldable pub isKept : Hint → Bool
 isKept h = eqb (h .mark) 1
 
@@ -142,6 +143,7 @@ markOk h = leb (h .mark) 1
 unfoldable pub marksOk : ℕ → List Hint → Bool
 marksOk most hs = all (each markOk hs ∷ leb (keptCount hs) (most / 4) ∷ [])
 
+-- 37: confirmations
 abbrev pub confirmedLsn : Confirmation → ℕ
 confirmedLsn c = c .lsn
 

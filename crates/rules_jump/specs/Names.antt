@@ -24,7 +24,7 @@ use Rattle.rules_jump.specs.declared.HintStart.the-variants.{Confirmed, 
 use Rattle.rules_jump.specs.declared.HintEnd.{HintEnd}
 use Rattle.rules_jump.specs.declared.HintEnd.the-variants as by
 
--- ---- plan: area start, checkpoint, checkpoint with held part, end state
+-- ---- "Each plan also names its rule: area start, checkpoint, checkpoint with held part, or end state"
 unfoldable pub heldRule : Assembly → PlanRule
 heldRule Replayed = rule.Checkpoint
 heldRule (Stored p) = rule.HeldPart
@@ -34,7 +34,7 @@ planRule Start = rule.AreaStart
 planRule (At r) = heldRule (r .assembly)
 planRule (End e) = rule.Ending
 
--- ---- hint: confirmed or nearest
+-- ---- "A hint names confirmed or nearest"
 unfoldable pub chosenBy : Option ℕ → HintStart
 chosenBy none = Nearest
 chosenBy (some i) = Confirmed
@@ -44,17 +44,18 @@ abbrev pub nearConfirmed : Bool → List Hint → List Confirmation → ℕ → 
 nearConfirmed checked hs cs first i =
     near first (getD hs i noHint) && (checked && confirmedAt cs (getD hs i noHint .lsn) first)
 
--- confirmed where a near hint is confirmed for first, also where it is the nearest
+-- "the first listed here of equal ones": confirmed where a near hint is confirmed for first,
+-- also where it is the nearest
 unfoldable pub startRule : Bool → List Hint → List Confirmation → ℕ → HintStart
 startRule checked hs cs first = chosenBy (largestOf (nearConfirmed checked hs cs first) hs (length hs))
 
--- ---- its upper end: a later hint, local spacing, the area's average
--- of two densities that are equal the local one
+-- ---- "and whether its upper end came from a later hint, from local spacing or from the area's average"
+-- of two densities that are equal the local one: "the first listed here of equal ones it compares"
 unfoldable pub densityRule : Density → Option Density → HintEnd
 densityRule whole none = by.Average
 densityRule whole (some d) = cond (leb (whole .sectors * d .frames) (d .sectors * whole .frames)) by.Local by.Average
 
--- an upper end at the area's end is named so instead
+-- "an upper end at the area's end is named so instead"
 unfoldable pub namedEnd : Area → ℕ → HintEnd → HintEnd
 namedEnd a upper r = cond (eqb upper (a .end)) by.AreaEnd r
 

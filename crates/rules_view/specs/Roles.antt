@@ -1,4 +1,4 @@
--- Change request 10: operations that only the workshop may call.
+-- Change request 10: "Saving, loading and merging are workshop operations; only they and the views take a role."
 use Prim.Native.Nat.{ℕ}
 use mathlib.Core.List.{List, [], _∷_}
 use lib.Dec.{eqb}
@@ -12,7 +12,7 @@ use Rattle.rules_drawer.specs.Drawer.{mergeAll}
 use Rattle.rules_disc.specs.Disc.{Disc, loadDisc, saveOne, saveBoth}
 use Rattle.rules_view.specs.View.{workshop}
 
--- 52, before all others
+-- 52: is it the workshop's role? ("role 1 calls a workshop operation; it is asked before all others")
 unfoldable pub asWorkshop : {A : Type 0} → ℕ → Answer A → Answer A
 asWorkshop role r = after (firstNo (ask (eqb role workshop) 52 ∷ [])) r
 

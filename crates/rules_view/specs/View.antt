@@ -17,14 +17,14 @@ use Rattle.rules.specs.Values.{Index, Lengths, lsnOf, complete, stated}
 use Rattle.rules.specs.Questions.{four}
 use Rattle.rules.specs.File.{encodeLsn, decodeLsn, encodeHint, decodeHint, encodeConfirmation, decodeConfirmation, orZero, bit}
 
--- ---- roles
+-- ---- roles: "1 (listener)", "2 (workshop)"
 abbrev pub listener : ℕ
 listener = 1
 
 abbrev pub workshop : ℕ
 workshop = 2
 
--- ---- what a listener sees
+-- ---- "A listener's view gives the area, interval, completeness, and each checkpoint's LSN and threshold"
 -- of a checkpoint: its LSN and threshold
 pub record Seen : Type 0 where
   pub lsn : ℕ
@@ -50,7 +50,7 @@ listenerOf x =
       checkpoints = seenFrom (x .scan .area) (x .scan .interval) 0 (x .scan .checkpoints);
     }
 
--- ---- what the workshop sees beside it
+-- ---- "The workshop's view adds back, digests, malformed LSNs, held lengths, hints, fingerprint and confirmations"
 -- of a checkpoint: back and digest
 pub record Backing : Type 0 where
   pub back : ℕ
@@ -90,7 +90,7 @@ workshopOf x =
       confirmed = x .hinting .confirmed;
     }
 
--- ---- bytes
+-- ---- "The team writes the byte layout down in docs/": docs/VIEW.md
 -- words of eight bytes
 abbrev pub wordBytes : List ℕ → List ℕ
 wordBytes ws = bytesOf (encode 8) ws
@@ -224,7 +224,7 @@ workshopBytes w =
     ++ (bytesOf encodeLsn (w .malformed)
     ++ (bytesOf encodeHeldLength (w .parts) ++ (bytesOf encodeHint (w .hints) ++ (bytesOf encodeMark (w .hints) ++ bytesOf encodeConfirmation (w .confirmed)))))))
 
--- ---- reading a view
+-- ---- "the bytes of a view determine every field it gives": reading a view
 -- of the head h, and the bytes b behind it
 unfoldable pub listenerFrom : Head → List ℕ → Listener
 listenerFrom h b =
@@ -273,6 +273,7 @@ readWorkshop b =
     (some (workshopFrom (seenIn b) (readHead b .count) (readTotals (behindSeen b)) (drop 48 (behindSeen b)))) none
 
 -- ---- the call
+-- 52 of a view: is the role 1 or 2? ("52 when the role is neither 1 (listener) nor 2 (workshop)")
 unfoldable pub isRole : ℕ → Bool
 isRole role = eqb role listener || eqb role workshop
 
@@ -283,7 +284,8 @@ unfoldable pub viewLength : ℕ → Index → ℕ
 viewLength role x =
     cond (eqb role listener) (88 + 8 * length (x .scan .checkpoints)) (workshopSize (length (x .scan .checkpoints)) (totalsOf (workshopOf x)))
 
--- 52, 1 to 4, 40: is the output long enough? What lies past the length stays.
+-- 52, "asked before all others"; 1 to 4; 40, "asked after 4": is the output long enough?
+-- What lies past the length stays.
 unfoldable pub view : ℕ → Lengths → Index → ℕ → Answer (List ℕ)
 view role l x out =
     after (firstNo (ask (isRole role) 52 ∷ four l x (ask (leb (viewLength role x) out) 40 ∷ []))) (Accepted (viewBytes role x))
