@@ -5,8 +5,14 @@ use Rattle.sections.proofs.ends_ok.Tie as tie
 
 returns : tie.Need-returns
 returns c =
-    let last = (c .before .before .before .before .before .last-checkpoint .ensures) in
-    (c .and .ensures) ∙ rw ((c .before .ending-ok .ensures) _ last, (c .before .before .malformed-ok .ensures), (c .before .before .before .before .frontier-of .ensures), (c .before .before .before .counted .ensures) _ last)
+    let ended : tie.After-ending-ok = search in
+    let marked : tie.After-malformed-ok = search in
+    let total : tie.After-counted = search in
+    let front : tie.After-frontier-of = search in
+    let read : tie.After-last-checkpoint = search in
+    let last = read .last-checkpoint .ensures in
+    c .and .ensures
+    ∙ rw (ended .ending-ok .ensures _ last, marked .malformed-ok .ensures, front .frontier-of .ensures, total .counted .ensures _ last)
 
 pub ends-ok-spec : {M : Type 1} → statement M
 ends-ok-spec =

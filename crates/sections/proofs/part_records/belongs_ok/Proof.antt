@@ -16,7 +16,10 @@ add-lsn c = record { fits = omega (arith, product-most (c .before .before .args 
 
 returns : tie.Need-returns
 unfolding belongs all
-returns c = simp (and-true, stretch-length) (cc)
+returns c =
+    let same : tie.After-and = search in
+    let from : tie.After-less = search in
+    simp (and-true, stretch-length) (rw (c .and2 .ensures, same .and .ensures, from .less .ensures))
 
 pub belongs-ok-spec : {M : Type 1} → statement M
 belongs-ok-spec =

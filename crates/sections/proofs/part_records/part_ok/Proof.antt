@@ -10,7 +10,16 @@ use Rattle.sections.proofs.part_records.part_ok.Statement.{statement}
 use Rattle.sections.proofs.part_records.part_ok.Tie as tie
 
 returns : tie.Need-returns
-returns c = rw (c .and .ensures, c .before .before .near-ok .ensures, c .before .here-ok .ensures) (part-by (framesIn (c .before .before .before .before .before .before .before .args .f) (c .before .before .before .before .before .before .before .args .headers .now) []) _ _ _ _ _ _ _ _ (frames-length (headersIn _ _) [] ∙ records-length 8 decodeHeader _ _) (frame-start (headersIn _ _) [] _ ∙ ap (λ (z : FrameHeader). z .start) (sym (c .before .before .before .get-header .ensures))) (frame-length (headersIn _ _) [] _ ∙ ap (λ (z : FrameHeader). z .len) (sym (c .before .before .before .get-header .ensures))))
+returns c =
+    let here : tie.After-here-ok = search in
+    let near : tie.After-near-ok = search in
+    let read : tie.After-get-header = search in
+    let start : tie.Start = search in
+    rw (c .and .ensures, near .near-ok .ensures, here .here-ok .ensures)
+    (part-by (framesIn (start .args .f) (start .args .headers .now) []) _ _ _ _ _ _ _ _
+    (frames-length (headersIn _ _) [] ∙ records-length 8 decodeHeader _ _)
+    (frame-start (headersIn _ _) [] _ ∙ ap (λ (z : FrameHeader). z .start) (sym (read .get-header .ensures)))
+    (frame-length (headersIn _ _) [] _ ∙ ap (λ (z : FrameHeader). z .len) (sym (read .get-header .ensures))))
 
 pub part-ok-spec : {M : Type 1} → statement M
 part-ok-spec =

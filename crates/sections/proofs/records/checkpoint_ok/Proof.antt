@@ -11,7 +11,11 @@ mul-most c = record { fits = product-fits _ _ (search needs) (search needs) }
 
 returns : tie.Need-returns
 unfolding checkpointOk all
-returns c = simp and-true (cc)
+returns c =
+    let low : tie.After-and3 = search in
+    let grows : tie.After-and2 = search in
+    let counted : tie.After-and = search in
+    rw (c .and4 .ensures, low .and3 .ensures, grows .and2 .ensures, counted .and .ensures, and-true)
 
 pub checkpoint-ok-spec : {M : Type 1} → statement M
 checkpoint-ok-spec =
