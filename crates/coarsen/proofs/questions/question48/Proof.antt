@@ -11,7 +11,11 @@ count-of-requires c κs =
 
 returns : tie.Need-returns
 unfolding fitsIn
-returns c = cc
+returns c =
+    let front : tie.After-frontier-of = search in
+    let count : tie.After-count-of = search in
+    let many : tie.After-kept = search in
+    rw (c .last-below .ensures, front .frontier-of .ensures, count .count-of .ensures, many .kept .ensures)
 
 pub question48-spec : {M : Type 1} → statement M
 question48-spec =
