@@ -29,7 +29,7 @@ use Rattle.rules.specs.declared.Recorded.the-variants as recorded
 use Rattle.tables.specs.Recorder.{RecorderTables, recorderRoom, recorderIn, recorderKinds, recorderRefusal, recorderFrom}
 use Rattle.recorder.specs.Recorder.{recorderOf, startedIn, finishedIn, modeOf}
 use Rattle.recorder.specs.Steps.{recorderHeld, Roomy, Long, emptyOf}
-use Rattle.recorder.proofs.Questions.{refusal-is, held-is, long-by}
+use Rattle.recorder.proofs.Questions.{refusal-is, held-is, spaced, long-by}
 
 -- an answer after a number
 pub answer-after : (n : ℕ) (x : Answer values.Recorder) → recorderOf (after n x) ≡ cond (eqb n 0) (recorderOf x) (recorded.Refused n)
@@ -66,7 +66,7 @@ module _ (r : Recorder) (t : RecorderTables) {n : ℕ} (e : n ≡ recorderRefusa
     passes-held = asked _ refl (sym (refusal-is r t) ∙ sym e ∙ z) .1 .1 .1 .0
 
     pub passes-long : Long r (t .checkpoints) (t .frames) (t .parts)
-    passes-long = long-by passes-roomy _ (sym (and-left _ _ (sym (held-is r t) ∙ passes-held))) refl
+    passes-long = long-by (spaced passes-roomy) _ (sym (and-left _ _ (sym (held-is r t) ∙ passes-held))) refl
 
   -- ---- finish
   module _ (s : EndState) where

@@ -1,12 +1,11 @@
 -- What questions 1 to 4 say of a recorder in its tables. Assumes nothing.
 use mathlib.Core.Path.{_≡_, sym, _∙_}
 use mathlib.Core.Bool.{Bool, true, false, _&&_, not, and-true, and-assoc}
-use mathlib.Core.List.{[], _∷_}
+use mathlib.Core.List.{List, [], _∷_}
 use mathlib.Core.Option.{Option}
-use Prim.Native.Nat.{ℕ, _+_, _-_, _/_, _≤_}
+use Prim.Native.Nat.{ℕ, _+_, _-_, _≤_}
 use native.Mathlib.Omega.{arith}
 use borrow.Author.Tests.{leb-true, not-true, not-false}
-use lib.ListN.{length}
 use Rattle.field.proofs.Records.{records-length}
 use Rattle.rules.specs.declared.EndState.{EndState}
 use Rattle.rules.specs.declared.Recorder.{Recorder}
@@ -23,29 +22,40 @@ use Rattle.index.proofs.Numbers.{within24, within8, test}
 use Rattle.index.proofs.Questions.{range}
 use Rattle.parts.proofs.Frames.{count}
 use Rattle.tables.specs.Recorder.{RecorderTables, recorderIn, recorderKinds, recorderRefusal}
-use Rattle.recorder.specs.Steps.{recorderHeld, stretchCounts, stretchIn, Roomy, Long}
+use Rattle.recorder.specs.Steps.{recorderHeld, stretchCounts, stretchIn, Roomy, Spaced, Long}
 
 -- ---- counts
-module _ {b : ℕ} {r : Recorder} {t : RecorderTables} (s : Roomy b r t) where
-  pub long-by : {q : Bool} (whole : Bool) → q ≡ stretchCounts b (r .first) (r .checkpoints) whole (r .frames) (r .parts) → not q ≡ false
-      → Long r (t .checkpoints) (t .frames) (t .parts)
-  unfolding stretchCounts scanSpace scanRoom
+pub spaced : {b : ℕ} {r : Recorder} {t : RecorderTables} → Roomy b r t
+    → Spaced b r (t .checkpoints) (t .frames) (t .parts)
+unfolding scanSpace scanRoom
+spaced s =
+    record {
+      is = s .is;
+      area = s .area;
+      numbers = s .numbers;
+      checkpoints = leb-true _ _ (test _ (s .room) 0);
+      frames = leb-true _ _ (test _ (s .room) 1);
+      parts = leb-true _ _ (test _ (s .room) 2);
+    }
+
+module _ {b : ℕ} {r : Recorder} {cs fs ps : List ℕ} (s : Spaced b r cs fs ps) where
+  pub long-by : {q : Bool} (whole : Bool)
+      → q ≡ stretchCounts b (r .first) (r .checkpoints) whole (r .frames) (r .parts) → not q ≡ false → Long r cs fs ps
+  unfolding stretchCounts
   long-by whole e n =
       let c = sym e ∙ not-false _ n in
       let k : r .first + r .checkpoints ≤ b = leb-true _ _ (test _ c 0) in
       let h : r .parts ≤ r .checkpoints = leb-true _ _ (test _ c 2) in
       let f : r .frames ≤ r .parts = leb-true _ _ (test _ c 3) in
-      let s0 : b ≤ length (t .checkpoints) / 24 = leb-true _ _ (test _ (s .room) 0) in
-      let s1 : b ≤ length (t .frames) / 8 = leb-true _ _ (test _ (s .room) 1) in
-      let s2 : b ≤ length (t .parts) / 24 = leb-true _ _ (test _ (s .room) 2) in
       let g = range (r .area) (s .area) in
-      let m : boundaries (r .area) (r .interval) ≤ r .area .end - r .area .start = boundaries-small (r .area) (r .interval) (interval-pos (r .interval) (r .budget) (s .numbers)) in
+      let m : boundaries (r .area) (r .interval) ≤ r .area .end - r .area .start =
+      boundaries-small (r .area) (r .interval) (interval-pos (r .interval) (r .budget) (s .numbers)) in
       let i = s .is in let e' = g .end in
       record {
         area = s .area;
-        checkpoints = within24 _ _ _ (let l : r .checkpoints ≤ b = omega arith in l) s0;
-        frames = within8 _ _ _ (let l : r .frames ≤ b = omega arith in l) s1;
-        parts = within24 _ _ _ (let l : r .parts ≤ b = omega arith in l) s2;
+        checkpoints = within24 _ _ _ (let l : r .checkpoints ≤ b = omega arith in l) (s .checkpoints);
+        frames = within8 _ _ _ (let l : r .frames ≤ b = omega arith in l) (s .frames);
+        parts = within24 _ _ _ (let l : r .parts ≤ b = omega arith in l) (s .parts);
         few = omega arith;
       }
 

@@ -1,6 +1,6 @@
 -- What the functions of a recorder need of each other.
 use mathlib.Core.Path.{_≡_}
-use Prim.Native.Nat.{ℕ, _+_, _*_, _≤_, _-_}
+use Prim.Native.Nat.{ℕ, _+_, _*_, _/_, _≤_, _-_}
 use mathlib.Core.Bool.{Bool, true, cond, _&&_, _||_, not}
 use mathlib.Core.List.{List, [], _∷_}
 use lib.Dec.{eqb, leb, ltb}
@@ -46,6 +46,15 @@ pub record Roomy (b : ℕ) (r : Recorder) (t : RecorderTables) : Type 0 where
   pub area : areaOk (r .area) ≡ true
   pub numbers : numbersOk (r .interval) (r .budget) ≡ true
   pub room : scanSpace b (r .budget) (t .checkpoints) (t .frames) (t .store) (t .parts) ≡ true
+
+-- 1 and 2 hold, b is the number of boundaries, and each of three tables has space for so many records
+pub record Spaced (b : ℕ) (r : Recorder) (cs fs ps : List ℕ) : Type 0 where
+  pub is : b ≡ boundaries (r .area) (r .interval)
+  pub area : areaOk (r .area) ≡ true
+  pub numbers : numbersOk (r .interval) (r .budget) ≡ true
+  pub checkpoints : b ≤ length cs / 24
+  pub frames : b ≤ length fs / 8
+  pub parts : b ≤ length ps / 24
 
 -- each table has the records that are counted
 pub record Long (r : Recorder) (cs fs ps : List ℕ) : Type 0 where

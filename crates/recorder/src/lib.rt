@@ -33,7 +33,7 @@ ghost use Rattle.rules.specs.Questions.{endOf};
 ghost use Rattle.tables.specs.Index.{tables, endIn};
 ghost use Rattle.tables.specs.Recorder.{recorderTables, recorderRefusal};
 ghost use Rattle.recorder.specs.Recorder.{startedIn, finishedIn, modeOf};
-ghost use Rattle.recorder.specs.Steps.{recorderHeld, stretchCounts, stretchIn, Roomy, Long, emptyOf};
+ghost use Rattle.recorder.specs.Steps.{recorderHeld, stretchCounts, stretchIn, Spaced, Long, emptyOf};
 
 // ---- the end state
 // The end state that a recorder has.
@@ -86,16 +86,18 @@ fn stretch_ok(r: Recorder, checkpoints: &[u8], frames: &[u8], parts: &[u8]) -> b
     and(steps, and(and(filling.ok, held), ends))
 }
 
+// 4, with the kind bytes of the parts; b is the number of boundaries.
 fn held_ok(
     b: u64,
     r: Recorder,
     checkpoints: &[u8],
     frames: &[u8],
-    store: &[u8],
     parts: &[u8],
 ) -> bool
-    requires { ⌜ Roomy b r (recorderTables (now checkpoints) (now frames) (now store) (now parts)) ⌝ }
-    ensures { λ q. ⌜ q ≡ recorderHeld r (recorderTables (now (checkpoints .entry)) (now (frames .entry)) (now (store .entry)) (now (parts .entry))) ⌝ }
+    requires { ⌜ Spaced b r (now checkpoints) (now frames) (now parts) ⌝ }
+    ensures { λ q. ⌜
+        ((store : List ℕ) → q ≡ recorderHeld r
+        (recorderTables (now (checkpoints .entry)) (now (frames .entry)) store (now (parts .entry)))) ⌝ }
 {
     let mode = r.mode;
     let whole = is_finished(mode);
@@ -131,7 +133,7 @@ pub fn recorder_refuses(
     if !scan_room(b, r.budget, checkpoints, frames, store, parts) {
         return 3;
     }
-    if !held_ok(b, r, checkpoints, frames, store, parts) {
+    if !held_ok(b, r, checkpoints, frames, parts) {
         return 4;
     }
     0

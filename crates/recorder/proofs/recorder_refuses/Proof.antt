@@ -1,6 +1,6 @@
 use mathlib.Core.Path.{sym, _∙_}
 use borrow.Author.Tests.{not-false}
-use Rattle.recorder.proofs.Questions.{no-1, no-2, no-3, roomy, no-4, no-0}
+use Rattle.recorder.proofs.Questions.{no-1, no-2, no-3, spaced, roomy, no-4, no-0}
 use borrow.Author.Needs.{needs}
 use Rattle.recorder.proofs.recorder_refuses.Statement.{statement}
 use Rattle.recorder.proofs.recorder_refuses.Tie as tie
@@ -42,8 +42,9 @@ held-ok-requires c κs =
     let after-question2 : tie.After-question2 = search in
     let else1 : tie.Else1 = search in
     let after-question1 : tie.After-question1 = search in
-    roomy _ _ (after-question1 .question1 .ensures) (else1 .if1 .left) (after-question2 .question2 .ensures) (else2 .if2 .left)
-    (after-area-boundaries .area-boundaries .ensures) (after-scan-room .scan-room .ensures) (c .if3 .left)
+    spaced (roomy _ _ (after-question1 .question1 .ensures) (else1 .if1 .left) (after-question2 .question2 .ensures)
+    (else2 .if2 .left) (after-area-boundaries .area-boundaries .ensures) (after-scan-room .scan-room .ensures)
+    (c .if3 .left))
 
 returns-4 : tie.Need-returns-4
 returns-4 c =
@@ -56,8 +57,8 @@ returns-4 c =
     let else1 : tie.Else1 = search in
     let after-question1 : tie.After-question1 = search in
     no-4 _ _ (after-question1 .question1 .ensures) (else1 .if1 .left) (after-question2 .question2 .ensures) (else2 .if2 .left)
-    (after-area-boundaries .area-boundaries .ensures) (after-scan-room .scan-room .ensures) (else3 .if3 .left) (after-held-ok .held-ok .ensures)
-    (c .if4 .taken)
+    (after-area-boundaries .area-boundaries .ensures) (after-scan-room .scan-room .ensures) (else3 .if3 .left)
+    (after-held-ok .held-ok .ensures _) (c .if4 .taken)
 
 returns-5 : tie.Need-returns-5
 returns-5 c =
@@ -70,8 +71,8 @@ returns-5 c =
     let else1 : tie.Else1 = search in
     let after-question1 : tie.After-question1 = search in
     no-0 _ _ (after-question1 .question1 .ensures) (else1 .if1 .left) (after-question2 .question2 .ensures) (else2 .if2 .left)
-    (after-area-boundaries .area-boundaries .ensures) (after-scan-room .scan-room .ensures) (else3 .if3 .left) (after-held-ok .held-ok .ensures)
-    (c .if4 .left)
+    (after-area-boundaries .area-boundaries .ensures) (after-scan-room .scan-room .ensures) (else3 .if3 .left)
+    (after-held-ok .held-ok .ensures _) (c .if4 .left)
 
 pub recorder-refuses-spec : {M : Type 1} → statement M
 recorder-refuses-spec =
