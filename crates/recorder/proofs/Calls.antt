@@ -24,7 +24,6 @@ use Rattle.rules.proofs.Tests.{test, asked, and-left}
 use Rattle.tables.specs.Index.{Tables, indexIn, refusal}
 use Rattle.index.proofs.Four.{kinded-index, kinded-more}
 use Rattle.parts.proofs.Frames.{count}
-use Rattle.rules.specs.declared.Recorded.{Recorded}
 use Rattle.rules.specs.declared.Recorded.the-variants as recorded
 use Rattle.tables.specs.Recorder.{RecorderTables, recorderRoom, recorderIn, recorderKinds, recorderRefusal, recorderFrom}
 use Rattle.recorder.specs.Recorder.{recorderOf, startedIn, finishedIn, modeOf}
