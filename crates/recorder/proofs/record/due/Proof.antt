@@ -9,11 +9,17 @@ mul-at : tie.Need-mul-at
 mul-at c = record { fits = product-fits _ _ (search needs) (search needs) }
 
 add-at : tie.Need-add-at
-add-at c = record { fits = lsn-fits _ _ _ (c .before .before .before .before .before .pre .0) (search needs) (search needs) }
+add-at c =
+    let start : tie.Start = search in
+    record { fits = lsn-fits _ _ _ (start .pre .0) (search needs) (search needs) }
 
 returns : tie.Need-returns
 unfolding dueIn
-returns c = cc
+returns c =
+    let at : tie.After-and2 = search in
+    let running : tie.After-is-running = search in
+    let inside : tie.After-and = search in
+    rw (c .and3 .ensures, at .and2 .ensures, running .is-running .ensures, inside .and .ensures)
 
 pub due-spec : {M : Type 1} → statement M
 due-spec =

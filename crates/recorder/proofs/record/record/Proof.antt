@@ -103,10 +103,10 @@ record-spec =
     tie.close
     (tie.spec
     (λ c κs. search needs)
-    (λ c. search needs)
-    (λ c. search needs)
-    (λ c. search needs)
-    (λ c. search needs)
+    (λ c. refl)
+    (λ c. refl)
+    (λ c. refl)
+    (λ c. refl)
     returns
     add-j
     used-bytes-requires
@@ -116,8 +116,8 @@ record-spec =
     (λ c. search needs)
     write-checkpoint-requires
     advanced-requires
-    (λ c. search needs)
-    (λ c. search needs)
-    (λ c. search needs)
-    (λ c. search needs)
+    (λ c. let place : tie.After-checkpoints = search in place .checkpoints .given)
+    (λ c. let place : tie.After-frames = search in place .frames .given)
+    (λ c. let place : tie.After-store = search in place .store .given)
+    (λ c. let place : tie.After-parts = search in place .parts .given)
     returns-2)

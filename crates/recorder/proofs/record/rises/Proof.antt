@@ -9,7 +9,10 @@ mul-most c = record { fits = product-fits _ _ (search needs) (search needs) }
 
 returns : tie.Need-returns
 unfolding risesIn
-returns c = cc
+returns c =
+    let below : tie.After-and2 = search in
+    let counts : tie.After-and = search in
+    rw (c .and3 .ensures, below .and2 .ensures, counts .and .ensures)
 
 pub rises-spec : {M : Type 1} → statement M
 rises-spec =
