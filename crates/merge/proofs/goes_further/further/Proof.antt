@@ -5,7 +5,11 @@ use Rattle.merge.proofs.goes_further.further.Tie as tie
 
 returns : tie.Need-returns
 unfolding furtherIn
-returns c = cc
+returns c =
+    let own : tie.After-is-complete2 = search in
+    let more : tie.After-or = search in
+    let other : tie.After-is-complete = search in
+    rw (c .and .ensures, own .is-complete2 .ensures, more .or .ensures, other .is-complete .ensures)
 
 pub further-spec : {M : Type 1} → statement M
 further-spec =

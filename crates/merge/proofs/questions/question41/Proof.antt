@@ -8,7 +8,9 @@ use Rattle.merge.proofs.questions.question41.Tie as tie
 
 returns : tie.Need-returns
 unfolding areaAgrees question41 all
-returns c = simp and-true (cc)
+returns c =
+    let same : tie.After-same-area = search in
+    rw (c .and .ensures, same .same-area .ensures) (simp and-true)
 
 pub question41-spec : {M : Type 1} → statement M
 question41-spec = tie.close (tie.spec (λ c κs. search needs) (λ c κs. search needs) returns)

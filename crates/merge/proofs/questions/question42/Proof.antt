@@ -8,7 +8,10 @@ use Rattle.merge.proofs.questions.question42.Tie as tie
 
 returns : tie.Need-returns
 unfolding imageAgrees question42 all
-returns c = simp and-true (cc)
+returns c =
+    let fingerprints : tie.After-same-fingerprint = search in
+    let images : tie.After-same-image = search in
+    rw (c .and .ensures, fingerprints .same-fingerprint .ensures, images .same-image .ensures) (simp and-true)
 
 pub question42-spec : {M : Type 1} → statement M
 question42-spec =

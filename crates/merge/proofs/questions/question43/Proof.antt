@@ -8,7 +8,10 @@ use Rattle.merge.proofs.questions.question43.Tie as tie
 
 returns : tie.Need-returns
 unfolding readingAgrees question43 all
-returns c = simp and-true (cc)
+returns c =
+    let ends : tie.After-same-end = search in
+    let common : tie.After-same-checkpoints = search in
+    rw (c .and .ensures, ends .same-end .ensures, common .same-checkpoints .ensures) (simp and-true)
 
 pub question43-spec : {M : Type 1} → statement M
 question43-spec =

@@ -7,7 +7,10 @@ use Rattle.merge.proofs.questions.same_area.Tie as tie
 
 returns : tie.Need-returns
 unfolding sameArea all
-returns c = simp and-true (cc)
+returns c =
+    let keys : tie.After-same-key = search in
+    let range : tie.After-and = search in
+    rw (c .and2 .ensures, keys .same-key .ensures, range .and .ensures) (simp and-true)
 
 pub same-area-spec : {M : Type 1} → statement M
 same-area-spec = tie.close (tie.spec (λ c κs. search needs) (λ c κs. search needs) (λ c κs. search needs) returns)
