@@ -11,7 +11,7 @@ use lib.ListN.{length}
 use Rattle.field.proofs.Records.{records-length}
 use Rattle.rules.specs.declared.AreaIndex.{AreaIndex}
 use Rattle.rules.specs.declared.Checkpoint.{Checkpoint}
-use Rattle.rules.specs.Tests.{lastOr, all, ask, firstNo}
+use Rattle.rules.specs.Tests.{lastOr, ask, firstNo}
 use Rattle.rules.specs.Values.{Index, noCheckpoint, checkpointAt, lastCheckpoint}
 use Rattle.rules.specs.Questions.{areaOk, numbersOk, question1, question2, question3, question4}
 use Rattle.rules.specs.File.{decodeCheckpoint}
