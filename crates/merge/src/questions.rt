@@ -11,6 +11,7 @@ use rules::End;
 use rules::EndState;
 use rules::Fingerprint;
 use rules::ImageId;
+use sections::ask;
 ghost use mathlib.Core.Path.{_≡_};
 ghost use mathlib.Core.Bool.{cond};
 ghost use Prim.Native.Nat.{_*_, _≤_};
@@ -112,16 +113,9 @@ pub fn join_number(x: AreaIndex, y: AreaIndex, checkpoints: &[u8], other: &[u8])
     requires { ⌜ (x .checkpoints * 24 ≤ length (now checkpoints)) × (y .checkpoints * 24 ≤ length (now other)) ⌝ }
     ensures { λ r. ⌜ r ≡ joinNumber x (now (checkpoints .entry)) y (now (other .entry)) ⌝ }
 {
-    if !question41(x, y) {
-        return 41;
-    }
-    if !question42(x, y) {
-        return 42;
-    }
-    if !question43(x, y, checkpoints, other) {
-        return 43;
-    }
-    0
+    let area = ask(0, question41(x, y), 41);
+    let image = ask(area, question42(x, y), 42);
+    ask(image, question43(x, y, checkpoints, other), 43)
 }
 
 // ---- all questions of a merge
