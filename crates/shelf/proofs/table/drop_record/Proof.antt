@@ -43,23 +43,18 @@ use Rattle.rules_shelf.specs.declared.ShelfRecord.{ShelfRecord}
 use Rattle.shelf.proofs.Rows.{R, B, makesB}
 use Rattle.shelf.proofs.Values.{gives, calls-value}
 use Rattle.shelf.proofs.Lending.{Take, Write, takes, writes}
+use Rattle.shelf.proofs.Known.{takes-known, writes-known, count-of-known}
 use Rattle.shelf.proofs.Kept as U
 use Rattle.shelf.proofs.Kept.Laws as U′
 use Rattle.shelf.proofs.table.take_records as take
-use Rattle.shelf.proofs.table.take_records.Symbol as take-def
 use Rattle.shelf.proofs.table.take_records.Symbol.{name as #take-records}
-use Rattle.shelf.proofs.table.take_records.Met as take-met
 use Rattle.shelf.proofs.dropped as dropped
 use Rattle.shelf.proofs.dropped.Symbol as dropped-def
 use Rattle.shelf.proofs.dropped.Symbol.{name as #dropped}
 use Rattle.shelf.proofs.dropped.Met as dropped-met
 use Rattle.shelf.proofs.count_of as count-of
-use Rattle.shelf.proofs.count_of.Symbol as count-of-def
 use Rattle.shelf.proofs.count_of.Symbol.{name as #count-of}
-use Rattle.shelf.proofs.count_of.Met as count-of-met
-use Rattle.shelf.proofs.table.write_records.Symbol as write-def
 use Rattle.shelf.proofs.table.write_records.Symbol.{name as #write-records}
-use Rattle.shelf.proofs.table.write_records.Met as write-met
 use Rattle.shelf.proofs.table.drop_record.Key.{name as #shelf·drop-record}
 use Rattle.shelf.proofs.table.drop_record as f
 use Rattle.shelf.proofs.table.drop_record.Statement as stated
@@ -195,11 +190,8 @@ drop-record-spec 𝓤 H 𝓜 𝓖 𝓡 =
     entered 𝓤 H (tripleOf 𝓤 H (𝓖 .A) f.signature (f.spec 𝓤 H (𝓖 .A) (𝓜 .mem) (𝓡 .run)))
     (tables 𝓤 H 𝓜 𝓡 code.env .C) (tables 𝓤 H 𝓜 𝓡 code.env .Λ) #shelf·drop-record code.function (code.unfolded 𝓤 H 𝓜 𝓡)
     (meets 𝓤 H (𝓖 .A) (givenOf 𝓤 H 𝓜 𝓖) (𝓜 .mem) (𝓡 .run) (tablesOf 𝓤 H 𝓜 (tables 𝓤 H 𝓜 𝓡 code.env))
-    (cited 𝓤 H (Take 𝓤 H (𝓖 .A) (𝓜 .mem) (𝓡 .run)) 𝓜 𝓡 code.env #take-records take-def.routine
-    code.calls-shelf·table·take-records (take-met.met 𝓤 H 𝓜 𝓖 𝓡))
-    (cited 𝓤 H (Write 𝓤 H (𝓖 .A) (𝓜 .mem) (𝓡 .run)) 𝓜 𝓡 code.env #write-records write-def.routine
-    code.calls-shelf·table·write-records (write-met.met 𝓤 H 𝓜 𝓖 𝓡))
+    (takes-known 𝓤 H 𝓜 𝓖 𝓡 code.env code.calls-shelf·table·take-records)
+    (writes-known 𝓤 H 𝓜 𝓖 𝓡 code.env code.calls-shelf·table·write-records)
     (cited 𝓤 H (tripleOf 𝓤 H (𝓖 .A) dropped.signature (dropped.spec 𝓤 H (𝓖 .A) (𝓜 .mem) (𝓡 .run))) 𝓜 𝓡 code.env #dropped
     dropped-def.routine code.calls-shelf·dropped (dropped-met.met 𝓤 H 𝓜 𝓖 𝓡))
-    (cited 𝓤 H (tripleOf 𝓤 H (𝓖 .A) count-of.signature (count-of.spec 𝓤 H (𝓖 .A) (𝓜 .mem) (𝓡 .run))) 𝓜 𝓡 code.env
-    #count-of count-of-def.routine code.calls-shelf·count-of (count-of-met.met 𝓤 H 𝓜 𝓖 𝓡)))
+    (count-of-known 𝓤 H 𝓜 𝓖 𝓡 code.env code.calls-shelf·count-of))

@@ -42,14 +42,13 @@ use Rattle.shelf.specs.Steps.{Sound, listOf}
 use Rattle.shelf.proofs.Rows.{R, makesR, makesB}
 use Rattle.shelf.proofs.Values.{gives, calls-value}
 use Rattle.shelf.proofs.Lending.{Take, takes}
+use Rattle.shelf.proofs.Known.{takes-known}
 use Rattle.rules_shelf.specs.declared.ShelfRecord.{ShelfRecord}
 use Rattle.rules_shelf.proofs.ShelfRecord as T
 use Rattle.rules_shelf.proofs.ShelfRecord.Laws as T′
 use Rattle.shelf.proofs.Kept as U
 use Rattle.shelf.proofs.Kept.Laws as U′
-use Rattle.shelf.proofs.table.take_records.Symbol as take-def
 use Rattle.shelf.proofs.table.take_records.Symbol.{name as #take-records}
-use Rattle.shelf.proofs.table.take_records.Met as take-met
 use Rattle.shelf.proofs.place as place
 use Rattle.shelf.proofs.place.Symbol as place-def
 use Rattle.shelf.proofs.place.Symbol.{name as #place}
@@ -166,7 +165,6 @@ search-spec 𝓤 H 𝓜 𝓖 𝓡 =
     entered 𝓤 H (tripleOf 𝓤 H (𝓖 .A) f.signature (f.spec 𝓤 H (𝓖 .A) (𝓜 .mem) (𝓡 .run)))
     (tables 𝓤 H 𝓜 𝓡 code.env .C) (tables 𝓤 H 𝓜 𝓡 code.env .Λ) #shelf·search code.function (code.unfolded 𝓤 H 𝓜 𝓡)
     (meets 𝓤 H (𝓖 .A) (givenOf 𝓤 H 𝓜 𝓖) (𝓜 .mem) (𝓡 .run) (tablesOf 𝓤 H 𝓜 (tables 𝓤 H 𝓜 𝓡 code.env))
-    (cited 𝓤 H (Take 𝓤 H (𝓖 .A) (𝓜 .mem) (𝓡 .run)) 𝓜 𝓡 code.env #take-records take-def.routine
-    code.calls-shelf·table·take-records (take-met.met 𝓤 H 𝓜 𝓖 𝓡))
+    (takes-known 𝓤 H 𝓜 𝓖 𝓡 code.env code.calls-shelf·table·take-records)
     (cited 𝓤 H (tripleOf 𝓤 H (𝓖 .A) place.signature (place.spec 𝓤 H (𝓖 .A) (𝓜 .mem) (𝓡 .run))) 𝓜 𝓡 code.env #place
     place-def.routine code.calls-shelf·place (place-met.met 𝓤 H 𝓜 𝓖 𝓡)))
