@@ -5,7 +5,7 @@ use Rattle.recorder.proofs.boundary.due_lsn.Tie as tie
 returns : tie.Need-returns
 returns c =
     let run : tie.After-is-running = search in
-    cc (run .is-running .ensures, c .boundary-at .ensures)
+    rw (c .boundary-at .ensures, run .is-running .ensures)
 
 pub due-lsn-spec : {M : Type 1} → statement M
 due-lsn-spec =
