@@ -87,13 +87,7 @@ fn stretch_ok(r: Recorder, checkpoints: &[u8], frames: &[u8], parts: &[u8]) -> b
 }
 
 // 4, with the kind bytes of the parts; b is the number of boundaries.
-fn held_ok(
-    b: u64,
-    r: Recorder,
-    checkpoints: &[u8],
-    frames: &[u8],
-    parts: &[u8],
-) -> bool
+fn held_ok(b: u64, r: Recorder, checkpoints: &[u8], frames: &[u8], parts: &[u8]) -> bool
     requires { ⌜ Spaced b r (now checkpoints) (now frames) (now parts) ⌝ }
     ensures { λ q. ⌜
         ((store : List ℕ) → q ≡ recorderHeld r
