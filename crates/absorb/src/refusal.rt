@@ -11,6 +11,7 @@ use rules::AreaIndex;
 use rules::ImageId;
 use rules::Mode;
 use rules::Recorder;
+use sections::ask;
 use sections::frontier_of;
 ghost use mathlib.Core.Path.{_≡_};
 ghost use Prim.Native.Nat.{_≤_};
@@ -52,29 +53,28 @@ fn later_number(
     theirs: &[u8],
 ) -> u32
     requires { ⌜ Readable x (now checkpoints) (now malformed) r (now theirs) ⌝ }
-    ensures { λ n. ⌜ n ≡ laterNumber x (now (checkpoints .entry)) (now (malformed .entry)) r (now (theirs .entry)) image (now (given .entry)) ⌝ }
+    ensures { λ n. ⌜
+        n ≡ laterNumber x (now (checkpoints .entry)) (now (malformed .entry)) r (now (theirs .entry)) image
+        (now (given .entry)) ⌝ }
 {
     let own = x.image;
-    if !same_image(own, image) {
-        return 8;
+    let eight = ask(0, same_image(own, image), 8);
+    let nine = ask(eight, question9(x, r), 9);
+    let ten = ask(nine, question10(x, r), 10);
+    if ten != 0 {
+        return ten;
     }
-    if !question9(x, r) {
-        return 9;
-    }
-    if !question10(x, r) {
-        return 10;
-    }
-    if !question11(x, r, checkpoints, theirs) {
-        return 11;
-    }
-    if !question12(x, r, given, checkpoints, malformed, theirs) {
-        return 12;
-    }
-    0
+    let eleven = ask(0, question11(x, r, checkpoints, theirs), 11);
+    ask(
+        eleven,
+        question12(x, r, given, checkpoints, malformed, theirs),
+        12,
+    )
 }
 
 // ---- all questions of an absorb
-// The number of the first question that refuses an absorb of r into x, 0 for none; a stopped recorder is no refusal after 4.
+// The number of the first question that refuses an absorb of r into x, 0 for none; a stopped recorder is no refusal
+// after 4.
 pub fn absorb_refuses(
     x: AreaIndex,
     r: Recorder,
@@ -92,7 +92,12 @@ pub fn absorb_refuses(
     new_store: &[u8],
     new_parts: &[u8],
 ) -> u32
-    ensures { λ n. ⌜ n ≡ absorbRefusal x (tables (now (checkpoints .entry)) (now (frames .entry)) (now (store .entry)) (now (parts .entry)) (now (malformed .entry)) (now (hints .entry)) (now (confirmed .entry))) image (now (given .entry)) r (recorderTables (now («new_checkpoints» .entry)) (now («new_frames» .entry)) (now («new_store» .entry)) (now («new_parts» .entry))) ⌝ }
+    ensures { λ n. ⌜
+        n ≡ absorbRefusal x
+        (tables (now (checkpoints .entry)) (now (frames .entry)) (now (store .entry)) (now (parts .entry))
+        (now (malformed .entry)) (now (hints .entry)) (now (confirmed .entry))) image (now (given .entry)) r
+        (recorderTables (now («new_checkpoints» .entry)) (now («new_frames» .entry)) (now («new_store» .entry))
+        (now («new_parts» .entry))) ⌝ }
 {
     let own = refuses(
         x,
