@@ -1,3 +1,4 @@
+use mathlib.Core.Path.{refl}
 use Rattle.tables.specs.Index.{Tables, tables}
 use Rattle.tables.specs.Lent.{TableBytes}
 use Rattle.absorb.proofs.committed.Facts.{ready}
@@ -83,11 +84,11 @@ absorb-spec =
     (λ c κs. search needs)
     (λ c κs. search needs)
     (λ c κs. search needs)
-    (λ c. search needs)
-    (λ c. search needs)
-    (λ c. search needs)
-    (λ c. search needs)
-    (λ c. search needs)
+    (λ c. refl)
+    (λ c. refl)
+    (λ c. refl)
+    (λ c. refl)
+    (λ c. refl)
     returns
     drain-requires
     commit-requires

@@ -13,7 +13,9 @@ use Rattle.absorb.proofs.tests.same_counts.Statement.{statement}
 use Rattle.absorb.proofs.tests.same_counts.Tie as tie
 
 abbrev Inv-loop : tie.InvT-loop
-Inv-loop t n first other m common i₀ i = Compared 24 decodeCheckpoint sameCounts n first m t other (agrees sameCounts (drop first (checkpointsIn n t)) (checkpointsIn m other)) i
+Inv-loop t n first other m common i₀ i =
+    Compared 24 decodeCheckpoint sameCounts n first m t other
+    (agrees sameCounts (drop first (checkpointsIn n t)) (checkpointsIn m other)) i
 
 abbrev μ-loop : tie.MeasureT-loop
 μ-loop t n first other m common i₀ i = common - i
@@ -22,10 +24,22 @@ loop-holds : tie.Need-loop-holds Inv-loop μ-loop
 loop-holds c = compare-start (c .before .before .before .pre .2)
 
 returns : tie.Need-returns Inv-loop μ-loop
-returns c = compare-stop (c .before .before .before .before .before .loop .inv) (omega arith) (omega arith) (c .before .before .before .read-checkpoint .ensures) (c .before .before .read-checkpoint2 .ensures) (sym (c .before .same-pair .ensures) ∙ not-true _ (c .if1 .taken))
+returns c =
+    let at-loop : tie.At-loop Inv-loop μ-loop = search in
+    let own : tie.After-read-checkpoint Inv-loop μ-loop = search in
+    let theirs : tie.After-read-checkpoint2 Inv-loop μ-loop = search in
+    let same : tie.After-same-pair Inv-loop μ-loop = search in
+    compare-stop (at-loop .loop .inv) (omega arith) (omega arith) (own .read-checkpoint .ensures)
+    (theirs .read-checkpoint2 .ensures) (sym (same .same-pair .ensures) ∙ not-true _ (c .if1 .taken))
 
 loop-again : tie.Need-loop-again Inv-loop μ-loop
-loop-again c = compare-on (c .before .before .before .before .before .loop .inv) (omega arith) (omega arith) (c .before .before .before .read-checkpoint .ensures) (c .before .before .read-checkpoint2 .ensures) (sym (c .before .same-pair .ensures) ∙ not-false _ (c .if1 .left))
+loop-again c =
+    let at-loop : tie.At-loop Inv-loop μ-loop = search in
+    let own : tie.After-read-checkpoint Inv-loop μ-loop = search in
+    let theirs : tie.After-read-checkpoint2 Inv-loop μ-loop = search in
+    let same : tie.After-same-pair Inv-loop μ-loop = search in
+    compare-on (at-loop .loop .inv) (omega arith) (omega arith) (own .read-checkpoint .ensures)
+    (theirs .read-checkpoint2 .ensures) (sym (same .same-pair .ensures) ∙ not-false _ (c .if1 .left))
 
 returns-2 : tie.Need-returns-2 Inv-loop μ-loop
 returns-2 c = compare-end (c .before .loop .inv) (omega arith)
