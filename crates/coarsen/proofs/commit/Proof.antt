@@ -1,3 +1,7 @@
+use mathlib.Core.Path.{_≡_}
+use Prim.Native.Nat.{ℕ, _*_, min}
+use mir.Syntax.{w32, w64}
+use mir.Val.{Fits}
 use Rattle.coarsen.proofs.Ready.{wider, keeps, copies, holds, takes, hints-there, confirmed-there}
 use Rattle.coarsen.proofs.Done.{committed}
 use borrow.Author.Needs.{needs}
@@ -57,6 +61,25 @@ malformed-lent p = search
 
 abbrev hints-lent : tie.After-copy-first3 → tie.After-coarse-hints
 hints-lent p = search
+
+-- counts of records, and their bytes, fit 64 bits
+limit-fits : Fits w64 4096
+limit-fits = search needs
+
+cut-fits : (a : ℕ) {n : ℕ} → n ≡ min a 4096 → Fits w32 n
+cut-fits a e = search needs
+
+widens : {n : ℕ} → Fits w32 n → Fits w64 n
+widens f = search needs
+
+bytes-4 : {n : ℕ} → Fits w32 n → Fits w64 (n * 4)
+bytes-4 f = search needs
+
+bytes-8 : {n : ℕ} → Fits w32 n → Fits w64 (n * 8)
+bytes-8 f = search needs
+
+bytes-16 : {n : ℕ} → Fits w32 n → Fits w64 (n * 16)
+bytes-16 f = search needs
 
 div-r : tie.Need-div-r
 div-r c = let start : tie.Start = search in search (needs, wider (start .pre) .old)
@@ -121,19 +144,19 @@ commit-spec =
     div-r
     kept-requires
     count-of-requires
-    (λ c. search needs)
+    (λ c. limit-fits)
     (λ c κs. search needs)
-    (λ c. search needs)
+    (λ c. cut-fits _ (c .min-u64 .ensures))
     copy-kept-requires
     keep-parts-requires
-    (λ c. search needs)
-    (λ c. search needs)
+    (λ c. let cut : tie.After-min-u64 = search in widens (cut-fits _ (cut .min-u64 .ensures)))
+    (λ c. let cut : tie.After-min-u64 = search in bytes-4 (cut-fits _ (cut .min-u64 .ensures)))
     copy-first-requires
-    (λ c. search needs)
-    (λ c. search needs)
+    (λ c. widens (c .struct-known2 .given .1 .1 .1 .1 .1 .1 .1 .1 .1 .0))
+    (λ c. bytes-8 (c .struct-known2 .given .1 .1 .1 .1 .1 .1 .1 .1 .1 .0))
     copy-first-requires-2
-    (λ c. search needs)
-    (λ c. search needs)
+    (λ c. widens (c .struct-known3 .given .1 .1 .1 .1 .1 .1 .1 .1 .1 .1 .0))
+    (λ c. bytes-16 (c .struct-known3 .given .1 .1 .1 .1 .1 .1 .1 .1 .1 .1 .0))
     copy-first-requires-3
     (λ c κs. search needs)
     (λ c. let seven : tie.After-copy-first3 = search in checkpoints-lent (kept-parts (malformed-copied (hints-copied seven))) .coarse-checkpoints .given)
