@@ -17,7 +17,7 @@ use rules::Saved;
 use rules_disc::Entry;
 use save::layout::saved_length;
 use save::output::long_enough;
-use save::to_bytes;
+use save::saved_after;
 ghost use mathlib.Core.Path.{_≡_};
 ghost use Prim.Native.Nat.{_+_, _≤_};
 ghost use mathlib.Core.List.{[], _∷_};
@@ -63,7 +63,8 @@ fn put_list(
         len (now (out .entry)) at r (now (out .exit)) ⌝ }
 {
     let to = at + len as usize;
-    let _saved = to_bytes(
+    let _saved = saved_after(
+        0,
         x,
         checkpoints,
         frames,

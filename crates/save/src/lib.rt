@@ -179,8 +179,8 @@ fn write_saved(
     write_u64(out, body.next, body.sum);
 }
 
-// number is that of the first of questions 1 to 4 answered no, 0 for none.
-fn saved_after(
+// What follows questions 1 to 4: number is that of the first answered no, 0 for none.
+pub fn saved_after(
     number: u32,
     x: AreaIndex,
     checkpoints: &[u8],

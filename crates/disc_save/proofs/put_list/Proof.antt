@@ -1,3 +1,4 @@
+use mathlib.Core.Path.{sym}
 use native.Mathlib.Omega.{arith}
 use Rattle.tables.specs.Index.{Tables, tables}
 use Rattle.disc_save.proofs.Files.{put-list-is}
@@ -11,12 +12,15 @@ lent s =
     let a = s .args in
     tables (a .checkpoints .now) (a .frames .now) (a .store .now) (a .parts .now) (a .malformed .now) (a .hints .now) (a .confirmed .now)
 
+saved-after-requires : tie.Need-saved-after-requires
+saved-after-requires c κs = let start : tie.Start = search in sym (start .pre .0)
+
 returns : tie.Need-returns
 returns c =
-    let wrote : tie.After-to-bytes = search in
+    let wrote : tie.After-saved-after = search in
     let start : tie.Start = search in
     put-list-is (start .args .x) (lent start) (start .args .out .now) (start .args .at) _ (start .args .len) (start .pre .0) (start .pre .1) (omega arith) (omega (arith, start .pre .2))
-    (wrote .to-bytes .ensures)
+    (wrote .saved-after .ensures)
 
 pub put-list-spec : {M : Type 1} → statement M
 put-list-spec =
@@ -26,6 +30,6 @@ put-list-spec =
     (λ c. search needs)
     (λ c. search needs)
     (λ c. search needs)
-    (λ c κs. search needs)
+    saved-after-requires
     (λ c. search needs)
     returns)
