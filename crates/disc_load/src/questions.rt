@@ -7,7 +7,7 @@ use rules_disc::Entry;
 ghost use mathlib.Core.Path.{_≡_};
 ghost use mathlib.Core.Bool.{_&&_};
 ghost use mathlib.Core.List.{[], _∷_};
-ghost use Prim.Native.Nat.{_+_};
+ghost use Prim.Native.Nat.{ℕ, _+_};
 ghost use lib.Dec.{eqb, leb};
 ghost use Rattle.rules_disc.specs.Disc.{entry, laid, entriesOk, slotArea};
 
@@ -52,9 +52,9 @@ pub fn two_ok(e: Entry, f: Entry, size: u64) -> bool
 }
 
 // ---- writing
-// 54 of one list whose file has m bytes.
-pub fn one_fits(slot: u8, m: u64) -> bool
-    ensures { λ r. ⌜ r ≡ entriesOk 0 (entry slot 16 m ∷ []) ⌝ }
+// 54 of one list whose file has m bytes, whatever its slot.
+pub fn one_fits(m: u64) -> bool
+    ensures { λ r. ⌜ ((slot : ℕ) → r ≡ entriesOk 0 (entry slot 16 m ∷ [])) ⌝ }
 {
     m <= MAX_U32
 }

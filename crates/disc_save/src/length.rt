@@ -40,9 +40,8 @@ pub fn one_length(
     if number != 0 {
         return number as u64;
     }
-    let slot = slot_of(x);
     let m = saved_length(x, frames);
-    if !one_fits(slot, m) {
+    if !one_fits(m) {
         return 54;
     }
     16 + m

@@ -105,7 +105,7 @@ fn write_list(
 {
     let slot = slot_of(x);
     let m = saved_length(x, frames);
-    if !one_fits(slot, m) {
+    if !one_fits(m) {
         return Saved::Refused(54);
     }
     let total = length_of_one(m);

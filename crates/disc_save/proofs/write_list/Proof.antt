@@ -45,7 +45,7 @@ returns c =
     let slot = slot-at size in
     let start = begin slot in
     as-broken ((indexIn (start .args .x) (lent start)) ∷ []) (start .args .out .now)
-    (one-contents (indexIn (start .args .x) (lent start)) (slot .slot-of .ensures) (size .saved-length .ensures (lent start) refl) (fits .one-fits .ensures)) (not-true _ (c .if1 .taken))
+    (one-contents (indexIn (start .args .x) (lent start)) (slot .slot-of .ensures) (size .saved-length .ensures (lent start) refl) (fits .one-fits .ensures _)) (not-true _ (c .if1 .taken))
 
 length-of-one-requires : tie.Need-length-of-one-requires
 length-of-one-requires c κs =
@@ -55,7 +55,7 @@ length-of-one-requires c κs =
     let slot = slot-at size in
     let start = begin slot in
     let l = size .saved-length .ensures (lent start) refl in
-    one-small (indexIn (start .args .x) (lent start)) l (one-contents (indexIn (start .args .x) (lent start)) (slot .slot-of .ensures) l (fits .one-fits .ensures)) (not-false _ (passed .if1 .left))
+    one-small (indexIn (start .args .x) (lent start)) l (one-contents (indexIn (start .args .x) (lent start)) (slot .slot-of .ensures) l (fits .one-fits .ensures _)) (not-false _ (passed .if1 .left))
 
 returns-2 : tie.Need-returns-2
 returns-2 c =
@@ -67,7 +67,7 @@ returns-2 c =
     let slot = slot-at size in
     let start = begin slot in
     let l = size .saved-length .ensures (lent start) refl in
-    as-short ((indexIn (start .args .x) (lent start)) ∷ []) (start .args .out .now) (one-contents (indexIn (start .args .x) (lent start)) (slot .slot-of .ensures) l (fits .one-fits .ensures)) (not-false _ (passed .if1 .left))
+    as-short ((indexIn (start .args .x) (lent start)) ∷ []) (start .args .out .now) (one-contents (indexIn (start .args .x) (lent start)) (slot .slot-of .ensures) l (fits .one-fits .ensures _)) (not-false _ (passed .if1 .left))
     (total .length-of-one .ensures ∙ one-length (indexIn (start .args .x) (lent start)) l) (leb-false _ _ (sym (room .long-enough .ensures) ∙ not-true _ (c .if2 .taken)))
 
 entry-of-one-requires : tie.Need-entry-of-one-requires
@@ -78,7 +78,7 @@ entry-of-one-requires c κs =
     let slot = slot-at size in
     let start = begin slot in
     let l = size .saved-length .ensures (lent start) refl in
-    one-small (indexIn (start .args .x) (lent start)) l (one-contents (indexIn (start .args .x) (lent start)) (slot .slot-of .ensures) l (fits .one-fits .ensures)) (not-false _ (passed .if1 .left))
+    one-small (indexIn (start .args .x) (lent start)) l (one-contents (indexIn (start .args .x) (lent start)) (slot .slot-of .ensures) l (fits .one-fits .ensures _)) (not-false _ (passed .if1 .left))
 
 write-one-requires : tie.Need-write-one-requires
 write-one-requires c κs =
@@ -116,7 +116,7 @@ returns-3 c =
     let enough = leb-true (total .length-of-one .result) (length (start .args .out .now)) (sym (room .long-enough .ensures) ∙ not-false _ (long .if2 .left)) in
     let l = size .saved-length .ensures (lent start) refl in
     let t = total .length-of-one .ensures in
-    rw t (as-done ((indexIn (start .args .x) (lent start)) ∷ []) (start .args .out .now) (one-contents (indexIn (start .args .x) (lent start)) (slot .slot-of .ensures) l (fits .one-fits .ensures)) (not-false _ (passed .if1 .left))
+    rw t (as-done ((indexIn (start .args .x) (lent start)) ∷ []) (start .args .out .now) (one-contents (indexIn (start .args .x) (lent start)) (slot .slot-of .ensures) l (fits .one-fits .ensures _)) (not-false _ (passed .if1 .left))
     (one-length (indexIn (start .args .x) (lent start)) l) (omega (arith, enough, t))
     (file-of-one (indexIn (start .args .x) (lent start)) (slot .slot-of .ensures) l (omega (arith, enough, t)) (rw (first .entry-of-one .ensures) at (table .write-one .ensures)) (list .put-list .ensures)))
 

@@ -32,22 +32,20 @@ returns-2 c =
     let start : tie.Start = search in
     let asked : tie.After-refuses = search in
     let passed : tie.Else1 = search in
-    let slot : tie.After-slot-of = search in
     let size : tie.After-saved-length = search in
     let fits : tie.After-one-fits = search in
-    one-broken (start .args .x) (lent start) (asked .refuses .ensures) (passed .if1 .left) (slot .slot-of .ensures) (size .saved-length .ensures (lent start) refl)
-    (fits .one-fits .ensures) (not-true _ (c .if2 .taken))
+    one-broken (start .args .x) (lent start) (asked .refuses .ensures) (passed .if1 .left) refl (size .saved-length .ensures (lent start) refl)
+    (fits .one-fits .ensures _) (not-true _ (c .if2 .taken))
 
 add-result : tie.Need-add-result
 add-result c =
     let start : tie.Start = search in
     let asked : tie.After-refuses = search in
     let passed : tie.Else1 = search in
-    let slot : tie.After-slot-of = search in
     let size : tie.After-saved-length = search in
     let fits : tie.After-one-fits = search in
-    let small = one-fits (start .args .x) (lent start) (asked .refuses .ensures) (passed .if1 .left) (slot .slot-of .ensures) (size .saved-length .ensures (lent start) refl)
-    (fits .one-fits .ensures) (not-false _ (c .if2 .left)) in
+    let small = one-fits (start .args .x) (lent start) (asked .refuses .ensures) (passed .if1 .left) refl (size .saved-length .ensures (lent start) refl)
+    (fits .one-fits .ensures _) (not-false _ (c .if2 .left)) in
     omega (arith, small)
 
 returns-3 : tie.Need-returns-3
@@ -55,12 +53,11 @@ returns-3 c =
     let start : tie.Start = search in
     let asked : tie.After-refuses = search in
     let passed : tie.Else1 = search in
-    let slot : tie.After-slot-of = search in
     let size : tie.After-saved-length = search in
     let fits : tie.After-one-fits = search in
     let fit : tie.Else2 = search in
-    one-told (start .args .x) (lent start) (asked .refuses .ensures) (passed .if1 .left) (slot .slot-of .ensures) (size .saved-length .ensures (lent start) refl)
-    (fits .one-fits .ensures) (not-false _ (fit .if2 .left))
+    one-told (start .args .x) (lent start) (asked .refuses .ensures) (passed .if1 .left) refl (size .saved-length .ensures (lent start) refl)
+    (fits .one-fits .ensures _) (not-false _ (fit .if2 .left))
 
 pub one-length-spec : {M : Type 1} → statement M
 one-length-spec =
@@ -69,7 +66,6 @@ one-length-spec =
     (λ c κs. search needs)
     (λ c. search needs)
     returns
-    (λ c κs. search needs)
     saved-length-requires
     (λ c κs. search needs)
     returns-2
