@@ -1,3 +1,4 @@
+use mathlib.Core.Path.{refl}
 use Rattle.tables.specs.Index.{Tables, tables}
 use Rattle.disc_load.proofs.Answers.{answer-refused, answer-ready}
 use borrow.Author.Needs.{needs}
@@ -59,25 +60,25 @@ pub from-disc-spec : {M : Type 1} → statement M
 from-disc-spec =
     tie.close
     (tie.spec
-    (λ c κs. search needs)
+    (λ c κs. tt)
     (λ c. search needs)
     (λ c. search needs)
     commit-body-requires
     commit-body-requires-2
-    (λ c. search needs)
-    (λ c. search needs)
-    (λ c. search needs)
-    (λ c. search needs)
-    (λ c. search needs)
-    (λ c. search needs)
-    (λ c. search needs)
-    (λ c. search needs)
-    (λ c. search needs)
-    (λ c. search needs)
-    (λ c. search needs)
-    (λ c. search needs)
-    (λ c. search needs)
-    (λ c. search needs)
+    (λ c. refl)
+    (λ c. refl)
+    (λ c. refl)
+    (λ c. refl)
+    (λ c. refl)
+    (λ c. refl)
+    (λ c. refl)
+    (λ c. refl)
+    (λ c. refl)
+    (λ c. refl)
+    (λ c. refl)
+    (λ c. refl)
+    (λ c. refl)
+    (λ c. refl)
     returns
     (λ c. let place : tie.After-checkpoints = search in place .checkpoints .given)
     (λ c. let place : tie.After-frames = search in place .frames .given)
