@@ -19,22 +19,21 @@ use Rattle.rules.specs.Tests.{Answer, Refused, Accepted, after, ask, firstNo}
 use Rattle.rules.specs.Values.{Index, max64, stated}
 use Rattle.rules.specs.Sizes.{knownSized}
 use Rattle.rules.specs.Questions.{question1, question2, question4, four}
-use Rattle.rules.proofs.Tests.{and-left, and-right, asks, →after, →bind}
+use Rattle.rules.proofs.Tests.{and-left, and-right, asks, test, →after, →bind}
 use Rattle.rules.proofs.AreaIndex.{the-row}
 use Rattle.rules.proofs.Fingerprint as print
-use Rattle.tables.specs.Index.{Tables, roomOf, roomIn, indexIn, kindsIn, refusal, madeOut, madeOutOf}
+use Rattle.tables.specs.Index.{Tables, roomOf, roomIn, indexIn, kindsIn, refusal, MadeOut, madeOut, madeOutOf}
 use Rattle.rules.specs.declared.Made.the-variants as made
 use Rattle.index.specs.Steps.{Passes, heldQuestion4}
 use Rattle.tables.specs.Lent.{Typed, TableBytes}
 use Rattle.index.proofs.Questions.{passes, passes-long}
 use Rattle.index.proofs.Lent.{passes-savable}
-use Rattle.merge.specs.Steps.{outIndex}
 use Rattle.rules_drawer.specs.Drawer.{lengthsIn, question44, pairsNumber, mergeEach, mergeLists, mergeAll}
 use Rattle.rules_drawer.proofs.Files.{refused-bind, refused-after}
 use Rattle.drawer.specs.declared.ask.Asked.{Asked}
 use Rattle.drawer.specs.Ask.{unasked, refusedBy, numbered, sizeOk, Few, listsAt, Loads, FilesAsked, Joinable, joinPairs, Admitted, SetAsked}
 use Rattle.drawer.specs.Drawer.{listsOf, mergeAllIn}
-use Rattle.drawer.specs.Turns.{Turns, turnsIn}
+use Rattle.drawer.specs.Turns.{Turns, turnsIn, turnsOut}
 use Rattle.drawer.proofs.Asking.{lengths-count}
 use Rattle.drawer.proofs.Pairing.{pairs-are, joinable}
 
@@ -147,7 +146,7 @@ module _ (x : AreaIndex) (t : Tables) (ls b : List ℕ) (limit : ℕ) (u : Table
 
 -- ---- the call
 module _ (x : AreaIndex) (t : Tables) (ls b : List ℕ) (limit : ℕ) (u : Tables) {s : Asked} (d : SetAsked x t ls b limit u s) where
-  pub call-refused : s .ok ≡ false → madeOut (made.Refused (s .number)) t ≡ mergeAllIn x t ls b limit u
+  call-refused : s .ok ≡ false → madeOut (made.Refused (s .number)) t ≡ mergeAllIn x t ls b limit u
   unfolding madeOutOf
   call-refused e = sym (ap (madeOutOf _ t) (d .refused e))
 
@@ -156,12 +155,16 @@ module _ (x : AreaIndex) (t : Tables) (ls b : List ℕ) (limit : ℕ) (u : Table
     ready = d .admitted e
 
     pub turns-of : Turns (x .area) x t s b limit u
-    turns-of = record { own = passes x t (ready .own); savable = ready .savable; held = ready .files .held; pairs = ready .pairs }
+    turns-of = record { ok = e; own = passes x t (ready .own); savable = ready .savable; held = ready .files .held; pairs = ready .pairs }
 
     accepted : mergeAll (roomOf t) (indexIn x t) (roomOf u) (lengthsIn ls) b limit ≡ Accepted (mergeEach (indexIn x t) (listsAt (x .area) b limit s))
     unfolding mergeAll mergeLists
     accepted = →after (four-none x t (lengthsIn ls) (passes x t (ready .own)) (ready .size)) (→bind _ (ready .files .lists) (→after (ready .pairs) refl))
 
-    pub call-done : {r : AreaIndex} {t' : Tables} → outIndex r t' ≡ turnsIn x t (listsAt (x .area) b limit s) → madeOut (made.Index r) t' ≡ mergeAllIn x t ls b limit u
+    done : turnsIn x t (listsAt (x .area) b limit s) ≡ mergeAllIn x t ls b limit u
     unfolding madeOutOf turnsIn listsOf
-    call-done q = q ∙ sym (rw (→after (ready .own) accepted, ready .files .lists))
+    done = sym (rw (→after (ready .own) accepted, ready .files .lists))
+
+  pub call-made : {o : MadeOut} → o ≡ turnsOut x t s (listsAt (x .area) b limit s) → o ≡ mergeAllIn x t ls b limit u
+  unfolding turnsOut
+  call-made q = q ∙ test (s .ok) (λ e. rw e (done e)) (λ e. rw e (call-refused e))

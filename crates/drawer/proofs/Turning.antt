@@ -1,7 +1,7 @@
 -- The lists of a set, merged one after the other. Assumes nothing.
 use Prim.Native.Nat.{ℕ, _+_, _-_, _<_, _≤_}
 use mathlib.Core.Path.{_≡_, refl, sym, ap, _∙_, subst}
-use mathlib.Core.Bool.{true}
+use mathlib.Core.Bool.{true, false}
 use mathlib.Core.List.{List, [], _∷_, map}
 use native.Mathlib.Omega.{arith}
 use lib.ListN.{length, take, drop, getD}
@@ -20,6 +20,7 @@ use Rattle.laws.proofs.Facts.{facts}
 use Rattle.laws.proofs.Loaded.{loaded-valid}
 use Rattle.laws.proofs.scans.Scans.{ScanIs, scan-of, scan→}
 use Rattle.rules.specs.declared.Made.{Made}
+use Rattle.rules.specs.declared.Made.the-variants as made
 use Rattle.tables.specs.Index.{Tables, roomOf, roomIn, indexIn, kindsIn, kinded, numbersFrom, tablesFrom, tablesCleared, MadeOut, madeOut, madeOutOf}
 use Rattle.index.proofs.Back.{numbers-back}
 use Rattle.index.proofs.Questions.{passes-kinds}
@@ -34,7 +35,7 @@ use Rattle.drawer.specs.declared.ask.Entry.{Entry}
 use Rattle.drawer.specs.declared.ask.Asked.{Asked}
 use Rattle.drawer.specs.Ask.{noFile, entriesIn, bytesAt, listAt, listsAt, FileLoads}
 use Rattle.drawer.specs.Drawer.{mergedTables}
-use Rattle.drawer.specs.Turns.{numbersAfter, Turning, turnIn, Turns, turnsIn}
+use Rattle.drawer.specs.Turns.{numbersAfter, Turning, turnIn, Turns, turnsIn, turnsOut}
 use Rattle.drawer.proofs.Passing.{merged-one, merged-two, merged-three, merged-four, merged-fits, limited-two, limited-four, limited-fits}
 use Rattle.drawer.proofs.Joining.{pairs-both}
 use Rattle.drawer.proofs.Pairing.{entry-at, entries-end}
@@ -197,53 +198,65 @@ kept-on k l =
       confirmed = l .confirmed ∙ k .confirmed;
     }
 
-module _ (a : Area) (x0 : AreaIndex) (t0 : Tables) (s : Asked) (b : List ℕ) (limit : ℕ) (u0 : Tables) (g : Turns a x0 t0 s b limit u0) where
-  -- the lists from number i on
-  abbrev left : ℕ → List Index
-  left i = map (listAt a b limit) (drop i (entriesIn s))
+-- i lists are merged, in the own tables t and the working tables u
+pub record At (a : Area) (x0 : AreaIndex) (t0 : Tables) (s : Asked) (b : List ℕ) (limit : ℕ) (u0 : Tables) (x : AreaIndex) (t u : Tables) (i : ℕ) : Type 0 where
+  pub set : Turns a x0 t0 s b limit u0
+  pub bytes : Bytes b
+  pub turned : Turned x0 t0 (listsAt a b limit s) x t (map (listAt a b limit) (drop i (entriesIn s)))
+  pub own : Kept t0 t
+  pub work : Kept u0 u
 
-  -- i lists are merged, in the own tables t and the working tables u
-  pub record At (x : AreaIndex) (t u : Tables) (i : ℕ) : Type 0 where
-    pub turned : Turned x0 t0 (listsAt a b limit s) x t (left i)
-    pub own : Kept t0 t
-    pub work : Kept u0 u
+pub turns-refused : (x : AreaIndex) (t : Tables) (s : Asked) (ys : List Index) → s .ok ≡ false
+    → madeOut (made.Refused (s .number)) t ≡ turnsOut x t s ys
+unfolding turnsOut
+turns-refused x t s ys e = rw e
 
-  pub at-start : At x0 t0 u0 0
+module _ {a : Area} {x0 : AreaIndex} {t0 : Tables} {s : Asked} {b : List ℕ} {limit : ℕ} {u0 : Tables} where
+  pub at-start : Turns a x0 t0 s b limit u0 → Bytes b → At a x0 t0 s b limit u0 x0 t0 u0 0
   unfolding roomIn
-  at-start =
+  at-start g by =
       record {
+        set = g;
+        bytes = by;
         turned = record { same = refl; pairs = g .pairs; savable = g .savable; room = g .own .roomy .room; kinds = passes-kinds (g .own) };
         own = kept-none t0;
         work = kept-none u0;
       }
 
-  module _ (by : Bytes b) {x : AreaIndex} {t u : Tables} {i : ℕ} (k : At x t u i) (l : i < s .count) where
+  module _ {x : AreaIndex} {t u : Tables} {i : ℕ} (k : At a x0 t0 s b limit u0 x t u i) (l : i < s .count) where
     abbrev entry : Entry
     entry = getD (s .entries) i noFile
 
     holds : FileLoads a b limit u entry
-    holds = ready-in (kept-room (k .work)) (g .held .each i l)
+    holds = ready-in (kept-room (k .work)) (k .set .held .each i l)
 
     savable : Savable (listAt a b limit entry)
-    savable = held-savable a b limit by entry holds
+    savable = held-savable a b limit (k .bytes) entry holds
 
-    next : Turned x0 t0 (listsAt a b limit s) x t (listAt a b limit entry ∷ left (i + 1))
+    next : Turned x0 t0 (listsAt a b limit s) x t (listAt a b limit entry ∷ map (listAt a b limit) (drop (i + 1) (entriesIn s)))
     next =
         subst (λ (es : List Entry). Turned x0 t0 (listsAt a b limit s) x t (map (listAt a b limit) es))
-        (entry-at s i (g .held .few) (g .held .room) l) (k .turned)
+        (entry-at s i (k .set .held .few) (k .set .held .room) l) (k .turned)
 
     pub at-turn : Turning a x t entry b limit u
     at-turn =
         record { holds = holds; kinds = k .turned .kinds; merges = merges x0 t0 (listsAt a b limit s) next (roomOf u) savable (holds .ready .room) }
 
-    pub at-next : {x' : AreaIndex} {t' u' : Tables} → outIndex x' t' ≡ turnIn x t (listAt a b limit entry) → Kept t t' → Kept u u' → At x' t' u' (i + 1)
+    pub at-next : {x' : AreaIndex} {t' u' : Tables} → outIndex x' t' ≡ turnIn x t (listAt a b limit entry) → Kept t t' → Kept u u'
+        → At a x0 t0 s b limit u0 x' t' u' (i + 1)
     at-next e o w =
         record {
+          set = k .set;
+          bytes = k .bytes;
           turned = turned-on x0 t0 (listsAt a b limit s) next savable e (kept-room o);
           own = kept-on (k .own) o;
           work = kept-on (k .work) w;
         }
 
-  pub at-end : {x : AreaIndex} {t u : Tables} {i : ℕ} → At x t u i → s .count ≤ i → outIndex x t ≡ turnsIn x0 t0 (listsAt a b limit s)
+  pub at-end : {x : AreaIndex} {t u : Tables} {i : ℕ} → At a x0 t0 s b limit u0 x t u i → s .count ≤ i
+      → outIndex x t ≡ turnsOut x0 t0 s (listsAt a b limit s)
+  unfolding turnsOut
   at-end {x} {t} {u} {i} k l =
-      turned-done x0 t0 (listsAt a b limit s) (k .turned) (ap (map (listAt a b limit)) (entries-end s i (g .held .few) (g .held .room) l))
+      turned-done x0 t0 (listsAt a b limit s) (k .turned)
+      (ap (map (listAt a b limit)) (entries-end s i (k .set .held .few) (k .set .held .room) l))
+      ∙ rw (k .set .ok)

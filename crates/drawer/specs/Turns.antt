@@ -1,7 +1,7 @@
 -- Merging the lists of a set one after the other: what a turn needs, and what it leaves.
 use Prim.Native.Nat.{ℕ}
 use mathlib.Core.Path.{_≡_}
-use mathlib.Core.Bool.{true}
+use mathlib.Core.Bool.{true, cond}
 use mathlib.Core.List.{List, _∷_}
 use Rattle.rules.specs.declared.Area.{Area}
 use Rattle.rules.specs.declared.AreaIndex.{AreaIndex}
@@ -10,7 +10,7 @@ use Rattle.rules.specs.Merge.{merged, mergeNumber}
 use Rattle.rules_drawer.specs.Drawer.{pairsNumber, mergeEach}
 use Rattle.rules.specs.declared.Made.{Made}
 use Rattle.rules.specs.declared.Made.the-variants as made
-use Rattle.tables.specs.Index.{Tables, roomOf, indexIn, kindsIn, numbersFrom, tablesCleared, MadeOut}
+use Rattle.tables.specs.Index.{Tables, roomOf, indexIn, kindsIn, numbersFrom, tablesCleared, MadeOut, madeOut}
 use Rattle.index.specs.Steps.{Passes}
 use Rattle.laws.specs.Statements.{Savable}
 use Rattle.merge.specs.Merge.{hintsWritten}
@@ -39,6 +39,7 @@ turnIn x t y =
 
 -- ---- all lists
 pub record Turns (a : Area) (x : AreaIndex) (t : Tables) (s : Asked) (b : List ℕ) (limit : ℕ) (u : Tables) : Type 0 where
+  pub ok : s .ok ≡ true
   pub own : Passes x t
   pub savable : Savable (indexIn x t)
   pub held : Held a b limit u s
@@ -47,3 +48,7 @@ pub record Turns (a : Area) (x : AreaIndex) (t : Tables) (s : Asked) (b : List �
 -- the lists ys merged into that of x and t
 unfoldable pub turnsIn : AreaIndex → Tables → List Index → MadeOut
 turnsIn x t ys = outIndex (numbersFrom (mergeEach (indexIn x t) ys)) (mergedTables (indexIn x t) ys t)
+
+-- the refusal of the set s, or its lists ys merged into that of x and t
+unfoldable pub turnsOut : AreaIndex → Tables → Asked → List Index → MadeOut
+turnsOut x t s ys = cond (s .ok) (turnsIn x t ys) (madeOut (made.Refused (s .number)) t)

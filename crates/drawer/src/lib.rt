@@ -10,11 +10,12 @@ use rules::Area;
 use rules::AreaIndex;
 use rules::Made;
 ghost use mathlib.Core.Path.{_≡_};
+ghost use mathlib.Core.Bool.{true};
 ghost use Rattle.tables.specs.Index.{tables, madeOut};
 ghost use Rattle.merge.specs.Steps.{outIndex};
 ghost use Rattle.drawer.specs.Ask.{listAt, listsAt};
 ghost use Rattle.drawer.specs.Drawer.{mergeAllIn};
-ghost use Rattle.drawer.specs.Turns.{numbersAfter, Turning, turnIn, Turns, turnsIn};
+ghost use Rattle.drawer.specs.Turns.{numbersAfter, Turning, turnIn, Turns, turnsOut};
 
 // The numbers of the list that a call left: x where it is a refusal.
 fn numbers_after(x: AreaIndex, made: Made) -> AreaIndex
@@ -101,9 +102,8 @@ fn turn(
     numbers_after(x, made)
 }
 
-// The lists of the files, in their order, merged into the own one x.
+// The refusal of the set, or the lists of its files, in their order, merged into the own one x.
 fn turns(
-    area: Area,
     x: AreaIndex,
     asked: Asked,
     files: &[u8],
@@ -122,21 +122,28 @@ fn turns(
     work_malformed: &mut [u8],
     work_hints: &mut [u8],
     work_confirmed: &mut [u8],
-) -> AreaIndex
-    requires { ⌜ Turns area x
+) -> Made
+    requires { ⌜
+        (asked .ok ≡ true
+        → Turns (x .area) x
         (tables (now checkpoints) (now frames) (now store) (now parts) (now malformed) (now hints)
         (now confirmed))
         asked (now files) limit
         (tables (now «work_checkpoints») (now «work_frames») (now «work_store») (now «work_parts»)
-        (now «work_malformed») (now «work_hints») (now «work_confirmed»)) ⌝ }
-    ensures { λ r. ⌜ outIndex r
+        (now «work_malformed») (now «work_hints») (now «work_confirmed»))) ⌝ }
+    ensures { λ r. ⌜ madeOut r
         (tables (now (checkpoints .exit)) (now (frames .exit)) (now (store .exit)) (now (parts .exit))
         (now (malformed .exit)) (now (hints .exit)) (now (confirmed .exit)))
-        ≡ turnsIn x
+        ≡ turnsOut x
         (tables (now (checkpoints .entry)) (now (frames .entry)) (now (store .entry)) (now (parts .entry))
         (now (malformed .entry)) (now (hints .entry)) (now (confirmed .entry)))
-        (listsAt area (now (files .entry)) limit asked) ⌝ }
+        asked
+        (listsAt (x .area) (now (files .entry)) limit asked) ⌝ }
 {
+    if !asked.ok {
+        return Made::Refused(asked.number);
+    }
+    let area = x.area;
     let count = asked.count;
     let mut y = x;
     let mut i = 0;
@@ -165,7 +172,7 @@ fn turns(
         );
         i += 1;
     }
-    y
+    Made::Index(y)
 }
 
 // The files, which lie end to end in one buffer, merged into the own list x, all of them or none.
@@ -220,12 +227,7 @@ pub fn merge_all(
         work_hints,
         work_confirmed,
     );
-    if !asked.ok {
-        return Made::Refused(asked.number);
-    }
-    let area = x.area;
-    Made::Index(turns(
-        area,
+    turns(
         x,
         asked,
         files,
@@ -244,5 +246,5 @@ pub fn merge_all(
         work_malformed,
         work_hints,
         work_confirmed,
-    ))
+    )
 }
