@@ -11,14 +11,15 @@ use rules::AreaIndex;
 use rules::AreaKey;
 use rules::End;
 use rules::Fingerprint;
+use rules::HEADER;
 use rules::ImageId;
 use tables::behind;
 ghost use mathlib.Core.Path.{_≡_};
-ghost use Prim.Native.Nat.{_*_, _≤_};
+ghost use Prim.Native.Nat.{_+_, _*_, _≤_};
 ghost use lib.ListN.{length};
 ghost use Rattle.tables.specs.Index.{tables};
 ghost use Rattle.rules_drawer.specs.Drawer.{lengthsIn};
-ghost use Rattle.drawer.specs.Ask.{blank, unasked, refusedBy, sizeOk, FileAsked, Few, FilesAsked, Joinable, joinEach, joinPairs, numbered, SetAsked};
+ghost use Rattle.drawer.specs.Ask.{blank, unasked, refusedBy, sizeOk, FileAsked, Few, FilesAsked, checkpointsAt, Joinable, joinEach, joinPairs, numbered, SetAsked};
 
 // The most files of one set.
 pub const MAX_FILES: usize = 16;
@@ -235,6 +236,14 @@ fn ask_files(
 }
 
 // ---- the pairs
+// The checkpoints of a list, which stand behind the header of its file.
+fn checkpoints_of(files: &[u8], e: Entry) -> &[u8]
+    requires { ⌜ e .from + 80 ≤ length (now files) ⌝ }
+    ensures { λ r. ⌜ now r ≡ checkpointsAt (now (files .entry)) e ⌝ }
+{
+    behind(files, e.from + HEADER)
+}
+
 // The number of the first of the lists from number first on that x cannot be merged with, 0 for none.
 fn join_each(x: AreaIndex, checkpoints: &[u8], asked: Asked, files: &[u8], first: usize) -> u32
     requires { ⌜ (x .checkpoints * 24 ≤ length (now checkpoints)) × Joinable (now files) asked ⌝ }
@@ -244,9 +253,8 @@ fn join_each(x: AreaIndex, checkpoints: &[u8], asked: Asked, files: &[u8], first
     let mut k = first;
     while k < count {
         let e = asked.entries[k];
-        let at = e.from + 80;
         let y = e.index;
-        let number = join_number(x, y, checkpoints, behind(files, at));
+        let number = join_number(x, y, checkpoints, checkpoints_of(files, e));
         if number != 0 {
             return number;
         }
@@ -268,9 +276,8 @@ fn join_pairs(x: AreaIndex, checkpoints: &[u8], asked: Asked, files: &[u8]) -> u
     let mut i = 0;
     while i < count {
         let e = asked.entries[i];
-        let at = e.from + 80;
         let y = e.index;
-        let number = join_each(y, behind(files, at), asked, files, i + 1);
+        let number = join_each(y, checkpoints_of(files, e), asked, files, i + 1);
         if number != 0 {
             return number;
         }

@@ -29,15 +29,8 @@ element-copy-out-e c =
     let start : tie.Start Inv-loop μ-loop = search in
     omega (arith, turn .loop-test .taken, start .pre .1 .few)
 
-add-at : tie.Need-add-at Inv-loop μ-loop
-add-at c =
-    let turn : tie.In-loop Inv-loop μ-loop = search in
-    let start : tie.Start Inv-loop μ-loop = search in
-    let at : tie.At-loop Inv-loop μ-loop = search in
-    omega (arith, start .pre .1 .each (at .loop .k) (turn .loop-test .taken) .0, start .good .1 .1 .1 .0)
-
-behind-requires : tie.Need-behind-requires Inv-loop μ-loop
-behind-requires c κs =
+checkpoints-of-requires : tie.Need-checkpoints-of-requires Inv-loop μ-loop
+checkpoints-of-requires c κs =
     let turn : tie.In-loop Inv-loop μ-loop = search in
     let start : tie.Start Inv-loop μ-loop = search in
     start .pre .1 .each _ (turn .loop-test .taken) .0
@@ -46,17 +39,18 @@ join-number-requires : tie.Need-join-number-requires Inv-loop μ-loop
 join-number-requires c κs =
     let turn : tie.In-loop Inv-loop μ-loop = search in
     let start : tie.Start Inv-loop μ-loop = search in
-    let part : tie.After-behind Inv-loop μ-loop = search in
-    (start .pre .0, rw (part .behind .ensures) (start .pre .1 .each _ (turn .loop-test .taken) .1))
+    let part : tie.After-checkpoints-of Inv-loop μ-loop = search in
+    (start .pre .0, rw (part .checkpoints-of .ensures) (start .pre .1 .each _ (turn .loop-test .taken) .1))
 
 returns : tie.Need-returns Inv-loop μ-loop
 returns c =
     let turn : tie.In-loop Inv-loop μ-loop = search in
     let start : tie.Start Inv-loop μ-loop = search in
-    let part : tie.After-behind Inv-loop μ-loop = search in
+    let part : tie.After-checkpoints-of Inv-loop μ-loop = search in
     let asked : tie.After-join-number Inv-loop μ-loop = search in
     let at : tie.At-loop Inv-loop μ-loop = search in
-    list-stops _ _ (start .pre .1) _ _ (turn .loop-test .taken) (rw (part .behind .ensures) at (asked .join-number .ensures)) (c .if1 .taken) ∙ at .loop .inv
+    list-stops _ _ (start .pre .1) _ _ (turn .loop-test .taken)
+    (rw (part .checkpoints-of .ensures) at (asked .join-number .ensures)) (c .if1 .taken) ∙ at .loop .inv
 
 add-k : tie.Need-add-k Inv-loop μ-loop
 add-k c =
@@ -74,11 +68,12 @@ loop-again : tie.Need-loop-again Inv-loop μ-loop
 loop-again c =
     let turn : tie.In-loop Inv-loop μ-loop = search in
     let start : tie.Start Inv-loop μ-loop = search in
-    let part : tie.After-behind Inv-loop μ-loop = search in
+    let part : tie.After-checkpoints-of Inv-loop μ-loop = search in
     let asked : tie.After-join-number Inv-loop μ-loop = search in
     let at : tie.At-loop Inv-loop μ-loop = search in
     let test : tie.Else1 Inv-loop μ-loop = search in
-    list-on _ _ (start .pre .1) _ _ (turn .loop-test .taken) (rw (part .behind .ensures) at (asked .join-number .ensures)) (test .if1 .left) ∙ at .loop .inv
+    list-on _ _ (start .pre .1) _ _ (turn .loop-test .taken)
+    (rw (part .checkpoints-of .ensures) at (asked .join-number .ensures)) (test .if1 .left) ∙ at .loop .inv
 
 returns-2 : tie.Need-returns-2 Inv-loop μ-loop
 returns-2 c =
@@ -96,8 +91,7 @@ join-each-spec =
     loop-holds
     mul-e
     element-copy-out-e
-    add-at
-    behind-requires
+    checkpoints-of-requires
     join-number-requires
     returns
     add-k

@@ -8,7 +8,8 @@ use Rattle.drawer.proofs.ask.join_pairs.Statement.{statement}
 use Rattle.drawer.proofs.ask.join_pairs.Tie as tie
 
 abbrev Inv-loop : tie.InvT-loop
-Inv-loop checkpoints files asked number count i₀ i = joinLists (drop i (entriesIn asked)) files ≡ joinLists (entriesIn asked) files
+Inv-loop checkpoints files asked number count i₀ i =
+    joinLists (drop i (entriesIn asked)) files ≡ joinLists (entriesIn asked) files
 
 abbrev μ-loop : tie.MeasureT-loop
 μ-loop checkpoints files asked number count i₀ i = count - i
@@ -26,7 +27,11 @@ join-each-requires : tie.Need-join-each-requires Inv-loop μ-loop
 join-each-requires c κs = let start : tie.Start Inv-loop μ-loop = search in start .pre
 
 returns : tie.Need-returns Inv-loop μ-loop
-returns c = let own : tie.After-join-each Inv-loop μ-loop = search in let start : tie.Start Inv-loop μ-loop = search in own-stops (start .args .x) (start .args .checkpoints .now) (start .args .files .now) (start .args .t3) (own .join-each .ensures) (c .if1 .taken)
+returns c =
+    let own : tie.After-join-each Inv-loop μ-loop = search in
+    let start : tie.Start Inv-loop μ-loop = search in
+    own-stops (start .args .x) (start .args .checkpoints .now) (start .args .files .now) (start .args .t3)
+    (own .join-each .ensures) (c .if1 .taken)
 
 loop-holds : tie.Need-loop-holds Inv-loop μ-loop
 loop-holds c = refl
@@ -45,15 +50,8 @@ element-copy-out-e c =
     let start = begin at in
     omega (arith, turn .loop-test .taken, start .pre .1 .few)
 
-add-at : tie.Need-add-at Inv-loop μ-loop
-add-at c =
-    let at : tie.At-loop Inv-loop μ-loop = search in
-    let turn : tie.In-loop Inv-loop μ-loop = search in
-    let start = begin at in
-    omega (arith, start .pre .1 .each (at .loop .i) (turn .loop-test .taken) .0, start .good .1 .1 .1 .0)
-
-behind-requires : tie.Need-behind-requires Inv-loop μ-loop
-behind-requires c κs =
+checkpoints-of-requires : tie.Need-checkpoints-of-requires Inv-loop μ-loop
+checkpoints-of-requires c κs =
     let at : tie.At-loop Inv-loop μ-loop = search in
     let turn : tie.In-loop Inv-loop μ-loop = search in
     let start = begin at in
@@ -71,18 +69,21 @@ join-each-requires-2 c κs =
     let at : tie.At-loop Inv-loop μ-loop = search in
     let turn : tie.In-loop Inv-loop μ-loop = search in
     let start = begin at in
-    let part : tie.After-behind Inv-loop μ-loop = search in
-    (rw (part .behind .ensures) (start .pre .1 .each _ (turn .loop-test .taken) .1), start .pre .1)
+    let part : tie.After-checkpoints-of Inv-loop μ-loop = search in
+    (rw (part .checkpoints-of .ensures) (start .pre .1 .each _ (turn .loop-test .taken) .1), start .pre .1)
 
 returns-2 : tie.Need-returns-2 Inv-loop μ-loop
 returns-2 c =
     let at : tie.At-loop Inv-loop μ-loop = search in
     let turn : tie.In-loop Inv-loop μ-loop = search in
     let start = begin at in
-    let part : tie.After-behind Inv-loop μ-loop = search in
+    let part : tie.After-checkpoints-of Inv-loop μ-loop = search in
     let each : tie.After-join-each2 Inv-loop μ-loop = search in
     let own = none-own at in
-    pairs-stop _ _ (start .pre .1) (turn .loop-test .taken) (rw (part .behind .ensures) at (each .join-each2 .ensures)) (c .if2 .taken) ∙ at .loop .inv ∙ own-on (start .args .x) (start .args .checkpoints .now) (start .args .files .now) (start .args .t3) (own-asked own .join-each .ensures) (own .if1 .left)
+    pairs-stop _ _ (start .pre .1) (turn .loop-test .taken)
+    (rw (part .checkpoints-of .ensures) at (each .join-each2 .ensures)) (c .if2 .taken) ∙ at .loop .inv
+    ∙ own-on (start .args .x) (start .args .checkpoints .now) (start .args .files .now) (start .args .t3)
+    (own-asked own .join-each .ensures) (own .if1 .left)
 
 add-i : tie.Need-add-i Inv-loop μ-loop
 add-i c =
@@ -101,11 +102,12 @@ loop-again c =
     let at : tie.At-loop Inv-loop μ-loop = search in
     let turn : tie.In-loop Inv-loop μ-loop = search in
     let start = begin at in
-    let part : tie.After-behind Inv-loop μ-loop = search in
+    let part : tie.After-checkpoints-of Inv-loop μ-loop = search in
     let each : tie.After-join-each2 Inv-loop μ-loop = search in
     let own = none-own at in
     let test : tie.Else2 Inv-loop μ-loop = search in
-    pairs-on _ _ (start .pre .1) (turn .loop-test .taken) (rw (part .behind .ensures) at (each .join-each2 .ensures)) (test .if2 .left) ∙ at .loop .inv
+    pairs-on _ _ (start .pre .1) (turn .loop-test .taken)
+    (rw (part .checkpoints-of .ensures) at (each .join-each2 .ensures)) (test .if2 .left) ∙ at .loop .inv
 
 returns-3 : tie.Need-returns-3 Inv-loop μ-loop
 returns-3 c =
@@ -113,7 +115,9 @@ returns-3 c =
     let left : tie.After-loop Inv-loop μ-loop = search in
     let start = begin at in
     let own = none-own at in
-    pairs-end _ _ (start .pre .1) (left .loop-test .left) ∙ at .loop .inv ∙ own-on (start .args .x) (start .args .checkpoints .now) (start .args .files .now) (start .args .t3) (own-asked own .join-each .ensures) (own .if1 .left)
+    pairs-end _ _ (start .pre .1) (left .loop-test .left) ∙ at .loop .inv
+    ∙ own-on (start .args .x) (start .args .checkpoints .now) (start .args .files .now) (start .args .t3)
+    (own-asked own .join-each .ensures) (own .if1 .left)
 
 pub join-pairs-spec : {M : Type 1} → statement M
 join-pairs-spec =
@@ -126,8 +130,7 @@ join-pairs-spec =
     loop-holds
     mul-e
     element-copy-out-e
-    add-at
-    behind-requires
+    checkpoints-of-requires
     add-join-each
     join-each-requires-2
     returns-2
