@@ -113,8 +113,7 @@ put-list-requires : tie.Need-put-list-requires
 put-list-requires c κs =
     let table : tie.After-write-one = search in
     let long : tie.Else2 = search in
-    let fits = asked-at long in
-    (
+    let fits = asked-at long in (
       start-at fits .pre,
       own-length fits,
       omega (arith, enough long, table .write-one .ensures .ends, table .write-one .kept .0),

@@ -144,8 +144,7 @@ put-list-requires : tie.Need-put-list-requires
 put-list-requires c κs =
     let table : tie.After-write-table = search in
     let long : tie.Else2 = search in
-    let fit = asked-at long in
-    (
+    let fit = asked-at long in (
       start-at fit .pre .0,
       own-length fit,
       omega (arith, enough long, table .write-table .ensures .ends, table .write-table .kept .0),
@@ -158,8 +157,7 @@ put-list-requires-2 c κs =
     let long : tie.Else2 = search in
     let fit = asked-at long in
     let first = list .put-list in
-    let ends = table .write-table in
-    (
+    let ends = table .write-table in (
       start-at fit .pre .1,
       other-length fit,
       omega (arith, enough long, ends .ensures .ends, ends .kept .0, first .ensures .ends, first .kept .0),
