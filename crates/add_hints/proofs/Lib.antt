@@ -1,3 +1,4 @@
 pub mod Arriving
 pub mod Added
+pub mod MergeLoop
 pub mod Packing
