@@ -8,7 +8,7 @@ use Rattle.rules.specs.declared.Confirmation.{Confirmation}
 use Rattle.rules.specs.Values.{noConfirmation}
 use Rattle.rules.specs.Sections.{confirmedLsn}
 use Rattle.rules.specs.Hints.{heldConfirmation, keepsNothing}
-use Rattle.adds.specs.Keys.{fromKey}
+use Rattle.merge.specs.Keys.{fromKey}
 use Rattle.adds.specs.Adds.{sameConfirmation}
 
 -- is each of ds held in cs, which stays as it is?

@@ -1,8 +1,8 @@
 // What another list's hints and confirmations would change, decided over lent tables that are only read.
-use crate::keys::skip;
 use add_hints::choice::read_arriving;
 use field::and;
 use field::or;
+use merge::keys::skip;
 use rules::Confirmation;
 use rules::Hint;
 use rules::MAX_U32;

@@ -1,6 +1,5 @@
 // What a merge of two lists would bring, from their tables, which are only read.
 pub mod compare;
-pub mod keys;
 
 use crate::compare::changes_confirmed;
 use crate::compare::changes_hints;
@@ -10,6 +9,7 @@ use index::is_checked;
 use index::is_complete;
 use index::is_stated;
 use merge::goes_further::further;
+use merge::numbers::has_id;
 use merge::questions::merge_refuses;
 use merge::questions::taken;
 use parts::Counts;
@@ -31,7 +31,7 @@ ghost use mathlib.Core.Bool.{_&&_, not};
 ghost use Prim.Native.Nat.{_+_, _*_, _≤_};
 ghost use lib.Dec.{eqb, ltb};
 ghost use lib.ListN.{length, take, drop};
-ghost use Rattle.rules.specs.Tests.{isSome, orElse};
+ghost use Rattle.rules.specs.Tests.{orElse};
 ghost use Rattle.rules.specs.PartRule.{stores};
 ghost use Rattle.rules.specs.Merge.{mergedFingerprint};
 ghost use Rattle.tables.specs.Tables.{lsnsIn, framesIn, partsIn};
@@ -48,15 +48,6 @@ fn fills_fingerprint(a: Fingerprint, b: Fingerprint) -> bool
     ensures { λ r. ⌜ r ≡ not (sameFingerprint a (mergedFingerprint a b)) ⌝ }
 {
     and(!is_stated(a), is_stated(b))
-}
-
-pub fn has_id(a: ImageId) -> bool
-    ensures { λ r. ⌜ r ≡ isSome (idIn a) ⌝ }
-{
-    match a {
-        ImageId::Anonymous => false,
-        ImageId::Id(_) => true,
-    }
 }
 
 // Would b fill in an image id?

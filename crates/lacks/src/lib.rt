@@ -1,10 +1,10 @@
 // What another list holds and the own one does not, decided over lent tables that are only read.
-use adds::has_id;
-use adds::keys::skip;
 use field::and;
 use field::read_u32;
 use index::is_complete;
 use index::is_stated;
+use merge::keys::skip;
+use merge::numbers::has_id;
 use merge::questions::merge_refuses;
 use parts::Source;
 use parts::admits::alike;

@@ -1,3 +1,4 @@
+pub mod Keys
 pub mod Merge
 pub mod Numbers
 pub mod Steps

@@ -1,6 +1,7 @@
 // merge: two lists joined in their tables, and questions 41 to 43.
 pub mod common;
 pub mod goes_further;
+pub mod keys;
 pub mod numbers;
 pub mod questions;
 pub mod take;

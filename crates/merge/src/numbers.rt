@@ -7,7 +7,7 @@ use rules::ImageId;
 ghost use mathlib.Core.Path.{_≡_};
 ghost use mathlib.Core.Bool.{cond};
 ghost use Prim.Native.Nat.{_-_};
-ghost use Rattle.rules.specs.Tests.{orElse};
+ghost use Rattle.rules.specs.Tests.{isSome, orElse};
 ghost use Rattle.rules.specs.Merge.{mergedFingerprint};
 ghost use Rattle.rules.specs.declared.Fingerprint.the-variants.{Unknown};
 ghost use Rattle.tables.specs.Index.{idIn, idFrom};
@@ -25,6 +25,15 @@ pub fn past(m: u32, i: u32) -> u32
     ensures { λ r. ⌜ r ≡ m - i ⌝ }
 {
     if m < i { 0 } else { m - i }
+}
+
+pub fn has_id(a: ImageId) -> bool
+    ensures { λ r. ⌜ r ≡ isSome (idIn a) ⌝ }
+{
+    match a {
+        ImageId::Anonymous => false,
+        ImageId::Id(_) => true,
+    }
 }
 
 // The own image id, or the other's where there is none.

@@ -19,10 +19,10 @@ use Rattle.laws.proofs.hint_lists.Rising.{rises-from, rises-all, rising→}
 use Rattle.laws.proofs.hint_lists.Merging.{nil-with, with-nil, with-left, with-right, with-both, with-cases, with-least}
 use Rattle.laws.proofs.hint_lists.Confirmations.{met-lsn, keepAll-none}
 use Rattle.laws.proofs.hint_lists.Keeping.{last-few, last-past, keepAll-merged}
-use Rattle.adds.specs.Keys.{fromKey}
+use Rattle.merge.specs.Keys.{fromKey}
 use Rattle.adds.specs.Adds.{sameList, sameConfirmation}
 use Rattle.adds.specs.Confirmed.{absorbed, arriving, confirmedChange}
-use Rattle.adds.proofs.keys.Laws.{from-rises}
+use Rattle.merge.proofs.keys.Laws.{from-rises}
 use Rattle.adds.proofs.compare.Same.{differ, sameList-self, sameList-eq, sameConfirmation-self, sameConfirmation-eq}
 
 abbrev merged : List Confirmation → List Confirmation → List Confirmation

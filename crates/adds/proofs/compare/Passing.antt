@@ -25,7 +25,7 @@ use Rattle.rules_lacks.specs.Lacks.{equalHint}
 use Rattle.rules_lacks.proofs.Laws.{equalHint-self}
 use Rattle.adds.specs.declared.compare.Turn.{Turn}
 use Rattle.adds.specs.declared.compare.Weighed.{Weighed}
-use Rattle.adds.specs.Keys.{fromKey}
+use Rattle.merge.specs.Keys.{fromKey}
 use Rattle.adds.specs.Adds.{sameConfirmation}
 use Rattle.adds.specs.Marks.{mark, markBoth, marked, marksOf, lsnFrom, unweighed, weighOne, weighed, changedBy}
 use Rattle.adds.specs.Confirmed.{absorbed, unmovedBy, arriving, confirmedChange}

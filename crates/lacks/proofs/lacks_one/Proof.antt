@@ -1,6 +1,6 @@
 use Rattle.lacks.proofs.Passing.{first-none, first-is}
 use Rattle.lacks.specs.Sections.{widthOf, decodeItem, standsFor}
-use Rattle.adds.proofs.keys.Laws.{row-fits}
+use Rattle.merge.proofs.keys.Laws.{row-fits}
 use mathlib.Core.Path.{refl}
 use borrow.Author.Needs.{needs}
 use Rattle.lacks.proofs.lacks_one.Statement.{statement}

@@ -1,5 +1,5 @@
 use Rattle.adds.proofs.compare.Passing.{Absorbing, absorb-end, absorb-short, absorb-moved, absorb-on}
-use Rattle.adds.proofs.keys.Laws.{read-turn}
+use Rattle.merge.proofs.keys.Laws.{read-turn}
 use Rattle.adds.specs.Confirmed.{absorbed}
 use Rattle.tables.proofs.Walk.{records-turn}
 use Rattle.tables.specs.Tables.{confirmationsIn}

@@ -1,6 +1,6 @@
 use Rattle.adds.proofs.compare.Passing.{arriving-all, arriving-low}
-use Rattle.adds.proofs.keys.Laws.{read-turn, skipped}
-use Rattle.adds.specs.Keys.{keyOf}
+use Rattle.merge.proofs.keys.Laws.{read-turn, skipped}
+use Rattle.merge.specs.Keys.{keyOf}
 use Rattle.rules.specs.File.{decodeConfirmation}
 use Rattle.rules.specs.Sections.{confirmedLsn}
 use Rattle.field.proofs.Records.{records-length}

@@ -1,5 +1,5 @@
 use Rattle.adds.proofs.compare.Passing.{unkept-at, other-inside, own-inside, both-inside, turn-new, turn-held, turn-both}
-use Rattle.adds.proofs.keys.Laws.{read-turn}
+use Rattle.merge.proofs.keys.Laws.{read-turn}
 use Rattle.tables.specs.Tables.{decodeKept, decodeUnkept}
 use native.Mathlib.Omega.{arith}
 use borrow.Author.Needs.{needs}

@@ -1,8 +1,8 @@
 use Rattle.tables.specs.Index.{idIn}
 use Rattle.rules.specs.Tests.{isSome}
 use borrow.Author.Needs.{needs}
-use Rattle.adds.proofs.has_id.Statement.{statement}
-use Rattle.adds.proofs.has_id.Tie as tie
+use Rattle.merge.proofs.numbers.has_id.Statement.{statement}
+use Rattle.merge.proofs.numbers.has_id.Tie as tie
 
 returns : tie.Need-returns
 unfolding isSome idIn

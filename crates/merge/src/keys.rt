@@ -3,7 +3,7 @@ use field::read_u32;
 ghost use mathlib.Core.Path.{_≡_};
 ghost use Prim.Native.Nat.{_+_, _*_, _≤_};
 ghost use lib.ListN.{length, drop};
-ghost use Rattle.adds.specs.Keys.{keysIn, below};
+ghost use Rattle.merge.specs.Keys.{keysIn, below};
 
 // The first of n records of w bytes, from number i on, whose key is low or more; n where there is none.
 pub fn skip(t: &[u8], w: usize, n: usize, i: usize, low: u32) -> usize

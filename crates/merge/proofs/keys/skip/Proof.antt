@@ -1,12 +1,12 @@
-use Rattle.adds.proofs.keys.Laws.{Skipping, read-turn, row-fits, key-at, skip-end, skip-stop, skip-on}
-use Rattle.adds.specs.Keys.{keyOf, keysIn}
+use Rattle.merge.proofs.keys.Laws.{Skipping, read-turn, row-fits, key-at, skip-end, skip-stop, skip-on}
+use Rattle.merge.specs.Keys.{keyOf, keysIn}
 use Rattle.field.proofs.Records.{records-length}
 use native.Mathlib.Omega.{arith}
 use mathlib.Core.Path.{refl}
 use Prim.Native.Nat.{_-_}
 use borrow.Author.Needs.{needs}
-use Rattle.adds.proofs.keys.skip.Statement.{statement}
-use Rattle.adds.proofs.keys.skip.Tie as tie
+use Rattle.merge.proofs.keys.skip.Statement.{statement}
+use Rattle.merge.proofs.keys.skip.Tie as tie
 
 abbrev Inv-loop : tie.InvT-loop
 Inv-loop t w n i low k₀ k = Skipping low (keysIn w n t) n i k

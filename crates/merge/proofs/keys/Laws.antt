@@ -15,7 +15,7 @@ use Rattle.field.proofs.Records.{records-length, drop-records, stretch-fits}
 use Rattle.rules.proofs.Tests.{test}
 use Rattle.laws.specs.Order.{Rises}
 use Rattle.tables.proofs.Walk.{records-turn}
-use Rattle.adds.specs.Keys.{keyOf, keysIn, below, fromKey}
+use Rattle.merge.specs.Keys.{keyOf, keysIn, below, fromKey}
 
 -- a record that was read is the next of its list
 pub read-turn : {A : Type 0} {x : A} (w : ℕ) (d : List ℕ → A) (n : ℕ) (t : List ℕ) (i : ℕ) → i < n
