@@ -62,6 +62,11 @@ module _ (budget n f h : ℕ) (o : PartTables) (own : Stored) where
     pub order : InOrder (at .frame) others (drop j parts)
     pub rest : someStored budget others n (drop j parts) own ≡ r
 
+  -- part number j, whose frame lies at at, is asked for, and the answer is b
+  pub record PartAsked (r : Bool) (j : ℕ) (at : Source) (b : Bool) : Type 0 where
+    pub found : b ≡ true → true ≡ r
+    pub on : b ≡ false → Seeking r (j + 1) at
+
   pub seek-start : Lent f h o → Seeking (someStored budget others n parts own) 0 (record { frame = 0; offset = 0 })
   unfolding used framesOf
   seek-start l = record { within = omega arith; source = refl; near = omega arith; order = l .order; rest = refl }
@@ -109,17 +114,16 @@ module _ (budget n f h : ℕ) (o : PartTables) (own : Stored) where
             unfolding someStored
             next = rw (asked, piece-is) (rw turn at (k .rest))
 
-            pub seek-found : b ≡ true → true ≡ r
-            seek-found e = rw e at next
-
-            pub seek-on : b ≡ false → Seeking r (j + 1) at'
-            seek-on e =
+            pub seek-turn : PartAsked r j at' b
+            seek-turn =
                 let m = part-inside in
                 record {
-                  within = omega arith;
-                  source = rw (there .0) (there .1);
-                  near = omega arith;
-                  order = rw
-                      (there .0) (in-order .4);
-                  rest = rw e at next;
+                  found = λ e. rw e at next;
+                  on = λ e. record {
+                    within = omega arith;
+                    source = rw (there .0) (there .1);
+                    near = omega arith;
+                    order = rw (there .0) (in-order .4);
+                    rest = rw e at next;
+                  };
                 }

@@ -1,4 +1,4 @@
-use Rattle.adds.proofs.Seeking.{Seeking, seek-start, seek-end, source-ready, part-inside, seek-found, seek-on}
+use Rattle.adds.proofs.Seeking.{Seeking, PartAsked, seek-start, seek-end, source-ready, part-inside, seek-turn}
 use Rattle.adds.specs.Steps.{someStored}
 use Rattle.parts.specs.Parts.{partTables, storedIn}
 use Rattle.tables.specs.Tables.{framesIn, partsIn}
@@ -59,19 +59,30 @@ stores-one-requires c κs =
           (after-source-at .source-at .ensures),
     )
 
-returns : tie.Need-returns Inv-loop μ-loop
-returns c =
-    let after-stores-one : tie.After-stores-one Inv-loop μ-loop = search in
+abbrev loop-of : tie.After-stores-one Inv-loop μ-loop → tie.At-loop Inv-loop μ-loop
+loop-of p = search
+
+abbrev source-of : tie.After-stores-one Inv-loop μ-loop → tie.After-source-at Inv-loop μ-loop
+source-of p = search
+
+-- the part of this turn
+turn : (p : tie.After-stores-one Inv-loop μ-loop)
+    → let a = begin (loop-of p) .args in
+    let own = storedIn (a .c .frames) (a .c .parts) (partTables (a .frames .now) (a .store .now) (a .parts .now)) in
+    PartAsked (a .budget) (a .n) (a .f) (a .h) (partTables (a .headers .now) (a .other .now) (a .theirs .now)) own
+    (someStored (a .budget) (framesIn (a .f) (a .headers .now) (a .other .now)) (a .n)
+    (partsIn (a .h) (a .theirs .now)) own)
+    (loop-of p .loop .j) (source-of p .source-at .result) (p .stores-one .result)
+turn p =
     let after-read-header : tie.After-read-header Inv-loop μ-loop = search in
-    let after-source-at : tie.After-source-at Inv-loop μ-loop = search in
     let after-read-held : tie.After-read-held Inv-loop μ-loop = search in
     let in-loop : tie.In-loop Inv-loop μ-loop = search in
-    let at-loop : tie.At-loop Inv-loop μ-loop = search in
-    let start = begin at-loop in
-    seek-found _ _ _ _ _ _ (start .pre .0) (at-loop .loop .inv) (in-loop .loop-test .taken)
-    (after-read-held .read-held .ensures)
-    (after-source-at .source-at .ensures) (after-read-header .read-header .ensures)
-    (after-stores-one .stores-one .ensures) (c .if1 .taken)
+    seek-turn _ _ _ _ _ _ (begin (loop-of p) .pre .0) (loop-of p .loop .inv) (in-loop .loop-test .taken)
+    (after-read-held .read-held .ensures) (source-of p .source-at .ensures)
+    (after-read-header .read-header .ensures) (p .stores-one .ensures)
+
+returns : tie.Need-returns Inv-loop μ-loop
+returns c = turn (c .before) .found (c .if1 .taken)
 
 add-j : tie.Need-add-j Inv-loop μ-loop
 add-j c =
@@ -81,18 +92,7 @@ add-j c =
     let a = in-loop .loop-test .taken in let b = start .fits .h .fits in omega arith
 
 loop-again : tie.Need-loop-again Inv-loop μ-loop
-loop-again c =
-    let after-stores-one : tie.After-stores-one Inv-loop μ-loop = search in
-    let after-read-header : tie.After-read-header Inv-loop μ-loop = search in
-    let after-source-at : tie.After-source-at Inv-loop μ-loop = search in
-    let after-read-held : tie.After-read-held Inv-loop μ-loop = search in
-    let in-loop : tie.In-loop Inv-loop μ-loop = search in
-    let at-loop : tie.At-loop Inv-loop μ-loop = search in
-    let start = begin at-loop in
-    seek-on _ _ _ _ _ _ (start .pre .0) (at-loop .loop .inv) (in-loop .loop-test .taken)
-    (after-read-held .read-held .ensures)
-    (after-source-at .source-at .ensures) (after-read-header .read-header .ensures)
-    (after-stores-one .stores-one .ensures) (c .if1 .left)
+loop-again c = turn (c .before) .on (c .if1 .left)
 
 returns-2 : tie.Need-returns-2 Inv-loop μ-loop
 returns-2 c =
