@@ -1,4 +1,5 @@
--- Two lists of hints together, each hint marked as held, new, or one whose number is replaced, and what thinning to the held ones' number would drop.
+-- Two lists of hints together, each hint marked as held, new, or one whose number is replaced,
+-- and what thinning to the held ones' number would drop.
 use Prim.Native.Nat.{ℕ, _+_, _-_, _/_}
 use mathlib.Core.Bool.{Bool, true, false, _&&_, _||_, not, cond}
 use mathlib.Core.List.{List, [], _∷_}

@@ -27,7 +27,8 @@ pub struct Pair {
     pub place: u64,
 }
 
-// Of the hints passed so far: how many, the last one's number, the largest pair of a new one, the smallest of a held one, and whether a held number is replaced.
+// Of the hints passed so far: how many, the last one's number, the largest pair of a new one, the smallest of a
+// held one, and whether a held number is replaced.
 pub struct Weighed {
     pub place: u64,
     pub before: u32,
@@ -36,8 +37,8 @@ pub struct Weighed {
     pub replaced: bool,
 }
 
-// The next hint of two lists: whether it is new, which brings no mark, whether the other list has another number at its LSN, the hint, and how many of each list
-// are passed then.
+// The next hint of two lists: whether it is new, which brings no mark, whether the other list has another number at its
+// LSN, the hint, and how many of each list are passed then.
 pub struct Turn {
     pub new: bool,
     pub replaced: bool,

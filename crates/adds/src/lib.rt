@@ -68,7 +68,7 @@ fn same_lsns(a: &[u8], n: u32, b: &[u8], m: u32) -> bool
 }
 
 // ---- held parts
-// Would part p of another list, whose frame starts at start and has its bytes in other from the place from on, be stored?
+// Would part p of another list, whose frame starts at start and has its bytes in other from from on, be stored?
 fn stores_one(
     budget: u64,
     n: u32,

@@ -23,7 +23,8 @@ use Rattle.merge.specs.Keys.{fromKey}
 use Rattle.adds.specs.Adds.{sameList, sameConfirmation}
 use Rattle.adds.specs.Confirmed.{absorbed, arriving, confirmedChange}
 use Rattle.merge.proofs.keys.Laws.{from-rises}
-use Rattle.adds.proofs.compare.Same.{differ, sameList-self, sameList-eq, sameConfirmation-self, sameConfirmation-eq}
+use Rattle.adds.proofs.compare.Same.{differ, sameList-self, sameList-eq}
+use Rattle.adds.proofs.compare.Same.{sameConfirmation-self, sameConfirmation-eq}
 
 abbrev merged : List Confirmation → List Confirmation → List Confirmation
 merged cs ds = mergedWith confirmedLsn heldConfirmation cs ds

@@ -28,7 +28,8 @@ use Rattle.adds.specs.Adds.{sameList}
 use Rattle.adds.specs.Marks.{marked, lower, unweighed, weighed, changedBy}
 use Rattle.adds.proofs.compare.Same.{differ, sameList-self, sameList-eq}
 use Rattle.adds.proofs.compare.Counts.{count-full}
-use Rattle.adds.proofs.compare.Marks.{hintsOf, newAt, someReplaced, hints-length, hints-at, marked-hints, kept-all-held, new-unkept}
+use Rattle.adds.proofs.compare.Marks.{hintsOf, newAt, someReplaced, hints-length, hints-at}
+use Rattle.adds.proofs.compare.Marks.{marked-hints, kept-all-held, new-unkept}
 use Rattle.adds.proofs.compare.Weighing.{Numbered, NewUnkept, weighed-replaced, weighed-all, leaves, changes}
 use Rattle.adds.proofs.compare.Replaced.{replaced-changes}
 

@@ -1,4 +1,4 @@
--- The marked list: its held ones are the held list, and where no number is replaced its hints are the merged list's. Assumes nothing.
+-- The marked list: its held ones are the held list, and with none replaced all are the merged list. Assumes nothing.
 use mathlib.Core.Path.{_≡_, refl, sym, ap, _∙_}
 use mathlib.Core.Bool.{Bool, true, false, _||_, not, cond}
 use mathlib.Core.List.{List, [], _∷_, _++_, append-nil}

@@ -1,4 +1,4 @@
--- A held number that is replaced: the held list changes, whether thinning then keeps the hint or drops it. Assumes nothing.
+-- A held number that is replaced: the held list changes, whether thinning keeps the hint or drops it. Assumes nothing.
 use mathlib.Core.Path.{_≡_, refl, subst}
 use mathlib.Core.Bool.{true, false, _||_, not}
 use mathlib.Core.Logic.{⊎-elim}
@@ -21,7 +21,8 @@ use Rattle.laws.proofs.hint_lists.Adding.{insertAll-rising}
 use Rattle.laws.proofs.hint_lists.Hints.{limitedTo-keeps}
 use Rattle.laws.proofs.hint_lists.Thinning.{thin-sub}
 use Rattle.adds.specs.Marks.{marked, marksOf}
-use Rattle.adds.proofs.compare.Marks.{nil-marked, marked-nil, marked-left, marked-right, marked-both, someReplaced}
+use Rattle.adds.proofs.compare.Marks.{nil-marked, marked-nil, marked-left, marked-right, marked-both}
+use Rattle.adds.proofs.compare.Marks.{someReplaced}
 
 abbrev merged : List Hint → List Hint → List Hint
 merged xs ys = mergedWith hintLsn arrivedHint xs ys

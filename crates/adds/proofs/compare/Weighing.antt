@@ -321,7 +321,8 @@ module _ (ms : List Marked) (small : Numbered ms) where
 
     held-high : (k : ℕ) → k < length ms → newAt ms k ≡ false → fresh ≤ rank us k
     unfolding rank fresh
-    held-high k l e = rw (hints-length ms) (count-under (newAt ms) (smaller us k) (length ms) (λ i m f. sep i k m l f e))
+    held-high k l e =
+        rw (hints-length ms) (count-under (newAt ms) (smaller us k) (length ms) (λ i m f. sep i k m l f e))
 
     apart : (i : ℕ) → i < length ms → leb fresh (rank us i) ≡ stays i
     apart i l =
