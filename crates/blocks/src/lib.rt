@@ -1,4 +1,5 @@
 // A head: the numbers of an index, a recorder or a hint recorder in one lent block of 192 bytes, 24 words of eight bytes each.
+pub mod calls;
 pub mod read;
 
 use field::read_u64;

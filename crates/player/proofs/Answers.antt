@@ -25,9 +25,10 @@ use Rattle.rules.specs.declared.Saved.{Saved}
 use Rattle.rules.specs.declared.FileArea.{FileArea}
 use Rattle.rules.specs.declared.Sized.{Sized}
 use Rattle.sizes.specs.Sizes.{sizedOf, newSizes, fileSizes, fileAreaOf, fileArea, fileLength}
-use Rattle.player.specs.Block.{called, into, headIndex, planWords, firstWords, sizeWords, areaWords, bringsWords, savedNumber}
+use Rattle.blocks.specs.Calls.{called, into, headIndex, savedNumber}
+use Rattle.player.specs.Block.{planWords, firstWords, sizeWords, areaWords, bringsWords}
 use Rattle.player.specs.Player.{calledOver, firstCall, sizesCall, fileAreaCall, fileSizesCall, newCall, loadCall, fingerprintCall, planCall, lengthCall, saveCall, mergeCall, addsCall, addHintsCall}
-use Rattle.player.proofs.block.Blocks.{long-enough, is-head}
+use Rattle.blocks.proofs.calls.Blocks.{long-enough, is-head}
 
 -- ---- the block is the answer's
 module _ (b b' : List ℕ) (n : ℕ) (l : 192 ≤ length b) where

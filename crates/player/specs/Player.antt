@@ -19,7 +19,9 @@ use Rattle.adds.specs.Adds.{addsIn}
 use Rattle.add_hints.specs.AddHints.{addHintsIn}
 use Rattle.save.specs.Save.{saveIn}
 use Rattle.sizes.specs.Sizes.{newSizes, fileSizes, fileArea, fileLength}
-use Rattle.player.specs.Block.{Called, called, into, inBlock, inHead, inWorkshop, headIndex, planWords, firstWords, sizeWords, areaWords, bringsWords, savedInto, oneWord}
+use Rattle.blocks.specs.Calls.{Called, called, into, inBlock, inHead, headIndex, savedInto, oneWord}
+use Rattle.rules_view.specs.Roles.{inWorkshop}
+use Rattle.player.specs.Block.{planWords, firstWords, sizeWords, areaWords, bringsWords}
 use Rattle.coarsen.specs.Coarsen.{coarseIn}
 use Rattle.drawer.specs.Drawer.{mergeAllIn}
 use Rattle.lacks.specs.Lacks.{lacksIn}
@@ -76,7 +78,9 @@ lengthCall head t = inHead (isIndex head) 3 (fileLength (headIndex head) t)
 
 -- with the output as block
 unfoldable pub saveCall : List ℕ → Tables → List ℕ → Called
-saveCall head t out = inHead (isIndex head) (called 3 out) (savedInto (saveIn (headIndex head) t out))
+saveCall head t out =
+    let o = saveIn (headIndex head) t out in
+    inHead (isIndex head) (called 3 out) (savedInto (o .answer) (o .out))
 
 -- ---- two lists
 unfoldable pub mergeCall : List ℕ → List ℕ → Tables → Tables → CalledOver

@@ -1,26 +1,18 @@
 // Answers of calls as a number and a block: 0 and words over the start of the block, or the refusal number and the block as it was.
+use blocks::calls::bit_word;
 use blocks::first_told;
 use blocks::index_words;
-use blocks::read::hint_recorder_from;
-use blocks::read::index_from;
-use blocks::read::recorder_from;
-use blocks::read_words;
 use blocks::write_words;
 use rules::Added;
 use rules::Area;
-use rules::AreaIndex;
-use rules::AreaKey;
 use rules::Assembly;
 use rules::Brings;
 use rules::FileArea;
 use rules::First;
-use rules::HintRecorder;
 use rules::Made;
 use rules::Plan;
 use rules::Planned;
-use rules::Recorder;
 use rules::Resume;
-use rules::Saved;
 use rules::Sized;
 use rules::TableSizes;
 use rules_jump::plan_rule;
@@ -30,59 +22,15 @@ use tables::part_records::unsigned;
 ghost use mathlib.Core.Path.{_≡_};
 ghost use Prim.Native.Nat.{_≤_};
 ghost use lib.ListN.{length};
-ghost use Rattle.rules.specs.File.{bit};
 ghost use Rattle.rules.specs.Tests.{Accepted};
 ghost use Rattle.blocks.specs.Blocks.{indexWords};
 ghost use Rattle.index.specs.Index.{madeOf};
 ghost use Rattle.plan.specs.Plan.{plannedOf};
 ghost use Rattle.adds.specs.Adds.{addsOf};
 ghost use Rattle.sizes.specs.Sizes.{sizedOf, fileAreaOf};
-ghost use Rattle.player.specs.Block.{called, into, planArray, ruleWord, headIndex, headRecorder, headHintRecorder, givenArea, assemblyWords, planWords, firstWords, sizeWords, areaWords, bringsWords, oneWord, savedNumber};
+ghost use Rattle.blocks.specs.Calls.{called, into};
+ghost use Rattle.player.specs.Block.{planArray, ruleWord, assemblyWords, planWords, firstWords, sizeWords, areaWords, bringsWords};
 ghost use Rattle.player.specs.Steps.{resumeWords};
-
-// ---- from blocks
-pub fn index_in(head: &[u8]) -> AreaIndex
-    requires { ⌜ 192 ≤ length (now head) ⌝ }
-    ensures { λ r. ⌜ r ≡ headIndex (now (head .entry)) ⌝ }
-{
-    index_from(read_words(head))
-}
-
-pub fn recorder_in(head: &[u8]) -> Recorder
-    requires { ⌜ 192 ≤ length (now head) ⌝ }
-    ensures { λ r. ⌜ r ≡ headRecorder (now (head .entry)) ⌝ }
-{
-    recorder_from(read_words(head))
-}
-
-pub fn hint_recorder_in(head: &[u8]) -> HintRecorder
-    requires { ⌜ 192 ≤ length (now head) ⌝ }
-    ensures { λ r. ⌜ r ≡ headHintRecorder (now (head .entry)) ⌝ }
-{
-    hint_recorder_from(read_words(head))
-}
-
-// An area's seven numbers.
-pub fn area_from(
-    slot: u8,
-    channels: u8,
-    key_start: u32,
-    key_end: u32,
-    sectors: u64,
-    start: u64,
-    end: u64,
-) -> Area
-    ensures { λ r. ⌜ r ≡ givenArea slot channels «key_start» «key_end» sectors start end ⌝ }
-{
-    let key = AreaKey {
-        slot,
-        start: key_start,
-        end: key_end,
-        channels,
-        sectors,
-    };
-    Area { key, start, end }
-}
 
 // ---- words of answers
 // A held part as words: whether there is one, its kind, frame number, remaining, offset and length.
@@ -316,12 +264,6 @@ fn area_words(a: Area) -> [u64; 24]
     ]
 }
 
-pub fn bit_word(b: bool) -> u64
-    ensures { λ r. ⌜ r ≡ bit b ⌝ }
-{
-    if b { 1 } else { 0 }
-}
-
 fn brings_words(b: Brings) -> [u64; 24]
     ensures { λ r. ⌜ r ≡ bringsWords b ⌝ }
 {
@@ -342,38 +284,6 @@ fn brings_words(b: Brings) -> [u64; 24]
         confirmed,
         fingerprint,
         image,
-        0,
-        0,
-        0,
-        0,
-        0,
-        0,
-        0,
-        0,
-        0,
-        0,
-        0,
-        0,
-        0,
-        0,
-        0,
-        0,
-    ]
-}
-
-// One word, and words of 0.
-pub fn one_word(v: u64) -> [u64; 24]
-    ensures { λ r. ⌜ r ≡ oneWord v ⌝ }
-{
-    [
-        v,
-        0,
-        0,
-        0,
-        0,
-        0,
-        0,
-        0,
         0,
         0,
         0,
@@ -470,14 +380,4 @@ pub fn put_first(answer: &mut [u8], first: First) -> u32
 {
     write_words(answer, first_words(first));
     0
-}
-
-// The length, or the refusal number.
-pub fn saved_number(saved: Saved) -> u64
-    ensures { λ r. ⌜ r ≡ savedNumber saved ⌝ }
-{
-    match saved {
-        Saved::Refused(n) => n as u64,
-        Saved::Length(n) => n,
-    }
 }

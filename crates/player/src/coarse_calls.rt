@@ -1,7 +1,7 @@
 // What the player's C program calls for a coarser list from a finer one.
-use crate::block::index_in;
 use crate::block::put_made;
 use blocks::HEAD_BYTES;
+use blocks::calls::index_in;
 use blocks::read::is_index;
 ghost use mathlib.Core.Path.{_≡_};
 ghost use Rattle.tables.specs.Index.{tables};

@@ -1,6 +1,6 @@
 // What the player's C program calls for all lists of a drawer together.
-use crate::block::index_in;
 use crate::block::put_made;
+use blocks::calls::index_in;
 use blocks::read::is_index;
 use drawer::merge_all;
 ghost use mathlib.Core.Path.{_≡_};

@@ -1,7 +1,7 @@
 // What the player's C program calls to know what another list holds and the own one does not.
-use crate::block::bit_word;
-use crate::block::index_in;
 use blocks::HEAD_BYTES;
+use blocks::calls::bit_word;
+use blocks::calls::index_in;
 use blocks::read::is_index;
 use blocks::write_words;
 use rules_lacks::Lacked;
@@ -11,7 +11,7 @@ ghost use Prim.Native.Nat.{_≤_};
 ghost use lib.ListN.{length};
 ghost use Rattle.tables.specs.Index.{tables};
 ghost use Rattle.lacks.specs.Lacks.{lackedOf};
-ghost use Rattle.player.specs.Block.{called, into};
+ghost use Rattle.blocks.specs.Calls.{called, into};
 ghost use Rattle.player.specs.Player.{lacksWords, lacksCall};
 
 fn lacks_words(l: Lacks) -> [u64; 24]

@@ -1,26 +1,26 @@
 // What the player's C program calls for lists: each call over blocks and lent tables, answered by a number.
-pub mod block;
+mod block;
 mod coarse_calls;
 mod drawer_calls;
 mod lacks_calls;
 pub mod sums;
 mod view_calls;
 
-use crate::block::area_from;
-use crate::block::index_in;
 use crate::block::put_area;
 use crate::block::put_brings;
 use crate::block::put_first;
 use crate::block::put_made;
 use crate::block::put_plan;
 use crate::block::put_sizes;
-use crate::block::saved_number;
 use blocks::HEAD_BYTES;
+use blocks::calls::area_from;
+use blocks::calls::index_in;
+use blocks::calls::saved_number;
 use blocks::read::is_index;
 ghost use mathlib.Core.Path.{_≡_};
 ghost use Rattle.fnv.specs.Fnv.{fnv64};
 ghost use Rattle.tables.specs.Index.{tables};
-ghost use Rattle.player.specs.Block.{called, givenArea};
+ghost use Rattle.blocks.specs.Calls.{called, givenArea};
 ghost use Rattle.player.specs.Player.{calledOver, mergeCallAs, addsCall, addHintsCall, newCall, loadCallAs, fingerprintCall, planCall, saveCallAs, lengthCall, sizesCall, fileSizesCall, fileAreaCall, firstCall};
 
 // ---- sums, sectors and sizes

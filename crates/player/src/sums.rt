@@ -1,13 +1,13 @@
 // What the player's C program calls for short sums: a sum as a number, a folded sum in an answer block.
-use crate::block::one_word;
 use blocks::HEAD_BYTES;
+use blocks::calls::one_word;
 use blocks::write_words;
 use short_sum::Folded;
 ghost use mathlib.Core.Path.{_≡_};
 ghost use Prim.Native.Nat.{_≤_};
 ghost use lib.ListN.{length};
 ghost use Rattle.short_sum.specs.ShortSum.{fnv32};
-ghost use Rattle.player.specs.Block.{called, into, oneWord};
+ghost use Rattle.blocks.specs.Calls.{called, into, oneWord};
 ghost use Rattle.player.specs.Player.{foldedOf, foldCall};
 
 // The short sum of bytes.

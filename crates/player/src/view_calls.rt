@@ -1,10 +1,10 @@
 // What the player's C program calls for the views of a list.
-use crate::block::index_in;
+use blocks::calls::index_in;
 use rules::Viewed;
 use view::block_refuses;
 ghost use mathlib.Core.Path.{_≡_};
 ghost use Rattle.tables.specs.Index.{tables};
-ghost use Rattle.player.specs.Block.{called};
+ghost use Rattle.blocks.specs.Calls.{called};
 ghost use Rattle.player.specs.Player.{viewedNumber, viewLengthCall, viewCall};
 
 // The length, or the refusal number.

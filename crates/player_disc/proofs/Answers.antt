@@ -10,8 +10,8 @@ use Rattle.blocks.specs.Blocks.{isIndex}
 use Rattle.tables.specs.Index.{Tables}
 use Rattle.save.specs.Save.{made}
 use Rattle.rules.specs.declared.Saved.{Saved}
-use Rattle.player.specs.Block.{called, into, headIndex, savedNumber}
-use Rattle.player.proofs.block.Blocks.{long-enough, is-head}
+use Rattle.blocks.specs.Calls.{called, into, headIndex, savedNumber}
+use Rattle.blocks.proofs.calls.Blocks.{long-enough, is-head}
 use Rattle.rules_disc.specs.declared.Contents.{Contents}
 use Rattle.disc_load.specs.DiscLoad.{contentsIn, discOut, loadDiscIn, discSizes, discSizedOf}
 use Rattle.rules_disc.specs.declared.Loaded.{Loaded}

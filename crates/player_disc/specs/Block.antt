@@ -4,7 +4,7 @@ use mathlib.Core.List.{List, [], _∷_}
 use mathlib.Core.Option.{Option, none, some}
 use Rattle.rules.specs.File.{over}
 use Rattle.blocks.specs.Blocks.{blockOf, indexWords}
-use Rattle.player.specs.Block.{Called, called, two}
+use Rattle.blocks.specs.Calls.{Called, called, two}
 use Rattle.rules.specs.declared.TableSizes.{TableSizes}
 use Rattle.rules_disc.specs.declared.Contents.{Contents}
 use Rattle.rules_disc.specs.declared.Contents.the-variants.{Broken, Lists}

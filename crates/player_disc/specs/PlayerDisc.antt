@@ -4,7 +4,8 @@ use mathlib.Core.List.{List}
 use Rattle.rules.specs.declared.Area.{Area}
 use Rattle.blocks.specs.Blocks.{isIndex}
 use Rattle.tables.specs.Index.{Tables}
-use Rattle.player.specs.Block.{Called, called, into, inBlock, inHead, inWorkshop, headIndex, savedInto}
+use Rattle.blocks.specs.Calls.{Called, called, into, inBlock, inHead, headIndex, savedInto}
+use Rattle.rules_view.specs.Roles.{inWorkshop}
 use Rattle.disc_load.specs.DiscLoad.{contentsIn, DiscOut, loadDiscIn, discSizes}
 use Rattle.disc_save.specs.DiscSave.{saveOneIn, saveBothIn, oneLength, bothLength}
 use Rattle.player_disc.specs.Block.{CalledLists, calledLists, contentsInto, discSizeWords, loadedInto}
@@ -25,11 +26,14 @@ discLengthBothCall head other t u = inHead (isIndex head) 3 (inHead (isIndex oth
 
 -- with the output as block
 unfoldable pub discSaveCall : List ℕ → Tables → List ℕ → Called
-discSaveCall head t out = inHead (isIndex head) (called 3 out) (savedInto (saveOneIn (headIndex head) t out))
+discSaveCall head t out =
+    let o = saveOneIn (headIndex head) t out in
+    inHead (isIndex head) (called 3 out) (savedInto (o .answer) (o .out))
 
 unfoldable pub discSaveBothCall : List ℕ → List ℕ → Tables → Tables → List ℕ → Called
 discSaveBothCall head other t u out =
-    inHead (isIndex head) (called 3 out) (inHead (isIndex other) (called 3 out) (savedInto (saveBothIn (headIndex head) t (headIndex other) u out)))
+    let o = saveBothIn (headIndex head) t (headIndex other) u out in
+    inHead (isIndex head) (called 3 out) (inHead (isIndex other) (called 3 out) (savedInto (o .answer) (o .out)))
 
 -- ---- loading: the heads of both slots, the answer, and the tables of both slots
 pub record CalledDisc : Type 0 where

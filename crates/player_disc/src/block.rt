@@ -11,7 +11,7 @@ use rules_disc::SlotSizes;
 ghost use mathlib.Core.Path.{_≡_};
 ghost use Prim.Native.Nat.{_≤_};
 ghost use lib.ListN.{length};
-ghost use Rattle.player.specs.Block.{called, into, two};
+ghost use Rattle.blocks.specs.Calls.{called, into, two};
 ghost use Rattle.disc_load.specs.DiscLoad.{slotSizesOf, discSizedOf};
 ghost use Rattle.player_disc.specs.Block.{placeWords, contentsWords, contentsInto, isPresent, sizesOr0, slotWords, discSizeWords, calledLists, listedInto, loadedInto};
 

@@ -5,13 +5,13 @@ use crate::block::put_contents;
 use crate::block::put_disc_sizes;
 use crate::block::put_loaded;
 use blocks::HEAD_BYTES;
+use blocks::calls::area_from;
+use blocks::calls::index_in;
+use blocks::calls::saved_number;
 use blocks::read::is_index;
-use player::block::area_from;
-use player::block::index_in;
-use player::block::saved_number;
 ghost use mathlib.Core.Path.{_≡_};
 ghost use Rattle.tables.specs.Index.{tables};
-ghost use Rattle.player.specs.Block.{called, givenArea};
+ghost use Rattle.blocks.specs.Calls.{called, givenArea};
 ghost use Rattle.player_disc.specs.Block.{calledLists};
 ghost use Rattle.player_disc.specs.PlayerDisc.{discContentsCall, discSizesCall, discLengthCall, discLengthBothCall, discSaveCallAs, discSaveBothCallAs, calledDisc, discLoadCallAs};
 

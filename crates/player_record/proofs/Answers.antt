@@ -18,8 +18,8 @@ use Rattle.rules.specs.declared.Boundary.{Boundary}
 use Rattle.rules.specs.declared.Absorbed.{Absorbed}
 use Rattle.absorb.specs.Absorb.{absorbedOut, absorbIn}
 use Rattle.player_record.specs.Block.{calledBoth, absorbedInto, boundaryOf, boundaryWords}
-use Rattle.player.specs.Block.{called, into, headIndex, headRecorder}
-use Rattle.player.proofs.block.Blocks.{long-enough, is-head}
+use Rattle.blocks.specs.Calls.{called, into, headIndex, headRecorder}
+use Rattle.blocks.proofs.calls.Blocks.{long-enough, is-head}
 use Rattle.player_record.specs.PlayerRecord.{calledFour, recordedInto, recorderCall, recordCall, finishCall, dueCall, boundaryCall, calledAbsorbed, absorbCall}
 
 module _ (b b' : List ℕ) (n : ℕ) (q : Recorded) (p : called n b' ≡ recordedInto b q) where

@@ -32,7 +32,7 @@ use Rattle.rules.specs.declared.Recorded.{Recorded}
 use Rattle.rules.specs.declared.Recorded.the-variants as recorded
 use Rattle.rules.specs.declared.Boundary.{Boundary}
 use Rattle.rules.specs.declared.Boundary.the-variants as boundary
-use Rattle.player.specs.Block.{oneWord, two}
+use Rattle.blocks.specs.Calls.{oneWord, two}
 
 -- ---- a frame under assembly
 -- 0 Dst, anything else Dsd; numberFrom says what becomes of a kind that is neither

@@ -12,7 +12,7 @@ use Rattle.tables.specs.Index.{Tables}
 use Rattle.tables.specs.Recorder.{RecorderTables}
 use Rattle.recorder.specs.Recorder.{startedIn, finishedIn, recordIn, dueAt, checkpointLsn}
 use Rattle.absorb.specs.Absorb.{absorbIn}
-use Rattle.player.specs.Block.{Called, called, into, inBlock, inHead, headIndex, headRecorder, headHintRecorder}
+use Rattle.blocks.specs.Calls.{Called, called, into, inBlock, inHead, headIndex, headRecorder, headHintRecorder}
 use Rattle.player_record.specs.Block.{CalledBoth, calledBoth, recordedOf, absorbedInto, boundaryOf, boundaryWords, seenOf, sawOf, sectorWords, createdOf, createdWords, hintWords, takenInto, keptInto}
 use Rattle.index.specs.Index.{madeOf}
 use Rattle.hint.specs.Hint.{hintIn}

@@ -1,11 +1,11 @@
 // Answers of recorders, hint recorders, hint, keep_hint and keep_confirmation as a number and blocks; a frame under assembly and an image id from numbers.
+use blocks::calls::bit_word;
+use blocks::calls::one_word;
 use blocks::hint_recorder_words;
 use blocks::index_words;
 use blocks::recorder_words;
 use blocks::seen_words;
 use blocks::write_words;
-use player::block::bit_word;
-use player::block::one_word;
 use rules::Absorbed;
 use rules::Assembling;
 use rules::Boundary;
@@ -31,7 +31,7 @@ ghost use Rattle.blocks.specs.Blocks.{imageRead, recorderWords, hintRecorderWor
 ghost use Rattle.rules.specs.Tests.{numberOf};
 ghost use Rattle.index.specs.Index.{madeOf};
 ghost use Rattle.hint.specs.Hint.{namedOf, answerOf};
-ghost use Rattle.player.specs.Block.{called, into};
+ghost use Rattle.blocks.specs.Calls.{called, into};
 ghost use Rattle.player_record.specs.Block.{kindFrom, numberFrom, frameFrom, recordedOf, seenOf, sawOf, sectorWords, createdOf, createdWords, hintWords, foundWords, calledBoth, takenInto, keptInto, absorbedInto, boundaryOf, lsnWords, boundaryWords};
 
 // ---- a frame under assembly

@@ -7,14 +7,14 @@ use crate::block::put_saw;
 use crate::block::put_seen;
 use crate::block::put_taken;
 use blocks::HEAD_BYTES;
+use blocks::calls::hint_recorder_in;
+use blocks::calls::index_in;
 use blocks::read::is_hint_recorder;
 use blocks::read::is_index;
-use player::block::hint_recorder_in;
-use player::block::index_in;
 ghost use mathlib.Core.Path.{_≡_};
 ghost use Rattle.tables.specs.Index.{tables};
 ghost use Rattle.confirmations.specs.Confirmations.{given};
-ghost use Rattle.player.specs.Block.{called};
+ghost use Rattle.blocks.specs.Calls.{called};
 ghost use Rattle.player_record.specs.Block.{calledBoth};
 ghost use Rattle.player_record.specs.PlayerRecord.{calledList, calledKept, calledTables, hintRecorderCall, seeCall, flushCall, takeCall, keepCall, keepHintCall, hintCall};
 

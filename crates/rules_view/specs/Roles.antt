@@ -1,5 +1,6 @@
 -- Change request 10: "Saving, loading and merging are workshop operations; only they and the views take a role."
 use Prim.Native.Nat.{ℕ}
+use mathlib.Core.Bool.{cond}
 use mathlib.Core.List.{List, [], _∷_}
 use lib.Dec.{eqb}
 use Rattle.rules.specs.declared.Area.{Area}
@@ -36,3 +37,7 @@ saveOneAs role l x out = asWorkshop role (saveOne l x out)
 
 abbrev pub saveBothAs : ℕ → Lengths → Index → Lengths → Index → ℕ → Answer (List ℕ)
 saveBothAs role l x m y out = asWorkshop role (saveBoth l x m y out)
+
+-- a call for C: what is answered where the role is not the workshop's, asked before all else
+unfoldable pub inWorkshop : {A : Type 0} → ℕ → A → A → A
+inWorkshop role refused r = cond (eqb role workshop) r refused

@@ -21,7 +21,7 @@ use Rattle.hint_recorder.specs.HintRecorder.{createdFrom, createdIn}
 use Rattle.rules.specs.declared.Saved.the-variants as told
 use Rattle.save.specs.Save.{saveOut, saveIn}
 use Rattle.sizes.specs.Sizes.{sizesOf, fileLength}
-use Rattle.player.specs.Block.{savedNumber}
+use Rattle.blocks.specs.Calls.{savedNumber}
 use Rattle.theorems.specs.Player.{Told, SaveNumber, LengthIsSaved, hasFour, RecorderRoomIsSizes, HintListIsSize, MadeHasSpacing}
 use Rattle.theorems.proofs.Sizes.{fits24, fits8}
 use Rattle.theorems.proofs.Demand1.{some-number}

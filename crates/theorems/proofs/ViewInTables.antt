@@ -14,7 +14,8 @@ use Rattle.tables.specs.Index.{Tables, roomOf, indexIn, kindsIn, kinded}
 use Rattle.rules.specs.declared.Viewed.the-variants as viewed
 use Rattle.view.specs.View.{ViewOut, viewOut, inRole, viewIn, viewSizeIn}
 use Rattle.view.proofs.Layouts.{view-length}
-use Rattle.player.specs.Block.{headIndex, inHead, inWorkshop}
+use Rattle.blocks.specs.Calls.{headIndex, inHead}
+use Rattle.rules_view.specs.Roles.{inWorkshop}
 use Rattle.player.specs.Player.{loadCallAs, saveCallAs, mergeCallAs, mergeAllCallAs, viewInto, lengthNumber, viewCall, viewLengthCall}
 use Rattle.player_disc.specs.PlayerDisc.{discLoadCallAs, discSaveCallAs, discSaveBothCallAs}
 use Rattle.theorems.specs.Terms.{ValidIn}

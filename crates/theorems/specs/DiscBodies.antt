@@ -18,7 +18,7 @@ use Rattle.rules_disc.specs.declared.Listed.the-variants as listed
 use Rattle.rules_disc.specs.declared.Loaded.the-variants as loaded
 use Rattle.disc_load.specs.DiscLoad.{discOut, loadDiscIn}
 use Rattle.disc_save.specs.DiscSave.{saveOneIn, saveBothIn}
-use Rattle.player.specs.Block.{called, headIndex}
+use Rattle.blocks.specs.Calls.{called, headIndex}
 use Rattle.player.specs.Player.{calledOver, saveCall, loadCall}
 use Rattle.player_disc.specs.Block.{calledLists}
 use Rattle.player_disc.specs.PlayerDisc.{calledDisc, discSaveCall, discSaveBothCall, discLoadCall}

@@ -14,7 +14,7 @@ use Rattle.rules.specs.Load.{load}
 use Rattle.rules_disc.specs.Disc.{slotArea, contentsOk, discBytes}
 use Rattle.blocks.specs.Blocks.{blockOf, isIndex}
 use Rattle.tables.specs.Index.{Tables, roomOf, indexIn}
-use Rattle.player.specs.Block.{called, headIndex, two}
+use Rattle.blocks.specs.Calls.{called, headIndex, two}
 use Rattle.player_disc.specs.PlayerDisc.{CalledDisc, discSaveCall, discSaveBothCall, discLoadCall}
 use Rattle.theorems.specs.Terms.{ValidIn}
 use Rattle.theorems.specs.DiscFile.{bodyIn}

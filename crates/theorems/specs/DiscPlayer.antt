@@ -14,7 +14,7 @@ use Rattle.rules.specs.declared.Saved.{Saved}
 use Rattle.rules.specs.declared.Saved.the-variants as saved
 use Rattle.rules.specs.declared.TableSizes.{TableSizes}
 use Rattle.sizes.specs.Sizes.{hasSizes}
-use Rattle.player.specs.Block.{savedNumber}
+use Rattle.blocks.specs.Calls.{savedNumber}
 use Rattle.disc_save.specs.DiscSave.{saveOneIn, saveBothIn, oneLength, bothLength}
 use Rattle.disc_load.specs.DiscLoad.{DiscSizes, bodySizes, discSizes}
 

@@ -20,7 +20,7 @@ use Rattle.save.specs.Save as saving
 use Rattle.rules_disc.specs.declared.Loaded.the-variants as loaded
 use Rattle.disc_load.specs.DiscLoad.{discOut, loadDiscIn}
 use Rattle.disc_save.specs.DiscSave.{saveOneIn, saveBothIn}
-use Rattle.player.specs.Block.{called, headIndex}
+use Rattle.blocks.specs.Calls.{called, headIndex}
 use Rattle.player_disc.specs.Block.{calledLists}
 use Rattle.player_disc.specs.PlayerDisc.{calledDisc, discSaveCall, discSaveBothCall, discLoadCall}
 use Rattle.theorems.specs.Terms.{Valid, ValidIn}

@@ -12,7 +12,7 @@ use Rattle.rules_disc.specs.Disc.{slotArea}
 use Rattle.laws.specs.Statements.{stripped}
 use Rattle.blocks.specs.Blocks.{blockOf, isIndex}
 use Rattle.tables.specs.Index.{Tables, roomOf, indexIn}
-use Rattle.player.specs.Block.{called, headIndex, two}
+use Rattle.blocks.specs.Calls.{called, headIndex, two}
 use Rattle.player_disc.specs.Block.{calledLists}
 use Rattle.player_disc.specs.PlayerDisc.{calledDisc, discSaveCall, discSaveBothCall, discLoadCall}
 use Rattle.theorems.specs.Terms.{ValidIn, Ample}

@@ -10,7 +10,7 @@ use Rattle.rules_lacks.specs.declared.Lacks.{Lacks}
 use Rattle.tables.specs.Index.{Tables}
 use Rattle.lacks.specs.Lacks.{lacksIn}
 use Rattle.blocks.specs.Blocks.{wordsIn}
-use Rattle.player.specs.Block.{called, headIndex}
+use Rattle.blocks.specs.Calls.{called, headIndex}
 use Rattle.player.specs.Player.{lacksWords, lacksCall}
 use Rattle.theorems.specs.LacksInTables.{ServesIn}
 

@@ -23,7 +23,7 @@ use Rattle.rules.specs.declared.Saved.the-variants as saved
 use Rattle.save.specs.Save.{saveIn}
 use Rattle.rules.specs.declared.TableSizes.{TableSizes}
 use Rattle.sizes.specs.Sizes.{sizesOf, sizesFor, hasSizes, fileSizes, fileLength, fileArea}
-use Rattle.player.specs.Block.{savedNumber}
+use Rattle.blocks.specs.Calls.{savedNumber}
 
 -- ---- saving
 -- a refusal number is 1 to 40, a length at least 88: one number tells both

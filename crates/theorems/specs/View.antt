@@ -18,7 +18,7 @@ use Rattle.blocks.specs.Blocks.{isIndex}
 use Rattle.tables.specs.Index.{Tables, indexIn}
 use Rattle.rules.specs.declared.Viewed.the-variants as viewed
 use Rattle.view.specs.View.{viewIn, viewSizeIn}
-use Rattle.player.specs.Block.{called, headIndex}
+use Rattle.blocks.specs.Calls.{called, headIndex}
 use Rattle.player.specs.Player.{calledOver, loadCall, saveCall, mergeCall, loadCallAs, saveCallAs, mergeCallAs, mergeAllCall, mergeAllCallAs, viewCall, viewLengthCall}
 use Rattle.player_disc.specs.Block.{calledLists}
 use Rattle.player_disc.specs.PlayerDisc.{calledDisc, discLoadCall, discSaveCall, discSaveBothCall, discLoadCallAs, discSaveCallAs, discSaveBothCallAs}

@@ -10,9 +10,9 @@ use Rattle.tables.specs.Index.{Tables, madeOut}
 use Rattle.rules.specs.declared.Made.{Made}
 use Rattle.index.specs.Index.{madeOf}
 use Rattle.coarsen.specs.Coarsen.{coarseIn}
-use Rattle.player.specs.Block.{called, into, headIndex}
+use Rattle.blocks.specs.Calls.{called, into, headIndex}
 use Rattle.player.specs.Player.{calledOver, coarseCall}
-use Rattle.player.proofs.block.Blocks.{long-enough, is-head}
+use Rattle.blocks.proofs.calls.Blocks.{long-enough, is-head}
 
 pub coarse-done : (b b' : List ℕ) (n : ℕ) → 192 ≤ length b → (h : List ℕ) → isIndex h ≡ true → (x : AreaIndex) (k : ℕ) (t u u' : Tables) (r : Made)
     → called n b' ≡ into indexWords b (madeOf r) → madeOut r u' ≡ coarseIn x t k u → x ≡ headIndex h → calledOver n b' u' ≡ coarseCall h k b t u

@@ -9,9 +9,9 @@ use Rattle.tables.specs.Index.{Tables, madeOut}
 use Rattle.rules.specs.declared.Made.{Made}
 use Rattle.index.specs.Index.{madeOf}
 use Rattle.drawer.specs.Drawer.{mergeAllIn}
-use Rattle.player.specs.Block.{called, into, headIndex}
+use Rattle.blocks.specs.Calls.{called, into, headIndex}
 use Rattle.player.specs.Player.{withTables, calledOver, outInto, mergeAllCall}
-use Rattle.player.proofs.block.Blocks.{is-head}
+use Rattle.blocks.proofs.calls.Blocks.{is-head}
 
 pub merge-all-done : (b b' : List ℕ) (n : ℕ) → isIndex b ≡ true → (x : AreaIndex) (ls files : List ℕ) (limit : ℕ) (t u t' : Tables) (r : Made)
     → called n b' ≡ into indexWords b (madeOf r) → madeOut r t' ≡ mergeAllIn x t ls files limit u → x ≡ headIndex b

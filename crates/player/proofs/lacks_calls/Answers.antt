@@ -9,9 +9,9 @@ use Rattle.blocks.specs.Blocks.{isIndex}
 use Rattle.tables.specs.Index.{Tables}
 use Rattle.lacks.specs.Lacks.{lackedOf, lacksIn}
 use Rattle.rules_lacks.specs.declared.Lacked.{Lacked}
-use Rattle.player.specs.Block.{called, into, headIndex}
+use Rattle.blocks.specs.Calls.{called, into, headIndex}
 use Rattle.player.specs.Player.{lacksWords, lacksCall}
-use Rattle.player.proofs.block.Blocks.{long-enough, is-head}
+use Rattle.blocks.proofs.calls.Blocks.{long-enough, is-head}
 
 pub lacks-done : (b b' : List ℕ) (n : ℕ) → 192 ≤ length b → (g : List ℕ) → isIndex g ≡ true → (x y : AreaIndex) → y ≡ headIndex g → (t u : Tables) (h : List ℕ) → isIndex h ≡ true
     → (r : Lacked) → called n b' ≡ into lacksWords b (lackedOf r) → lackedOf r ≡ lacksIn x t y u → x ≡ headIndex h → called n b' ≡ lacksCall h g b t u

@@ -1,5 +1,5 @@
 use Rattle.player.specs.Player.{addsCall}
-use Rattle.player.proofs.block.Blocks.{too-short, no-head, is-head, known, known-long}
+use Rattle.blocks.proofs.calls.Blocks.{too-short, no-head, is-head, known, known-long}
 use Rattle.player.proofs.Answers.{adds-done}
 use borrow.Author.Needs.{needs}
 use Rattle.player.proofs.seek_raw_adds.Statement.{statement}

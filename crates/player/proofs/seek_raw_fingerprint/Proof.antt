@@ -1,6 +1,6 @@
 use mathlib.Core.Path.{refl}
 use Rattle.player.specs.Player.{fingerprintCall}
-use Rattle.player.proofs.block.Blocks.{no-head, known, known-long}
+use Rattle.blocks.proofs.calls.Blocks.{no-head, known, known-long}
 use Rattle.player.proofs.Answers.{fingerprint-done}
 use borrow.Author.Needs.{needs}
 use Rattle.player.proofs.seek_raw_fingerprint.Statement.{statement}

@@ -1,5 +1,5 @@
 use Rattle.player.specs.Player.{firstCall}
-use Rattle.player.proofs.block.Blocks.{too-short}
+use Rattle.blocks.proofs.calls.Blocks.{too-short}
 use Rattle.player.proofs.Answers.{first-done}
 use borrow.Author.Needs.{needs}
 use Rattle.player.proofs.seek_raw_first_record.Statement.{statement}

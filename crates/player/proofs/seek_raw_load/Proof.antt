@@ -1,5 +1,6 @@
 use Rattle.player.specs.Player.{loadCall, loadCallAs}
-use Rattle.player.proofs.block.Blocks.{no-workshop, is-workshop, too-short}
+use Rattle.blocks.proofs.calls.Blocks.{too-short}
+use Rattle.rules_view.proofs.Roles.{no-workshop, is-workshop}
 use Rattle.player.proofs.Answers.{load-done}
 use borrow.Author.Needs.{needs}
 use Rattle.player.proofs.seek_raw_load.Statement.{statement}

@@ -1,7 +1,8 @@
 use mathlib.Core.Path.{refl}
 use Rattle.tables.specs.Index.{Tables, tables}
 use Rattle.player.specs.Player.{mergeCall, mergeCallAs}
-use Rattle.player.proofs.block.Blocks.{no-workshop, is-workshop, no-head, is-head, known, known-long}
+use Rattle.blocks.proofs.calls.Blocks.{no-head, is-head, known, known-long}
+use Rattle.rules_view.proofs.Roles.{no-workshop, is-workshop}
 use Rattle.player.proofs.Answers.{merge-done}
 use borrow.Author.Needs.{needs}
 use Rattle.player.proofs.seek_raw_merge.Statement.{statement}

@@ -1,5 +1,5 @@
 use Rattle.player.specs.Player.{planCall}
-use Rattle.player.proofs.block.Blocks.{too-short, no-head, is-head, known, known-long}
+use Rattle.blocks.proofs.calls.Blocks.{too-short, no-head, is-head, known, known-long}
 use Rattle.player.proofs.Answers.{plan-done}
 use borrow.Author.Needs.{needs}
 use Rattle.player.proofs.seek_raw_plan.Statement.{statement}

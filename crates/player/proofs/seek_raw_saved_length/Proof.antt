@@ -1,5 +1,5 @@
 use Rattle.player.specs.Player.{lengthCall}
-use Rattle.player.proofs.block.Blocks.{no-head, known, known-long}
+use Rattle.blocks.proofs.calls.Blocks.{no-head, known, known-long}
 use Rattle.player.proofs.Answers.{length-done}
 use borrow.Author.Needs.{needs}
 use Rattle.player.proofs.seek_raw_saved_length.Statement.{statement}

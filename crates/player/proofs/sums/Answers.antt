@@ -5,9 +5,9 @@ use Prim.Native.Nat.{ℕ, _≤_}
 use lib.ListN.{length}
 use Rattle.short_sum.specs.declared.Folded.{Folded}
 use Rattle.short_sum.specs.ShortSum.{fold}
-use Rattle.player.specs.Block.{called, into, oneWord}
+use Rattle.blocks.specs.Calls.{called, into, oneWord}
 use Rattle.player.specs.Player.{foldedOf, foldCall}
-use Rattle.player.proofs.block.Blocks.{long-enough}
+use Rattle.blocks.proofs.calls.Blocks.{long-enough}
 
 pub fold-done : (b b' : List ℕ) (n : ℕ) → 192 ≤ length b → (w k s : ℕ) (r : Folded) → called n b' ≡ into oneWord b (foldedOf r) → r ≡ fold w k s
     → called n b' ≡ foldCall w k s b

@@ -12,9 +12,9 @@ use Rattle.tables.specs.Index.{Tables}
 use Rattle.rules.specs.declared.Viewed.{Viewed}
 use Rattle.rules.specs.declared.Viewed.the-variants as answer
 use Rattle.view.specs.View.{viewed, viewedOf, viewIn, viewSizeIn, blockRefusal}
-use Rattle.player.specs.Block.{called, headIndex, inHead}
+use Rattle.blocks.specs.Calls.{called, headIndex, inHead}
 use Rattle.player.specs.Player.{viewedNumber, lengthNumber, viewLengthCall, viewCall}
-use Rattle.player.proofs.block.Blocks.{is-head}
+use Rattle.blocks.proofs.calls.Blocks.{is-head}
 
 number-is : (r : Viewed) → viewedNumber r ≡ lengthNumber (viewedOf r)
 unfolding viewedNumber lengthNumber viewedOf

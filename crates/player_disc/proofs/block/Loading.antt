@@ -4,7 +4,7 @@ use mathlib.Core.List.{List}
 use Prim.Native.Nat.{ℕ}
 use Rattle.rules.specs.File.{over}
 use Rattle.blocks.specs.Blocks.{blockOf}
-use Rattle.player.specs.Block.{called, two}
+use Rattle.blocks.specs.Calls.{called, two}
 use Rattle.rules_disc.specs.declared.Listed.{Listed}
 use Rattle.rules_disc.specs.declared.Loaded.{Loaded}
 use Rattle.rules_disc.specs.declared.Loaded.the-variants as loaded

@@ -1,8 +1,9 @@
 use Rattle.rules.specs.declared.Area.{Area}
 use Rattle.tables.specs.Index.{Tables, tables}
-use Rattle.player.specs.Block.{givenArea}
+use Rattle.blocks.specs.Calls.{givenArea}
 use Rattle.player_disc.specs.PlayerDisc.{discLoadCall, discLoadCallAs}
-use Rattle.player.proofs.block.Blocks.{no-workshop, is-workshop, too-short, long-enough}
+use Rattle.blocks.proofs.calls.Blocks.{too-short, long-enough}
+use Rattle.rules_view.proofs.Roles.{no-workshop, is-workshop}
 use Rattle.player_disc.proofs.Answers.{load-done}
 use borrow.Author.Needs.{needs}
 use Rattle.player_disc.proofs.seek_raw_disc_load.Statement.{statement}

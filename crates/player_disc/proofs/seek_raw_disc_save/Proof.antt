@@ -1,5 +1,6 @@
 use Rattle.player_disc.specs.PlayerDisc.{discSaveCall, discSaveCallAs}
-use Rattle.player.proofs.block.Blocks.{no-workshop, is-workshop, no-head, known, known-long}
+use Rattle.blocks.proofs.calls.Blocks.{no-head, known, known-long}
+use Rattle.rules_view.proofs.Roles.{no-workshop, is-workshop}
 use Rattle.player_disc.proofs.Answers.{save-done}
 use borrow.Author.Needs.{needs}
 use Rattle.player_disc.proofs.seek_raw_disc_save.Statement.{statement}

@@ -1,5 +1,5 @@
 use Rattle.player_disc.specs.PlayerDisc.{discLengthCall}
-use Rattle.player.proofs.block.Blocks.{no-head, known, known-long}
+use Rattle.blocks.proofs.calls.Blocks.{no-head, known, known-long}
 use Rattle.player_disc.proofs.Answers.{length-done}
 use borrow.Author.Needs.{needs}
 use Rattle.player_disc.proofs.seek_raw_disc_saved_length.Statement.{statement}

@@ -1,5 +1,5 @@
 use Rattle.player_disc.specs.PlayerDisc.{discSizesCall}
-use Rattle.player.proofs.block.Blocks.{too-short}
+use Rattle.blocks.proofs.calls.Blocks.{too-short}
 use Rattle.player_disc.proofs.Answers.{sizes-done}
 use borrow.Author.Needs.{needs}
 use Rattle.player_disc.proofs.seek_raw_disc_sizes.Statement.{statement}

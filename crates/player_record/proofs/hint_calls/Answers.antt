@@ -24,8 +24,8 @@ use Rattle.hint_recorder.specs.HintRecorder as hinting
 use Rattle.rules.specs.declared.Kept.{Kept}
 use Rattle.confirmations.specs.Confirmations.{keepIn}
 use Rattle.confirmations.specs.Confirmations as keeping
-use Rattle.player.specs.Block.{called, into, headIndex, headHintRecorder}
-use Rattle.player.proofs.block.Blocks.{long-enough, is-head}
+use Rattle.blocks.specs.Calls.{called, into, headIndex, headHintRecorder}
+use Rattle.blocks.proofs.calls.Blocks.{long-enough, is-head}
 use Rattle.player_record.specs.Block.{calledBoth, seenOf, sawOf, sectorWords, createdOf, createdWords, hintWords, takenInto, keptInto}
 use Rattle.player_record.specs.PlayerRecord.{calledList, calledKept, calledTables, hintRecorderCall, seeCall, flushCall, takeCall, keepCall, keepHintCall, hintCall}
 

@@ -1,6 +1,6 @@
 use mathlib.Core.Path.{refl}
 use Rattle.player_record.specs.PlayerRecord.{absorbCall}
-use Rattle.player.proofs.block.Blocks.{no-head, is-head, known, known-long}
+use Rattle.blocks.proofs.calls.Blocks.{no-head, is-head, known, known-long}
 use Rattle.player_record.proofs.Answers.{absorb-done}
 use borrow.Author.Needs.{needs}
 use Rattle.player_record.proofs.seek_raw_absorb.Statement.{statement}

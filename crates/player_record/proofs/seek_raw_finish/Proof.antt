@@ -1,6 +1,6 @@
 use mathlib.Core.Path.{refl}
 use Rattle.player_record.specs.PlayerRecord.{finishCall}
-use Rattle.player.proofs.block.Blocks.{no-head, known, known-long}
+use Rattle.blocks.proofs.calls.Blocks.{no-head, known, known-long}
 use Rattle.player_record.proofs.Answers.{finish-done}
 use borrow.Author.Needs.{needs}
 use Rattle.player_record.proofs.seek_raw_finish.Statement.{statement}

@@ -19,7 +19,7 @@ use Rattle.blocks.specs.RoundTrip.{IndexFits}
 use Rattle.blocks.proofs.RoundTrip.{index-back}
 use Rattle.tables.specs.Index.{Tables, roomOf, indexIn, numbersFrom, tablesFrom}
 use Rattle.index.proofs.Standing.{stands}
-use Rattle.player.specs.Block.{headIndex, inBlock, inHead, savedNumber}
+use Rattle.blocks.specs.Calls.{headIndex, inBlock, inHead, savedNumber}
 use Rattle.disc_load.specs.DiscLoad.{listedFrom, tablesWith, discOutOf, loadDiscIn}
 use Rattle.player_disc.specs.Block.{listedInto, loadedInto}
 use Rattle.player_disc.specs.PlayerDisc.{discSaveCall, discSaveBothCall, discLoadCall}

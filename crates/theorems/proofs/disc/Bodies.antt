@@ -20,7 +20,7 @@ use Rattle.save.specs.Save.{saveOut, saveIn}
 use Rattle.rules_disc.specs.declared.Listed.{Listed}
 use Rattle.disc_load.specs.DiscLoad.{listedFrom, tablesWith, loadDiscIn}
 use Rattle.disc_save.specs.DiscSave.{saveOneIn, saveBothIn}
-use Rattle.player.specs.Block.{Called, called, into, headIndex, inBlock, savedNumber}
+use Rattle.blocks.specs.Calls.{Called, called, into, headIndex, inBlock, savedNumber}
 use Rattle.player.specs.Player.{calledOver, saveCall, loadCall}
 use Rattle.player_disc.specs.Block.{listedInto}
 use Rattle.player_disc.specs.PlayerDisc.{discSaveCall, discSaveBothCall}

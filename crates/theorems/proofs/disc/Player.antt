@@ -15,7 +15,7 @@ use Rattle.laws.proofs.Length.{savedLength-is}
 use Rattle.tables.specs.Index.{indexIn, orFour, kinded, refusal, lowest}
 use Rattle.rules.specs.declared.Saved.the-variants as told
 use Rattle.save.specs.Save.{SaveOut, made, saveOut}
-use Rattle.player.specs.Block.{savedNumber}
+use Rattle.blocks.specs.Calls.{savedNumber}
 use Rattle.disc_save.specs.DiscSave.{saveOneIn, saveBothIn, lengthOf, lengthAfter, oneLength, bothLength}
 use Rattle.disc_save.specs.Steps.{savedAs}
 use Rattle.disc_save.proofs.Answers.{one-refused, one-saved, both-refused, both-saved}

@@ -23,7 +23,7 @@ use Rattle.tables.specs.Index.{roomOf, indexIn, kindsIn}
 use Rattle.save.specs.Save.{saveOut}
 use Rattle.disc_load.specs.DiscLoad.{discOutOf, loadDiscIn}
 use Rattle.disc_save.specs.DiscSave.{saveOneIn, saveBothIn}
-use Rattle.player.specs.Block.{called, headIndex, savedNumber}
+use Rattle.blocks.specs.Calls.{called, headIndex, savedNumber}
 use Rattle.player_disc.specs.Block.{loadedInto}
 use Rattle.player_disc.specs.PlayerDisc.{discSaveCall, discSaveBothCall}
 use Rattle.theorems.specs.DiscRefusals.{DiscRefusals, DiscRefusalsIn, DiscRefusalsInC}

@@ -27,7 +27,7 @@ use Rattle.rules.specs.declared.Saved as declared
 use Rattle.rules.specs.declared.Saved.the-variants as told
 use Rattle.save.specs.Save.{SaveOut}
 use Rattle.save.specs.Save as saving
-use Rattle.player.specs.Block.{Called, called, headIndex, inHead, inBlock, savedNumber, savedInto, two}
+use Rattle.blocks.specs.Calls.{Called, called, headIndex, inHead, inBlock, savedNumber, savedInto, two}
 use Rattle.rules_disc.specs.declared.Listed.{Listed}
 use Rattle.rules_disc.specs.declared.Listed.the-variants as listed
 use Rattle.rules_disc.specs.declared.Loaded.{Loaded}
@@ -67,7 +67,7 @@ unfolding inHead
 
 -- ---- saving
 -- a length that is told was answered below
-told→ : (s : SaveOut) (k : ℕ) (new : List ℕ) → ((n : ℕ) → DiscTold (s .answer) n) → 88 ≤ k → savedInto s ≡ called k new → s ≡ saving.made (told.Length k) new
+told→ : (s : SaveOut) (k : ℕ) (new : List ℕ) → ((n : ℕ) → DiscTold (s .answer) n) → 88 ≤ k → savedInto (s .answer) (s .out) ≡ called k new → s ≡ saving.made (told.Length k) new
 unfolding savedNumber
 told→ s k new h l e = answer (s .answer) (s .out) h e
   where
@@ -314,9 +314,9 @@ one-disc-file-in-c =
           let s = one-disc-file-in .same (headIndex head) (headIndex other) (headIndex head') (headIndex other') t u t' u' old v w v' w'
           (record { typed = head-typed head (a .bytes); bytes = a .tables }) (record { typed = head-typed other (b .bytes); bytes = b .tables })
           (record { typed = head-typed head' (a' .bytes); bytes = a' .tables }) (record { typed = head-typed other' (b' .bytes); bytes = b' .tables }) e f in
-          →in-head (isIndex head) (called 3 old) _ _ m (→in-head (isIndex other) (called 3 old) _ _ n (ap (λ (o : SaveOut). savedInto o) s))
+          →in-head (isIndex head) (called 3 old) _ _ m (→in-head (isIndex other) (called 3 old) _ _ n (ap (λ (o : SaveOut). savedInto (o .answer) (o .out)) s))
           ∙ sym (→in-head (isIndex head') (called 3 old) _ _ m' (→in-head (isIndex other') (called 3 old) _ _ n' refl));
       swapped = λ head other t u old.
-          ap (λ (o : SaveOut). inHead (isIndex head) (called 3 old) (inHead (isIndex other) (called 3 old) (savedInto o))) (swap-in (headIndex head) (headIndex other) t u old)
+          ap (λ (o : SaveOut). inHead (isIndex head) (called 3 old) (inHead (isIndex other) (called 3 old) (savedInto (o .answer) (o .out)))) (swap-in (headIndex head) (headIndex other) t u old)
           ∙ in-head-swap (isIndex head) (isIndex other) (called 3 old) _;
     }

@@ -21,7 +21,7 @@ use Rattle.tables.specs.Index.{Tables, roomOf, indexIn, kindsIn, orFour, kinded
 use Rattle.lacks.specs.Lacks.{lacksIn}
 use Rattle.blocks.specs.Blocks.{indexRead, wordsIn, blockOf, isBlock, isIndex}
 use Rattle.blocks.specs.RoundTrip.{Fits32, Fits64}
-use Rattle.player.specs.Block.{Called, called, into, inBlock, inHead, headIndex}
+use Rattle.blocks.specs.Calls.{Called, called, into, inBlock, inHead, headIndex}
 use Rattle.player.specs.Player.{lacksWords, lacksCall}
 use Rattle.theorems.specs.LacksPlayer.{LacksTold, lacksNothing, NothingLackingInC}
 use Rattle.theorems.proofs.MergeInTables.{kinded→}

@@ -1,5 +1,5 @@
 use Rattle.sizes.specs.Sizes.{fileAreaOf}
-use Rattle.player.specs.Block.{into}
+use Rattle.blocks.specs.Calls.{into}
 use borrow.Author.Needs.{needs}
 use Rattle.player.proofs.block.put_area.Statement.{statement}
 use Rattle.player.proofs.block.put_area.Tie as tie

@@ -1,5 +1,5 @@
 use Rattle.adds.specs.Adds.{addsOf}
-use Rattle.player.specs.Block.{into}
+use Rattle.blocks.specs.Calls.{into}
 use borrow.Author.Needs.{needs}
 use Rattle.player.proofs.block.put_brings.Statement.{statement}
 use Rattle.player.proofs.block.put_brings.Tie as tie

@@ -1,4 +1,4 @@
-use Rattle.player.specs.Block.{into}
+use Rattle.blocks.specs.Calls.{into}
 use borrow.Author.Needs.{needs}
 use Rattle.player.proofs.block.put_first.Statement.{statement}
 use Rattle.player.proofs.block.put_first.Tie as tie

@@ -1,5 +1,5 @@
 use Rattle.index.specs.Index.{madeOf}
-use Rattle.player.specs.Block.{into}
+use Rattle.blocks.specs.Calls.{into}
 use borrow.Author.Needs.{needs}
 use Rattle.player.proofs.block.put_made.Statement.{statement}
 use Rattle.player.proofs.block.put_made.Tie as tie

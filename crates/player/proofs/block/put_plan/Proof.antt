@@ -1,5 +1,5 @@
 use Rattle.plan.specs.Plan.{plannedOf}
-use Rattle.player.specs.Block.{into}
+use Rattle.blocks.specs.Calls.{into}
 use borrow.Author.Needs.{needs}
 use Rattle.player.proofs.block.put_plan.Statement.{statement}
 use Rattle.player.proofs.block.put_plan.Tie as tie

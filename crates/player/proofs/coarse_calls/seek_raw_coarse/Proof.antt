@@ -1,6 +1,6 @@
 use Rattle.tables.specs.Index.{Tables, tables}
 use Rattle.player.specs.Player.{coarseCall}
-use Rattle.player.proofs.block.Blocks.{too-short, no-head, is-head, known, known-long}
+use Rattle.blocks.proofs.calls.Blocks.{too-short, no-head, is-head, known, known-long}
 use Rattle.player.proofs.coarse_calls.Answers.{coarse-done}
 use borrow.Author.Needs.{needs}
 use Rattle.player.proofs.coarse_calls.seek_raw_coarse.Statement.{statement}

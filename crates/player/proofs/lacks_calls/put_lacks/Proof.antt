@@ -1,5 +1,5 @@
 use Rattle.lacks.specs.Lacks.{lackedOf}
-use Rattle.player.specs.Block.{into}
+use Rattle.blocks.specs.Calls.{into}
 use borrow.Author.Needs.{needs}
 use Rattle.player.proofs.lacks_calls.put_lacks.Statement.{statement}
 use Rattle.player.proofs.lacks_calls.put_lacks.Tie as tie

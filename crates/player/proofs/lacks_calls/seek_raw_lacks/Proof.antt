@@ -1,5 +1,5 @@
 use Rattle.player.specs.Player.{lacksCall}
-use Rattle.player.proofs.block.Blocks.{too-short, no-head, is-head, known, known-long}
+use Rattle.blocks.proofs.calls.Blocks.{too-short, no-head, is-head, known, known-long}
 use Rattle.player.proofs.lacks_calls.Answers.{lacks-done}
 use borrow.Author.Needs.{needs}
 use Rattle.player.proofs.lacks_calls.seek_raw_lacks.Statement.{statement}

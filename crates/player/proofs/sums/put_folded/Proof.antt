@@ -1,4 +1,4 @@
-use Rattle.player.specs.Block.{into}
+use Rattle.blocks.specs.Calls.{into}
 use Rattle.player.specs.Player.{foldedOf}
 use borrow.Author.Needs.{needs}
 use Rattle.player.proofs.sums.put_folded.Statement.{statement}

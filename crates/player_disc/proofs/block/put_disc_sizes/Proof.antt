@@ -1,4 +1,4 @@
-use Rattle.player.specs.Block.{into}
+use Rattle.blocks.specs.Calls.{into}
 use Rattle.disc_load.specs.DiscLoad.{discSizedOf}
 use Rattle.player_disc.specs.Block.{discSizeWords}
 use borrow.Author.Needs.{needs}

@@ -1,5 +1,5 @@
 use Rattle.hint.specs.Hint.{answerOf}
-use Rattle.player.specs.Block.{into}
+use Rattle.blocks.specs.Calls.{into}
 use Rattle.player_record.specs.Block.{hintWords}
 use borrow.Author.Needs.{needs}
 use Rattle.player_record.proofs.block.put_hint.Statement.{statement}

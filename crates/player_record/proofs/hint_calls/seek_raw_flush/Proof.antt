@@ -1,6 +1,6 @@
 use mathlib.Core.Path.{refl}
 use Rattle.player_record.specs.PlayerRecord.{flushCall}
-use Rattle.player.proofs.block.Blocks.{no-head, known, known-long}
+use Rattle.blocks.proofs.calls.Blocks.{no-head, known, known-long}
 use Rattle.player_record.proofs.hint_calls.Answers.{flush-done}
 use borrow.Author.Needs.{needs}
 use Rattle.player_record.proofs.hint_calls.seek_raw_flush.Statement.{statement}

@@ -1,5 +1,5 @@
 use Rattle.player_record.specs.PlayerRecord.{keepHintCall}
-use Rattle.player.proofs.block.Blocks.{no-head, known, known-long}
+use Rattle.blocks.proofs.calls.Blocks.{no-head, known, known-long}
 use Rattle.player_record.proofs.hint_calls.Answers.{keep-hint-done}
 use borrow.Author.Needs.{needs}
 use Rattle.player_record.proofs.hint_calls.seek_raw_keep_hint.Statement.{statement}

@@ -1,6 +1,6 @@
 use mathlib.Core.Path.{refl}
 use Rattle.player_record.specs.PlayerRecord.{takeCall}
-use Rattle.player.proofs.block.Blocks.{too-short, no-head, is-head, known, known-long}
+use Rattle.blocks.proofs.calls.Blocks.{too-short, no-head, is-head, known, known-long}
 use Rattle.player_record.proofs.hint_calls.Answers.{take-done}
 use borrow.Author.Needs.{needs}
 use Rattle.player_record.proofs.hint_calls.seek_raw_take.Statement.{statement}

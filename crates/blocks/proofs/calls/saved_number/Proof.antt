@@ -1,7 +1,7 @@
-use Rattle.player.specs.Block.{savedNumber}
+use Rattle.blocks.specs.Calls.{savedNumber}
 use borrow.Author.Needs.{needs}
-use Rattle.player.proofs.block.saved_number.Statement.{statement}
-use Rattle.player.proofs.block.saved_number.Tie as tie
+use Rattle.blocks.proofs.calls.saved_number.Statement.{statement}
+use Rattle.blocks.proofs.calls.saved_number.Tie as tie
 
 returns : tie.Need-returns
 unfolding savedNumber

@@ -1,6 +1,6 @@
 use Rattle.rules.specs.File.{bit}
-use Rattle.player.proofs.block.bit_word.Statement.{statement}
-use Rattle.player.proofs.block.bit_word.Tie as tie
+use Rattle.blocks.proofs.calls.bit_word.Statement.{statement}
+use Rattle.blocks.proofs.calls.bit_word.Tie as tie
 
 returns : tie.Need-returns
 unfolding bit

@@ -1,7 +1,7 @@
-use Rattle.player.specs.Block.{headHintRecorder}
+use Rattle.blocks.specs.Calls.{headHintRecorder}
 use borrow.Author.Needs.{needs}
-use Rattle.player.proofs.block.hint_recorder_in.Statement.{statement}
-use Rattle.player.proofs.block.hint_recorder_in.Tie as tie
+use Rattle.blocks.proofs.calls.hint_recorder_in.Statement.{statement}
+use Rattle.blocks.proofs.calls.hint_recorder_in.Tie as tie
 
 returns : tie.Need-returns
 unfolding headHintRecorder

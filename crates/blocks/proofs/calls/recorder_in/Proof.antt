@@ -1,7 +1,7 @@
-use Rattle.player.specs.Block.{headRecorder}
+use Rattle.blocks.specs.Calls.{headRecorder}
 use borrow.Author.Needs.{needs}
-use Rattle.player.proofs.block.recorder_in.Statement.{statement}
-use Rattle.player.proofs.block.recorder_in.Tie as tie
+use Rattle.blocks.proofs.calls.recorder_in.Statement.{statement}
+use Rattle.blocks.proofs.calls.recorder_in.Tie as tie
 
 returns : tie.Need-returns
 unfolding headRecorder

@@ -1,7 +1,7 @@
-use Rattle.player.specs.Block.{headIndex}
+use Rattle.blocks.specs.Calls.{headIndex}
 use borrow.Author.Needs.{needs}
-use Rattle.player.proofs.block.index_in.Statement.{statement}
-use Rattle.player.proofs.block.index_in.Tie as tie
+use Rattle.blocks.proofs.calls.index_in.Statement.{statement}
+use Rattle.blocks.proofs.calls.index_in.Tie as tie
 
 returns : tie.Need-returns
 unfolding headIndex

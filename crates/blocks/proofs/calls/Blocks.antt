@@ -3,12 +3,12 @@ use mathlib.Core.Path.{_≡_, refl, sym}
 use mathlib.Core.Bool.{Bool, true, false, not}
 use mathlib.Core.List.{List}
 use Prim.Native.Nat.{ℕ, _≤_, _<_}
-use borrow.Author.Tests.{le-leb, lt-leb, eq-eqb, ne-eqb}
+use borrow.Author.Tests.{le-leb, lt-leb}
 use lib.ListN.{length}
 use Rattle.rules.proofs.Tests.{never}
 use Rattle.blocks.specs.Blocks.{isHead}
 use Rattle.blocks.proofs.Words.{head-long}
-use Rattle.player.specs.Block.{inBlock, inHead, inWorkshop}
+use Rattle.blocks.specs.Calls.{inBlock, inHead}
 
 pub too-short : {A : Type 0} (b : List ℕ) (short r : A) → length b < 192 → short ≡ inBlock b short r
 unfolding inBlock inHead
@@ -36,12 +36,3 @@ known {q = false} e f = never {b = true} refl f
 -- it has 192 bytes
 pub known-long : (again : List ℕ → List ℕ) (b : List ℕ) {q : Bool} → q ≡ isHead again b → not q ≡ false → 192 ≤ length b
 known-long again b e f = head-long again b (known e f)
-
--- ---- a role that is not the workshop's, and one that is
-pub no-workshop : {A : Type 0} (role : ℕ) (refused r : A) → (role ≡ 2 → ⊥) → refused ≡ inWorkshop role refused r
-unfolding inWorkshop inHead
-no-workshop role refused r h = rw (ne-eqb role 2 h)
-
-pub is-workshop : {A : Type 0} (role : ℕ) (refused r : A) {p : A} → role ≡ 2 → p ≡ r → p ≡ inWorkshop role refused r
-unfolding inWorkshop inHead
-is-workshop role refused r h e = rw (eq-eqb role 2 h) e
