@@ -1,15 +1,16 @@
 -- What is written into a head is read from it again. Assumes nothing.
 use mathlib.Core.Path.{_≡_, refl, sym, ap, _∙_}
 use mathlib.Core.Bool.{true}
-use mathlib.Core.List.{List, []}
-use Prim.Native.Nat.{ℕ, _%_, _≤_}
+use mathlib.Core.List.{List}
+use Prim.Native.Nat.{ℕ, zero, suc, _%_, _≤_}
 use native.Mathlib.Omega.{arith}
-use lib.ListN.{length, length-append}
+use lib.ListN.{length, length-append, replicate}
 use lib.Dec.{leb}
 use borrow.Author.Tests.{le-leb}
 use Rattle.field.specs.Number.{sameBytes}
 use Rattle.field.proofs.Bytes.{same-refl, same-true}
 use Rattle.field.proofs.Format.{Each, none, one, numbers, records-bytes, bytesOf-length}
+use Rattle.rules.specs.declared.Area.{Area}
 use Rattle.rules.specs.declared.AreaIndex.{AreaIndex}
 use Rattle.rules.specs.declared.End.{End}
 use Rattle.rules.specs.declared.End.the-variants.{Open, Closed}
@@ -27,8 +28,9 @@ use Rattle.rules.specs.declared.Tail.{Tail}
 use Rattle.rules.specs.declared.Tail.the-variants as tail
 use Rattle.rules.specs.File.{over}
 use Rattle.rules.proofs.Tests.{and-right}
-use Rattle.blocks.specs.Blocks.{at, areaRead, endRead, fingerprintRead, imageRead, modeRead, lastRead, tailRead, indexRead, recorderRead, hintRecorderRead, isHead, withFree, wordsIn, blockOf, endWords, fingerprintWords, imageWords, modeWords, lastWords, tailWords, indexWords, recorderWords, hintRecorderArray, hintRecorderWords}
-use Rattle.blocks.specs.RoundTrip.{Fits8, Fits32, Fits64, tailMark, IndexFits, RecorderFits, HintRecorderFits, IndexBack, RecorderBack, HintRecorderBack, IndexIsHead, RecorderIsHead, HintRecorderIsHead, NoneFree, HeadWords}
+use Rattle.blocks.specs.Blocks.{at, told, withArea, areaRead, endRead, fingerprintRead, imageRead, modeRead, lastRead, tailRead, indexRead, recorderRead, hintRecorderRead, isHead, withFree, wordsIn, blockOf, endWords, fingerprintWords, imageWords, modeWords, lastWords, tailWords, indexWords, recorderWords, hintRecorderArray, hintRecorderWords}
+use Rattle.blocks.specs.declared.Told.{Told}
+use Rattle.blocks.specs.RoundTrip.{Fits8, Fits32, Fits64, tailMark, AreaFits, IndexFits, RecorderFits, HintRecorderFits, ToldFits, IndexBack, RecorderBack, HintRecorderBack, IndexIsHead, RecorderIsHead, HintRecorderIsHead, NoneFree, HeadWords}
 
 words-back : (ws b : List ℕ) → Each Fits64 ws → wordsIn (length ws) (over (blockOf ws) b) ≡ ws
 words-back ws b f = records-bytes (numbers 8) _ f
@@ -45,8 +47,8 @@ wide8 h = omega arith
 wide32 : {v : ℕ} → Fits32 v → Fits64 v
 wide32 h = omega arith
 
-zero : Fits64 0
-zero = omega arith
+no-bits : Fits64 0
+no-bits = omega arith
 
 -- ---- things that may be unknown
 mark-fits : (e : End) → Fits64 (endWords e .mark)
@@ -114,22 +116,35 @@ tail-back tail.Empty g h m = refl
 tail-back (tail.Hint k) g h m = rw (low32 (k .lsn) g, low32 (k .number) h) (λ i. tail.Hint (record { lsn = k .lsn; number = k .number; mark = sym m i }))
 
 -- ---- heads
+zeros : (n : ℕ) → Each Fits64 (replicate n 0)
+zeros zero = none
+zeros (suc n) = one no-bits (zeros n)
+
+-- the words of an area are words, and what is read from them is it
+area-words : (a : Area) (ws : List ℕ) → AreaFits a → Each Fits64 ws → Each Fits64 (withArea a ws)
+area-words a ws f r =
+    one (wide8 (f .slot)) (one (wide8 (f .channels)) (one (wide32 (f .keyStart)) (one (wide32 (f .keyEnd))
+    (one (f .sectors) (one (f .start) (one (f .end) r))))))
+
+area-same : (a : Area) (ws : List ℕ) → AreaFits a → areaRead (withArea a ws) ≡ a
+unfolding areaRead
+area-same a ws f = rw (low8 _ (f .slot), low8 _ (f .channels), low32 _ (f .keyStart), low32 _ (f .keyEnd))
+
 -- the words of an index are words, and what is read from them is it
 index-words : (x : AreaIndex) → IndexFits x → Each Fits64 (indexWords x)
 unfolding indexWords
 index-words x f =
-    let a = f .area in
-    one (wide8 (a .slot)) (one (wide8 (a .channels)) (one (wide32 (a .keyStart)) (one (wide32 (a .keyEnd)) (one (a .sectors) (one (a .start) (one (a .end) (one (wide32 (f .interval)) (one (f .budget) (one (wide32 (f .spacing)) (one (wide32 (f .most)) (one (wide32 (f .checkpoints)) (one (wide32 (f .frames)) (one (wide32 (f .parts)) (one (wide32 (f .malformed)) (one (wide32 (f .hints)) (one (wide32 (f .confirmed)) (one (mark-fits (x .ending)) (one (wide32 (f .threshold)) (one (f .counted) (one (print-fits (x .fingerprint)) (one (f .fingerprint) (one (image-fits (x .image)) (one (f .image) (none))))))))))))))))))))))))
+    area-words (x .area) _ (f .area)
+    (one (wide32 (f .interval)) (one (f .budget) (one (wide32 (f .spacing)) (one (wide32 (f .most)) (one (wide32 (f .checkpoints))
+    (one (wide32 (f .frames)) (one (wide32 (f .parts)) (one (wide32 (f .malformed)) (one (wide32 (f .hints)) (one (wide32 (f .confirmed))
+    (one (mark-fits (x .ending)) (one (wide32 (f .threshold)) (one (f .counted) (one (print-fits (x .fingerprint)) (one (f .fingerprint)
+    (one (image-fits (x .image)) (one (f .image) none)))))))))))))))))
 
 index-same : (x : AreaIndex) → IndexFits x → indexRead (indexWords x) ≡ x
-unfolding indexRead indexWords areaRead
+unfolding indexRead indexWords
 index-same x f =
-    let a = f .area in
     rw (
-      low8 _ (a .slot),
-      low8 _ (a .channels),
-      low32 _ (a .keyStart),
-      low32 _ (a .keyEnd),
+      area-same (x .area) _ (f .area),
       low32 _ (f .interval),
       low32 _ (f .spacing),
       low32 _ (f .most),
@@ -152,18 +167,16 @@ index-back x b f = ap indexRead (words-back (indexWords x) b (index-words x f)) 
 recorder-words : (r : Recorder) → RecorderFits r → Each Fits64 (recorderWords r)
 unfolding recorderWords
 recorder-words r f =
-    let a = f .area in
-    one (wide8 (a .slot)) (one (wide8 (a .channels)) (one (wide32 (a .keyStart)) (one (wide32 (a .keyEnd)) (one (a .sectors) (one (a .start) (one (a .end) (one (wide32 (f .interval)) (one (f .budget) (one (wide32 (f .first)) (one (f .from) (one (wide32 (f .checkpoints)) (one (wide32 (f .frames)) (one (wide32 (f .parts)) (one (mode-fits (r .mode)) (one (wide32 (f .threshold)) (one (f .counted) (one (zero) (one (zero) (one (zero) (one (zero) (one (zero) (one (zero) (one (zero) (none))))))))))))))))))))))))
+    area-words (r .area) _ (f .area)
+    (one (wide32 (f .interval)) (one (f .budget) (one (wide32 (f .first)) (one (f .from) (one (wide32 (f .checkpoints))
+    (one (wide32 (f .frames)) (one (wide32 (f .parts)) (one (mode-fits (r .mode)) (one (wide32 (f .threshold)) (one (f .counted)
+    (zeros 7)))))))))))
 
 recorder-same : (r : Recorder) → RecorderFits r → recorderRead (recorderWords r) ≡ r
-unfolding recorderRead recorderWords areaRead
+unfolding recorderRead recorderWords
 recorder-same r f =
-    let a = f .area in
     rw (
-      low8 _ (a .slot),
-      low8 _ (a .channels),
-      low32 _ (a .keyStart),
-      low32 _ (a .keyEnd),
+      area-same (r .area) _ (f .area),
       low32 _ (f .interval),
       low32 _ (f .first),
       low32 _ (f .checkpoints),
@@ -176,41 +189,38 @@ pub recorder-back : RecorderBack
 unfolding recorderWords
 recorder-back r b f = ap recorderRead (words-back (recorderWords r) b (recorder-words r f)) ∙ recorder-same r f
 
--- the words of a hint recorder, whatever its free words are, are words, and what is read from them is it
-free-words : (r : HintRecorder) (free : List ℕ) → HintRecorderFits r → ((k : ℕ) → Fits64 (at free k)) → Each Fits64 (withFree free (hintRecorderWords r))
-unfolding withFree hintRecorderWords hintRecorderArray
-free-words r free f g =
-    one (wide32 (f .spacing)) (one (last-fits (r .last)) (one (wide32 (f .last)) (one (tail-fits (r .tail)) (one (wide32 (f .lsn)) (one (wide32 (f .number)) (one (wide32 (f .count)) (one (g 7) (one (g 8) (one (g 9) (one (g 10) (one (zero) (one (zero) (one (zero) (one (zero) (one (zero) (one (zero) (one (zero) (one (zero) (one (zero) (one (zero) (one (zero) (one (zero) (one (zero) (none))))))))))))))))))))))))
+-- the words of a hint recorder, whatever words 7 to 10 are, are words, and what is read from them is it
+told-words : (r : HintRecorder) (f : Told) → HintRecorderFits r → ToldFits f → Each Fits64 (hintRecorderArray r f)
+unfolding hintRecorderArray
+told-words r f g h =
+    one (wide32 (g .spacing)) (one (last-fits (r .last)) (one (wide32 (g .last)) (one (tail-fits (r .tail)) (one (wide32 (g .lsn))
+    (one (wide32 (g .number)) (one (wide32 (g .count)) (one (h .found) (one (h .number) (one (h .offset) (one (h .why) (zeros 13)))))))))))
 
-free-same : (r : HintRecorder) (free : List ℕ) → HintRecorderFits r → hintRecorderRead (withFree free (hintRecorderWords r)) ≡ r
-unfolding hintRecorderRead withFree hintRecorderWords hintRecorderArray
-free-same r free f =
-    rw (
-      low32 _ (f .spacing),
-      last-back (r .last) (f .last),
-      tail-back (r .tail) (f .lsn) (f .number) (f .mark),
-      low32 _ (f .count),
-    )
-
-pub none-free : NoneFree
-unfolding withFree hintRecorderWords hintRecorderArray
-none-free r = refl
-
-none-fits : (k : ℕ) → Fits64 (at [] k)
-none-fits k = zero
-
-pub hint-recorder-back : HintRecorderBack
+told-same : (r : HintRecorder) (f : Told) → HintRecorderFits r → hintRecorderRead (hintRecorderArray r f) ≡ r
 unfolding hintRecorderRead hintRecorderArray
-hint-recorder-back r f b g h =
-    let s : Each Fits64 (hintRecorderArray r f) =
-    one (wide32 (g .spacing)) (one (last-fits (r .last)) (one (wide32 (g .last)) (one (tail-fits (r .tail)) (one (wide32 (g .lsn)) (one (wide32 (g .number)) (one (wide32 (g .count)) (one (h .found) (one (h .number) (one (h .offset) (one (h .why) (one (zero) (one (zero) (one (zero) (one (zero) (one (zero) (one (zero) (one (zero) (one (zero) (one (zero) (one (zero) (one (zero) (one (zero) (one (zero) (none)))))))))))))))))))))))) in
+told-same r f g =
     rw (
-      words-back (hintRecorderArray r f) b s,
       low32 _ (g .spacing),
       last-back (r .last) (g .last),
       tail-back (r .tail) (g .lsn) (g .number) (g .mark),
       low32 _ (g .count),
     )
+
+pub hint-recorder-back : HintRecorderBack
+unfolding hintRecorderArray
+hint-recorder-back r f b g h = ap hintRecorderRead (words-back (hintRecorderArray r f) b (told-words r f g h)) ∙ told-same r f g
+
+-- its free words are words 7 to 10
+abbrev toldIn : List ℕ → Told
+toldIn free = told (at free 7) (at free 8) (at free 9) (at free 10)
+
+free-told : (r : HintRecorder) (free : List ℕ) → withFree free (hintRecorderWords r) ≡ hintRecorderArray r (toldIn free)
+unfolding withFree hintRecorderWords hintRecorderArray
+free-told r free = refl
+
+pub none-free : NoneFree
+unfolding withFree hintRecorderWords hintRecorderArray
+none-free r = refl
 
 -- ---- what is written over a block is a head
 pub words-head : (again : List ℕ → List ℕ) (ws b : List ℕ) → length ws ≡ 24 → Each Fits64 ws → again ws ≡ ws → 192 ≤ length b → isHead again (over (blockOf ws) b) ≡ true
@@ -241,8 +251,10 @@ free-length r free = refl
 pub hint-recorder-is-head : HintRecorderIsHead
 hint-recorder-is-head r free b f g h =
     let ws = withFree free (hintRecorderWords r) in
-    words-head _ ws b (free-length r free) (free-words r free f g)
-    (ap (λ (x : HintRecorder). withFree ws (hintRecorderWords x)) (free-same r free f) ∙ free-again r free) h
+    let fits : ToldFits (toldIn free) = record { found = g 7; number = g 8; offset = g 9; why = g 10 } in
+    let same : hintRecorderRead ws ≡ r = ap hintRecorderRead (free-told r free) ∙ told-same r (toldIn free) f in
+    words-head _ ws b (free-length r free) (rw (free-told r free) (told-words r (toldIn free) f fits))
+    (ap (λ (x : HintRecorder). withFree ws (hintRecorderWords x)) same ∙ free-again r free) h
 
 -- the words of a head are what is read from them, written again
 pub head-words : HeadWords

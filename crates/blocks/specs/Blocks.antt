@@ -66,19 +66,24 @@ unfoldable pub tailWords : Tail → Marked
 tailWords tail.Empty = marked 0 0 0
 tailWords (tail.Hint h) = marked 1 (h .lsn) (h .number)
 
+-- the seven words of an area, then ws
+abbrev pub withArea : Area → List ℕ → List ℕ
+withArea a ws = a .key .slot ∷ a .key .channels ∷ a .key .start ∷ a .key .end ∷ a .key .sectors ∷ a .start ∷ a .end ∷ ws
+
 abbrev pub indexArray : AreaIndex → Marked → Marked → Marked → List ℕ
 indexArray x e f i =
-    x .area .key .slot ∷ x .area .key .channels ∷ x .area .key .start ∷ x .area .key .end ∷ x .area .key .sectors ∷ x .area .start ∷ x .area .end
-    ∷ x .interval ∷ x .budget ∷ x .spacing ∷ x .most ∷ x .checkpoints ∷ x .frames ∷ x .parts ∷ x .malformed ∷ x .hints ∷ x .confirmed
-    ∷ e .mark ∷ e .first ∷ e .second ∷ f .mark ∷ f .first ∷ i .mark ∷ i .first ∷ []
+    withArea (x .area)
+    (x .interval ∷ x .budget ∷ x .spacing ∷ x .most ∷ x .checkpoints ∷ x .frames ∷ x .parts ∷ x .malformed ∷ x .hints ∷ x .confirmed
+    ∷ e .mark ∷ e .first ∷ e .second ∷ f .mark ∷ f .first ∷ i .mark ∷ i .first ∷ [])
 
 unfoldable pub indexWords : AreaIndex → List ℕ
 indexWords x = indexArray x (endWords (x .ending)) (fingerprintWords (x .fingerprint)) (imageWords (x .image))
 
 abbrev pub recorderArray : Recorder → Marked → List ℕ
 recorderArray x m =
-    x .area .key .slot ∷ x .area .key .channels ∷ x .area .key .start ∷ x .area .key .end ∷ x .area .key .sectors ∷ x .area .start ∷ x .area .end
-    ∷ x .interval ∷ x .budget ∷ x .first ∷ x .from ∷ x .checkpoints ∷ x .frames ∷ x .parts ∷ m .mark ∷ m .first ∷ m .second ∷ 0 ∷ 0 ∷ 0 ∷ 0 ∷ 0 ∷ 0 ∷ 0 ∷ []
+    withArea (x .area)
+    (x .interval ∷ x .budget ∷ x .first ∷ x .from ∷ x .checkpoints ∷ x .frames ∷ x .parts ∷ m .mark ∷ m .first ∷ m .second
+    ∷ 0 ∷ 0 ∷ 0 ∷ 0 ∷ 0 ∷ 0 ∷ 0 ∷ [])
 
 unfoldable pub recorderWords : Recorder → List ℕ
 recorderWords x = recorderArray x (modeWords (x .mode))
