@@ -3,31 +3,8 @@ use borrow.Author.Needs.{needs}
 use Rattle.player_record.proofs.block.put_kept.Statement.{statement}
 use Rattle.player_record.proofs.block.put_kept.Tie as tie
 
-returns : tie.Need-returns
-unfolding keptInto
-returns c =
-    let arm : tie.After-kept = search in
-    rw (arm .kept .given .1)
-
-returns-2 : tie.Need-returns-2
-unfolding keptInto
-returns-2 c =
-    let answered : tie.After-write-words = search in
-    let word : tie.After-one-word = search in
-    let arm : tie.After-enum-told = search in
-    rw (arm .enum-told .given .1, answered .write-words .ensures, word .one-word .ensures)
-
-returns-3 : tie.Need-returns-3
-unfolding keptInto
-returns-3 c =
-    let answered : tie.After-write-words3 = search in
-    let word : tie.After-one-word2 = search in
-    let put : tie.After-write-words2 = search in
-    let made : tie.After-index-words = search in
-    let arm : tie.After-kept2 = search in
-    rw (arm .kept2 .given .1, answered .write-words3 .ensures, word .one-word2 .ensures, put .write-words2 .ensures, made .index-words .ensures)
-
 pub put-kept-spec : {M : Type 1} → statement M
+unfolding keptInto
 put-kept-spec =
     tie.close
     (tie.spec
@@ -40,9 +17,19 @@ put-kept-spec =
     (λ c κs. search needs)
     (λ c κs. search needs)
     (λ c κs. search needs)
-    returns
+    (λ c. let arm : tie.After-kept = search in rw (arm .kept .given .1))
     (λ c. search needs)
-    returns-2
+    (λ c.
+    let answered : tie.After-write-words = search in
+    let word : tie.After-one-word = search in
+    let arm : tie.After-enum-told = search in
+    rw (arm .enum-told .given .1, answered .write-words .ensures, word .one-word .ensures))
     (λ c. search needs)
     (λ c. search needs)
-    returns-3)
+    (λ c.
+    let answered : tie.After-write-words3 = search in
+    let word : tie.After-one-word2 = search in
+    let put : tie.After-write-words2 = search in
+    let made : tie.After-index-words = search in
+    let arm : tie.After-kept2 = search in
+    rw (arm .kept2 .given .1, answered .write-words3 .ensures, word .one-word2 .ensures, put .write-words2 .ensures, made .index-words .ensures)))
