@@ -317,9 +317,3 @@ pub fn is_complete(x: AreaIndex) -> bool
     let ending = x.ending;
     is_complete_end(ending)
 }
-
-pub fn checkpoint_count(x: AreaIndex) -> u32
-    ensures { λ r. ⌜ r ≡ x .checkpoints ⌝ }
-{
-    x.checkpoints
-}
