@@ -417,6 +417,7 @@ seek_shelf_answer seek_raw_shelf_enter(seek_shelf_record *table, size_t records,
 seek_shelf_answer seek_raw_shelf_jump(seek_shelf_record *table, size_t records, seek_shelf shelf, seek_shelf_record list);
 uint32_t seek_raw_due(SEEK_IN(block), SEEK_OUT(answer));
 uint32_t seek_raw_boundary(SEEK_IN(head), uint32_t number, SEEK_OUT(answer));
+uint32_t seek_raw_frontier(SEEK_IN(head), SEEK_OUT(answer));
 uint32_t seek_raw_version(void);
 
 #define SEEK_LENT_(t) (t).at, (t).length
@@ -472,13 +473,11 @@ static inline int seek_boundary(const seek_list *l, uint32_t j, uint64_t *lsn)
     return there;
 }
 
-/* How far the list reaches. */
+/* How far the list reaches; 0 where its area is refused (1). */
 static inline uint64_t seek_frontier(const seek_list *l)
 {
-    uint64_t lsn, n = seek_checkpoint_count(l);
-    if (seek_is_complete(l))
-        return seek_word(l->head, 6);
-    return n != 0 && seek_boundary(l, SEEK_CAST_(uint32_t, n - 1), &lsn) ? lsn : seek_word(l->head, 5);
+    uint8_t answer[SEEK_BLOCK] = {0};
+    return seek_raw_frontier(l->head, SEEK_BLOCK, answer, SEEK_BLOCK) == 0 ? seek_word(answer, 1) : 0;
 }
 
 /* ---- what a list's tables hold, by number from 0 on

@@ -179,6 +179,7 @@ static uint64_t call_take(void) { return seek_raw_take(LENT(HINTER), LENT(ANSWER
 static uint64_t call_keep(void) { return seek_raw_keep_confirmation(LENT(HEAD), v[0], (uint32_t)v[1], v[2], LENT(ANSWER), TABLES); }
 static uint64_t call_hint(void) { return seek_raw_hint(LENT(HEAD), (uint32_t)v[0], (uint32_t)v[1], (uint32_t)v[2], LENT(ANSWER), TABLES); }
 static uint64_t call_due(void) { return seek_raw_due(LENT(RECORDER), LENT(ANSWER)); }
+static uint64_t call_frontier(void) { return seek_raw_frontier(LENT(HEAD), LENT(ANSWER)); }
 static uint64_t call_boundary(void) { return seek_raw_boundary(LENT(HEAD), (uint32_t)v[0], LENT(ANSWER)); }
 
 static uint64_t call_contents(void) { return seek_raw_disc_contents(LENT(DISC), LENT(ANSWER)); }
@@ -267,6 +268,7 @@ static const struct {
     {"shelf_jump", call_shelf_jump, BIT(SHELF), BIT(SHELF), 0, {3, 9, 100}},
     {"due", call_due, BIT(RECORDER) | BIT(ANSWER), BIT(ANSWER), 0, {0}},
     {"boundary", call_boundary, BIT(HEAD) | BIT(ANSWER), BIT(ANSWER), 0, {3}},
+    {"frontier", call_frontier, BIT(HEAD) | BIT(ANSWER), BIT(ANSWER), 0, {3}},
 };
 enum { CALLS = sizeof calls / sizeof *calls };
 

@@ -199,5 +199,6 @@ unsafe extern "C" {
     pub fn seek_raw_shelf_jump(table: *mut ShelfRecord, records: usize, shelf: ShelfNumbers, list: ShelfRecord) -> ShelfAnswer;
     pub fn seek_raw_due(block: *const u8, block_length: usize, answer: *mut u8, answer_length: usize) -> u32;
     pub fn seek_raw_boundary(head: *const u8, head_length: usize, number: u32, answer: *mut u8, answer_length: usize) -> u32;
+    pub fn seek_raw_frontier(head: *const u8, head_length: usize, answer: *mut u8, answer_length: usize) -> u32;
     pub fn seek_raw_version() -> u32;
 }

@@ -137,11 +137,10 @@ impl List {
 
     /// How far the list reaches: the end of its area where it is complete, else its last checkpoint's sector, else the area's start.
     pub fn frontier(&self) -> u64 {
-        if self.is_complete() {
-            return self.area().end;
-        }
-        let last = self.checkpoints().checked_sub(1).and_then(|j| self.boundary(j as u32));
-        last.unwrap_or(self.area().start)
+        let mut b = [0; BLOCK];
+        // Safety: head and block are arrays of this length, and the block overlaps nothing.
+        let n = unsafe { raw::seek_raw_frontier(self.head.as_ptr(), BLOCK, b.as_mut_ptr(), BLOCK) };
+        if n == 0 { word(&b, 1) } else { 0 }
     }
 
     /// Checkpoint number j.

@@ -10,17 +10,18 @@ use Rattle.rules.specs.declared.ImageId.{ImageId}
 use Rattle.rules.specs.declared.Recorder.{Recorder}
 use Rattle.rules.specs.declared.UnderAssembly.{UnderAssembly}
 use Rattle.blocks.specs.Blocks.{isIndex, isRecorder}
-use Rattle.tables.specs.Index.{Tables}
+use Rattle.tables.specs.Index.{Tables, frontierIn, frontierAnswer}
 use Rattle.rules.specs.declared.Recorded.{Recorded}
 use Rattle.tables.specs.Recorder.{RecorderTables}
 use Rattle.recorder.specs.Recorder.{startedIn, finishedIn, recorderOut, recordIn, dueAt, checkpointLsn}
 use Rattle.rules.specs.declared.Boundary.{Boundary}
+use Rattle.rules.specs.declared.FrontierLsn.{FrontierLsn}
 use Rattle.rules.specs.declared.Absorbed.{Absorbed}
 use Rattle.absorb.specs.Absorb.{absorbedOut, absorbIn}
-use Rattle.player_record.specs.Block.{calledBoth, absorbedInto, boundaryOf, boundaryWords}
+use Rattle.player_record.specs.Block.{calledBoth, absorbedInto, boundaryOf, lsnWords, boundaryWords}
 use Rattle.blocks.specs.Calls.{called, into, headIndex, headRecorder}
 use Rattle.blocks.proofs.calls.Blocks.{long-enough, is-head}
-use Rattle.player_record.specs.PlayerRecord.{calledFour, recordedInto, recorderCall, recordCall, finishCall, dueCall, boundaryCall, calledAbsorbed, absorbCall}
+use Rattle.player_record.specs.PlayerRecord.{calledFour, recordedInto, recorderCall, recordCall, finishCall, dueCall, boundaryCall, frontierCall, calledAbsorbed, absorbCall}
 
 module _ (b b' : List ℕ) (n : ℕ) (q : Recorded) (p : called n b' ≡ recordedInto b q) where
   pub recorder-done : 192 ≤ length b → (h : List ℕ) → isIndex h ≡ true → (x : AreaIndex) (t : Tables) (from : ℕ) → q ≡ startedIn x t from → x ≡ headIndex h
@@ -47,6 +48,11 @@ module _ (b a a' : List ℕ) (n : ℕ) (l : 192 ≤ length a) (q : Boundary) (p 
   pub boundary-done : isIndex b ≡ true → (x : AreaIndex) (j : ℕ) → q ≡ checkpointLsn x j → x ≡ headIndex b → called n a' ≡ boundaryCall b j a
   unfolding boundaryCall
   boundary-done g x j e z = is-head _ _ _ g (long-enough a _ _ l (rw (e, z) at p))
+
+pub frontier-done : (h a a' : List ℕ) (n : ℕ) → 192 ≤ length a → (q : FrontierLsn) → called n a' ≡ into lsnWords a (frontierAnswer q)
+    → isIndex h ≡ true → (x : AreaIndex) → frontierAnswer q ≡ frontierIn x → x ≡ headIndex h → called n a' ≡ frontierCall h a
+unfolding frontierCall
+frontier-done h a a' n l q p g x e z = is-head _ _ _ g (long-enough a _ _ l (rw (e, z) at p))
 
 -- ---- a list and a recorder
 module _ (h h' b b' : List ℕ) (n : ℕ) (g : isIndex h ≡ true) (l : isRecorder b ≡ true) (x : AreaIndex) (r : Recorder) (t : Tables) (u : RecorderTables) where

@@ -8,12 +8,12 @@ use Rattle.rules.specs.declared.Recorded.{Recorded}
 use Rattle.rules.specs.declared.Confirmation.{Confirmation}
 use Rattle.rules.specs.Tests.{numberOf}
 use Rattle.blocks.specs.Blocks.{recorderWords, hintRecorderWords, isIndex, isRecorder, isHintRecorder}
-use Rattle.tables.specs.Index.{Tables}
+use Rattle.tables.specs.Index.{Tables, frontierIn}
 use Rattle.tables.specs.Recorder.{RecorderTables}
 use Rattle.recorder.specs.Recorder.{startedIn, finishedIn, recordIn, dueAt, checkpointLsn}
 use Rattle.absorb.specs.Absorb.{absorbIn}
 use Rattle.blocks.specs.Calls.{Called, called, into, inBlock, inHead, headIndex, headRecorder, headHintRecorder}
-use Rattle.player_record.specs.Block.{CalledBoth, calledBoth, recordedOf, absorbedInto, boundaryOf, boundaryWords, seenOf, sawOf, sectorWords, createdOf, createdWords, hintWords, takenInto, keptInto}
+use Rattle.player_record.specs.Block.{CalledBoth, calledBoth, recordedOf, absorbedInto, boundaryOf, lsnWords, boundaryWords, seenOf, sawOf, sectorWords, createdOf, createdWords, hintWords, takenInto, keptInto}
 use Rattle.index.specs.Index.{madeOf}
 use Rattle.hint.specs.Hint.{hintIn}
 use Rattle.hint_recorder.specs.HintRecorder.{SeenOut, SawOut, createdIn, seeIn, flushIn, takeIn}
@@ -61,6 +61,11 @@ dueCall block answer =
 unfoldable pub boundaryCall : List ℕ → ℕ → List ℕ → Called
 boundaryCall head j answer =
     inHead (isIndex head) (called 3 answer) (inBlock answer (called 3 answer) (into boundaryWords answer (boundaryOf (checkpointLsn (headIndex head) j))))
+
+-- how far a list reaches
+unfoldable pub frontierCall : List ℕ → List ℕ → Called
+frontierCall head answer =
+    inHead (isIndex head) (called 3 answer) (inBlock answer (called 3 answer) (into lsnWords answer (frontierIn (headIndex head))))
 
 -- ---- absorb
 -- the head, the recorder's block, and the list's tables; the recorder's are only read

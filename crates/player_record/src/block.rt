@@ -11,6 +11,7 @@ use rules::Assembling;
 use rules::Boundary;
 use rules::Created;
 use rules::FrameKind;
+use rules::FrontierLsn;
 use rules::ImageId;
 use rules::Kept;
 use rules::MAX_NEXT_ACCEPTABLE;
@@ -29,6 +30,7 @@ ghost use Prim.Native.Nat.{_≤_};
 ghost use lib.ListN.{length};
 ghost use Rattle.blocks.specs.Blocks.{imageRead, recorderWords, hintRecorderWords};
 ghost use Rattle.rules.specs.Tests.{numberOf};
+ghost use Rattle.tables.specs.Index.{frontierAnswer};
 ghost use Rattle.index.specs.Index.{madeOf};
 ghost use Rattle.hint.specs.Hint.{namedOf, answerOf};
 ghost use Rattle.blocks.specs.Calls.{called, into};
@@ -301,6 +303,20 @@ fn lsn_words(lsn: u64) -> [u64; 24]
         0,
         0,
     ]
+}
+
+pub fn put_frontier(answer: &mut [u8], frontier: FrontierLsn) -> u32
+    requires { ⌜ 192 ≤ length (now answer) ⌝ }
+    ensures { λ r. ⌜ called r (now (answer .exit))
+        ≡ into lsnWords (now (answer .entry)) (frontierAnswer frontier) ⌝ }
+{
+    match frontier {
+        FrontierLsn::Refused(n) => n,
+        FrontierLsn::Lsn(lsn) => {
+            write_words(answer, lsn_words(lsn));
+            0
+        }
+    }
 }
 
 // Where there is no such boundary, the words are 0.

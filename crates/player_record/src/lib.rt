@@ -6,6 +6,7 @@ use crate::block::frame_from;
 use crate::block::image_given;
 use crate::block::put_absorbed;
 use crate::block::put_boundary;
+use crate::block::put_frontier;
 use crate::block::put_recorded;
 use blocks::HEAD_BYTES;
 use blocks::calls::index_in;
@@ -19,7 +20,7 @@ ghost use Rattle.tables.specs.Index.{tables};
 ghost use Rattle.tables.specs.Recorder.{recorderTables};
 ghost use Rattle.blocks.specs.Calls.{called};
 ghost use Rattle.player_record.specs.Block.{frameFrom};
-ghost use Rattle.player_record.specs.PlayerRecord.{calledFour, endState, recorderCall, recordCall, finishCall, dueCall, boundaryCall, calledAbsorbed, absorbCall};
+ghost use Rattle.player_record.specs.PlayerRecord.{calledFour, endState, recorderCall, recordCall, finishCall, dueCall, boundaryCall, frontierCall, calledAbsorbed, absorbCall};
 
 // The recorder of a list, from an LSN on, into its block.
 #[no_mangle]
@@ -168,6 +169,22 @@ pub extern "C" fn seek_raw_boundary(head: &[u8], number: u32, answer: &mut [u8])
     let x = index_in(head);
     let lsn = recorder::boundary::checkpoint_lsn(x, number);
     put_boundary(answer, lsn)
+}
+
+// How far a list reaches, from its head alone.
+#[no_mangle]
+pub extern "C" fn seek_raw_frontier(head: &[u8], answer: &mut [u8]) -> u32
+    ensures { λ r. ⌜ called r (now (answer .exit)) ≡ frontierCall (now (head .entry)) (now (answer .entry)) ⌝ }
+{
+    if !is_index(head) {
+        return 3;
+    }
+    if answer.len() < HEAD_BYTES {
+        return 3;
+    }
+    let x = index_in(head);
+    let lsn = index::frontier(x);
+    put_frontier(answer, lsn)
 }
 
 // The version of the library, as SEEK_VERSION in include/seek.h.
