@@ -1,20 +1,12 @@
+use mathlib.Core.Path.{ap}
+use Rattle.blocks.proofs.calls.Into.{refused, accepted}
 use Rattle.plan.specs.Plan.{plannedOf}
-use Rattle.blocks.specs.Calls.{into}
 use borrow.Author.Needs.{needs}
 use Rattle.player.proofs.block.put_plan.Statement.{statement}
 use Rattle.player.proofs.block.put_plan.Tie as tie
 
-returns : tie.Need-returns
-unfolding into plannedOf
-returns c = rw (c .before .planned .given .1)
-
-returns-2 : tie.Need-returns-2
-unfolding into plannedOf
-returns-2 c =
-    let arm : tie.After-planned2 = search in
-    rw (arm .planned2 .given .1, c .before .before .write-words .ensures, c .before .before .before .plan-words .ensures)
-
 pub put-plan-spec : {M : Type 1} → statement M
+unfolding plannedOf
 put-plan-spec =
     tie.close
     (tie.spec
@@ -22,6 +14,10 @@ put-plan-spec =
     (λ c. search needs)
     (λ c κs. search needs)
     (λ c κs. search needs)
-    returns
+    (λ c. let arm : tie.After-planned = search in refused _ _ (ap plannedOf (arm .planned .given .1)))
     (λ c. search needs)
-    returns-2)
+    (λ c.
+    let put : tie.After-write-words = search in
+    let made : tie.After-plan-words = search in
+    let arm : tie.After-planned2 = search in
+    accepted _ _ (ap plannedOf (arm .planned2 .given .1)) (put .write-words .ensures) (made .plan-words .ensures)))
