@@ -135,10 +135,11 @@ index-words : (x : AreaIndex) → IndexFits x → Each Fits64 (indexWords x)
 unfolding indexWords
 index-words x f =
     area-words (x .area) _ (f .area)
-    (one (wide32 (f .interval)) (one (f .budget) (one (wide32 (f .spacing)) (one (wide32 (f .most)) (one (wide32 (f .checkpoints))
-    (one (wide32 (f .frames)) (one (wide32 (f .parts)) (one (wide32 (f .malformed)) (one (wide32 (f .hints)) (one (wide32 (f .confirmed))
-    (one (mark-fits (x .ending)) (one (wide32 (f .threshold)) (one (f .counted) (one (print-fits (x .fingerprint)) (one (f .fingerprint)
-    (one (image-fits (x .image)) (one (f .image) none)))))))))))))))))
+    (one (wide32 (f .interval)) (one (f .budget) (one (wide32 (f .spacing)) (one (wide32 (f .most))
+    (one (wide32 (f .checkpoints)) (one (wide32 (f .frames)) (one (wide32 (f .parts)) (one (wide32 (f .malformed))
+    (one (wide32 (f .hints)) (one (wide32 (f .confirmed)) (one (mark-fits (x .ending)) (one (wide32 (f .threshold))
+    (one (f .counted) (one (print-fits (x .fingerprint)) (one (f .fingerprint) (one (image-fits (x .image))
+    (one (f .image) none)))))))))))))))))
 
 index-same : (x : AreaIndex) → IndexFits x → indexRead (indexWords x) ≡ x
 unfolding indexRead indexWords
@@ -168,9 +169,9 @@ recorder-words : (r : Recorder) → RecorderFits r → Each Fits64 (recorderWord
 unfolding recorderWords
 recorder-words r f =
     area-words (r .area) _ (f .area)
-    (one (wide32 (f .interval)) (one (f .budget) (one (wide32 (f .first)) (one (f .from) (one (wide32 (f .checkpoints))
-    (one (wide32 (f .frames)) (one (wide32 (f .parts)) (one (mode-fits (r .mode)) (one (wide32 (f .threshold)) (one (f .counted)
-    (zeros 7)))))))))))
+    (one (wide32 (f .interval)) (one (f .budget) (one (wide32 (f .first)) (one (f .from)
+    (one (wide32 (f .checkpoints)) (one (wide32 (f .frames)) (one (wide32 (f .parts)) (one (mode-fits (r .mode))
+    (one (wide32 (f .threshold)) (one (f .counted) (zeros 7)))))))))))
 
 recorder-same : (r : Recorder) → RecorderFits r → recorderRead (recorderWords r) ≡ r
 unfolding recorderRead recorderWords
@@ -193,8 +194,9 @@ recorder-back r b f = ap recorderRead (words-back (recorderWords r) b (recorder-
 told-words : (r : HintRecorder) (f : Told) → HintRecorderFits r → ToldFits f → Each Fits64 (hintRecorderArray r f)
 unfolding hintRecorderArray
 told-words r f g h =
-    one (wide32 (g .spacing)) (one (last-fits (r .last)) (one (wide32 (g .last)) (one (tail-fits (r .tail)) (one (wide32 (g .lsn))
-    (one (wide32 (g .number)) (one (wide32 (g .count)) (one (h .found) (one (h .number) (one (h .offset) (one (h .why) (zeros 13)))))))))))
+    one (wide32 (g .spacing)) (one (last-fits (r .last)) (one (wide32 (g .last)) (one (tail-fits (r .tail))
+    (one (wide32 (g .lsn)) (one (wide32 (g .number)) (one (wide32 (g .count)) (one (h .found) (one (h .number)
+    (one (h .offset) (one (h .why) (zeros 13)))))))))))
 
 told-same : (r : HintRecorder) (f : Told) → HintRecorderFits r → hintRecorderRead (hintRecorderArray r f) ≡ r
 unfolding hintRecorderRead hintRecorderArray
@@ -208,7 +210,8 @@ told-same r f g =
 
 pub hint-recorder-back : HintRecorderBack
 unfolding hintRecorderArray
-hint-recorder-back r f b g h = ap hintRecorderRead (words-back (hintRecorderArray r f) b (told-words r f g h)) ∙ told-same r f g
+hint-recorder-back r f b g h =
+    ap hintRecorderRead (words-back (hintRecorderArray r f) b (told-words r f g h)) ∙ told-same r f g
 
 -- its free words are words 7 to 10
 abbrev toldIn : List ℕ → Told

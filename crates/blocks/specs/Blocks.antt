@@ -73,8 +73,8 @@ withArea a ws = a .key .slot ∷ a .key .channels ∷ a .key .start ∷ a .key .
 abbrev pub indexArray : AreaIndex → Marked → Marked → Marked → List ℕ
 indexArray x e f i =
     withArea (x .area)
-    (x .interval ∷ x .budget ∷ x .spacing ∷ x .most ∷ x .checkpoints ∷ x .frames ∷ x .parts ∷ x .malformed ∷ x .hints ∷ x .confirmed
-    ∷ e .mark ∷ e .first ∷ e .second ∷ f .mark ∷ f .first ∷ i .mark ∷ i .first ∷ [])
+    (x .interval ∷ x .budget ∷ x .spacing ∷ x .most ∷ x .checkpoints ∷ x .frames ∷ x .parts ∷ x .malformed ∷ x .hints
+    ∷ x .confirmed ∷ e .mark ∷ e .first ∷ e .second ∷ f .mark ∷ f .first ∷ i .mark ∷ i .first ∷ [])
 
 unfoldable pub indexWords : AreaIndex → List ℕ
 indexWords x = indexArray x (endWords (x .ending)) (fingerprintWords (x .fingerprint)) (imageWords (x .image))
@@ -82,8 +82,8 @@ indexWords x = indexArray x (endWords (x .ending)) (fingerprintWords (x .fingerp
 abbrev pub recorderArray : Recorder → Marked → List ℕ
 recorderArray x m =
     withArea (x .area)
-    (x .interval ∷ x .budget ∷ x .first ∷ x .from ∷ x .checkpoints ∷ x .frames ∷ x .parts ∷ m .mark ∷ m .first ∷ m .second
-    ∷ 0 ∷ 0 ∷ 0 ∷ 0 ∷ 0 ∷ 0 ∷ 0 ∷ [])
+    (x .interval ∷ x .budget ∷ x .first ∷ x .from ∷ x .checkpoints ∷ x .frames ∷ x .parts ∷ m .mark ∷ m .first
+    ∷ m .second ∷ 0 ∷ 0 ∷ 0 ∷ 0 ∷ 0 ∷ 0 ∷ 0 ∷ [])
 
 unfoldable pub recorderWords : Recorder → List ℕ
 recorderWords x = recorderArray x (modeWords (x .mode))

@@ -1,4 +1,4 @@
--- What the calls for C share: an answer as a number and a block of 192 bytes, 24 words; numbers from blocks and from arguments.
+-- What the calls for C share: an answer as a number and a block of 24 words; numbers from blocks and from arguments.
 use Prim.Native.Nat.{ℕ}
 use mathlib.Core.Bool.{Bool, cond}
 use mathlib.Core.List.{List, [], _∷_}
@@ -46,7 +46,11 @@ headHintRecorder b = hintRecorderRead (wordsIn 24 b)
 -- an area's seven numbers
 abbrev pub givenArea : ℕ → ℕ → ℕ → ℕ → ℕ → ℕ → ℕ → Area
 givenArea slot channels ks ke sectors s e =
-    record { key = record { slot = slot; start = ks; end = ke; channels = channels; sectors = sectors }; start = s; end = e }
+    record {
+      key = record { slot = slot; start = ks; end = ke; channels = channels; sectors = sectors };
+      start = s;
+      end = e;
+    }
 
 -- ---- words and numbers of answers
 -- one word, and words of 0

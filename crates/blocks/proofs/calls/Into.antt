@@ -13,6 +13,7 @@ module _ {A : Type 0} (words : A → List ℕ) (b : List ℕ) {r : Answer A} whe
   refused e = rw e
 
   -- ws are written, and out is the block afterwards
-  pub accepted : {x : A} {ws out : List ℕ} → r ≡ Accepted x → out ≡ over (blockOf ws) b → ws ≡ words x → called 0 out ≡ into words b r
+  pub accepted : {x : A} {ws out : List ℕ} → r ≡ Accepted x → out ≡ over (blockOf ws) b → ws ≡ words x
+      → called 0 out ≡ into words b r
   unfolding into
   accepted e o w = rw (e, o, w)
