@@ -38,7 +38,8 @@ use Rattle.rules.specs.declared.Saw.the-variants as saw
 use Rattle.rules.specs.declared.Seen.the-variants as seen
 use Rattle.rules.specs.declared.Taken.the-variants as taken
 use Rattle.rules.specs.declared.Created.the-variants as created
-use Rattle.hint_recorder.specs.HintRecorder.{seenOut, seenOutOf, sawOut, sawOutOf, seeIn, flushIn, takenFrom, takeIn, createdFrom, createdIn}
+use Rattle.hint_recorder.specs.HintRecorder.{seenOut, seenOutOf, sawOut, sawOutOf, seeIn, flushIn}
+use Rattle.hint_recorder.specs.HintRecorder.{takenFrom, takeIn, createdFrom, createdIn}
 
 last-back : (l : LastListed) → lastFrom (lastIn l) ≡ l
 unfolding lastFrom lastIn
@@ -139,9 +140,9 @@ module _ (r : HintRecorder) (t : List ℕ) (p : Roomy r t) (b : Bytes t) where
     unfolding lastIn tailIn
     hint-listed z w v = rw (← both-are, z, v) (step-more r t p b (Number (h .number)) tail.Empty h (room-left z) w)
 
-    pub hint-tailed : q ≡ false → Steps (record
-        { spacing = r .spacing; last = r .last; tail = tail.Hint h; count = r .count }) (hintSeen (hintRecorderIn r t) h) t
-        t
+    pub hint-tailed : q ≡ false
+        → Steps (record { spacing = r .spacing; last = r .last; tail = tail.Hint h; count = r .count })
+        (hintSeen (hintRecorderIn r t) h) t t
     unfolding tailIn
     hint-tailed z = rw (← both-are, z) (step-none r t p b (r .last) (tail.Hint h))
 

@@ -46,7 +46,8 @@ fn refuses(r: HintRecorder, list: &[u8]) -> u32
 // A hint listed, under the bound, or made the tail.
 fn list_or_keep(r: HintRecorder, h: Hint, list: &mut [u8]) -> HintRecorder
     requires { ⌜ Roomy r (now list) ⌝ }
-    ensures { λ q. ⌜ Steps q (hintSeen (hintRecorderIn r (now (list .entry))) h) (now (list .entry)) (now (list .exit)) ⌝ }
+    ensures { λ q. ⌜
+        Steps q (hintSeen (hintRecorderIn r (now (list .entry))) h) (now (list .entry)) (now (list .exit)) ⌝ }
 {
     let last = r.last;
     if and(is_spaced(last, r.spacing, h.number), has_room(r.count)) {
