@@ -42,23 +42,23 @@ module _ {M : Type 1} (𝓤 : URA M) (H : Heap 𝓤) (𝓜 : Model 𝓤 H) (𝓖
   pub clamped-known : γ clamped-def.name ≡ clamped-def.routine → Triple 𝓤 (tables 𝓤 H 𝓜 𝓡 γ .C clamped-def.name)
       (tripleOf 𝓤 H (𝓖 .A) clamped.signature (clamped.spec 𝓤 H (𝓖 .A) (𝓜 .mem) (𝓡 .run)))
   clamped-known p =
-      cited 𝓤 H (tripleOf 𝓤 H (𝓖 .A) clamped.signature (clamped.spec 𝓤 H (𝓖 .A) (𝓜 .mem) (𝓡 .run))) 𝓜 𝓡 γ clamped-def.name
-      clamped-def.routine p (clamped-met.met 𝓤 H 𝓜 𝓖 𝓡)
+      cited 𝓤 H (tripleOf 𝓤 H (𝓖 .A) clamped.signature (clamped.spec 𝓤 H (𝓖 .A) (𝓜 .mem) (𝓡 .run))) 𝓜 𝓡 γ
+      clamped-def.name clamped-def.routine p (clamped-met.met 𝓤 H 𝓜 𝓖 𝓡)
 
   pub kept-of-known : γ kept-of-def.name ≡ kept-of-def.routine → Triple 𝓤 (tables 𝓤 H 𝓜 𝓡 γ .C kept-of-def.name)
       (tripleOf 𝓤 H (𝓖 .A) kept-of.signature (kept-of.spec 𝓤 H (𝓖 .A) (𝓜 .mem) (𝓡 .run)))
   kept-of-known p =
-      cited 𝓤 H (tripleOf 𝓤 H (𝓖 .A) kept-of.signature (kept-of.spec 𝓤 H (𝓖 .A) (𝓜 .mem) (𝓡 .run))) 𝓜 𝓡 γ kept-of-def.name
-      kept-of-def.routine p (kept-of-met.met 𝓤 H 𝓜 𝓖 𝓡)
+      cited 𝓤 H (tripleOf 𝓤 H (𝓖 .A) kept-of.signature (kept-of.spec 𝓤 H (𝓖 .A) (𝓜 .mem) (𝓡 .run))) 𝓜 𝓡 γ
+      kept-of-def.name kept-of-def.routine p (kept-of-met.met 𝓤 H 𝓜 𝓖 𝓡)
 
   pub count-of-known : γ count-of-def.name ≡ count-of-def.routine → Triple 𝓤 (tables 𝓤 H 𝓜 𝓡 γ .C count-of-def.name)
       (tripleOf 𝓤 H (𝓖 .A) count-of.signature (count-of.spec 𝓤 H (𝓖 .A) (𝓜 .mem) (𝓡 .run)))
   count-of-known p =
-      cited 𝓤 H (tripleOf 𝓤 H (𝓖 .A) count-of.signature (count-of.spec 𝓤 H (𝓖 .A) (𝓜 .mem) (𝓡 .run))) 𝓜 𝓡 γ count-of-def.name
-      count-of-def.routine p (count-of-met.met 𝓤 H 𝓜 𝓖 𝓡)
+      cited 𝓤 H (tripleOf 𝓤 H (𝓖 .A) count-of.signature (count-of.spec 𝓤 H (𝓖 .A) (𝓜 .mem) (𝓡 .run))) 𝓜 𝓡 γ
+      count-of-def.name count-of-def.routine p (count-of-met.met 𝓤 H 𝓜 𝓖 𝓡)
 
   pub answer-of-known : γ answer-of-def.name ≡ answer-of-def.routine → Triple 𝓤 (tables 𝓤 H 𝓜 𝓡 γ .C answer-of-def.name)
       (tripleOf 𝓤 H (𝓖 .A) answer-of.signature (answer-of.spec 𝓤 H (𝓖 .A) (𝓜 .mem) (𝓡 .run)))
   answer-of-known p =
-      cited 𝓤 H (tripleOf 𝓤 H (𝓖 .A) answer-of.signature (answer-of.spec 𝓤 H (𝓖 .A) (𝓜 .mem) (𝓡 .run))) 𝓜 𝓡 γ answer-of-def.name
-      answer-of-def.routine p (answer-of-met.met 𝓤 H 𝓜 𝓖 𝓡)
+      cited 𝓤 H (tripleOf 𝓤 H (𝓖 .A) answer-of.signature (answer-of.spec 𝓤 H (𝓖 .A) (𝓜 .mem) (𝓡 .run))) 𝓜 𝓡 γ
+      answer-of-def.name answer-of-def.routine p (answer-of-met.met 𝓤 H 𝓜 𝓖 𝓡)
