@@ -8,7 +8,8 @@ returns c =
     let after-counts-fit : tie.After-counts-fit = search in
     let after-is-finished : tie.After-is-finished = search in
     let start : tie.Start = search in
-    λ store. held-no _ _ (start .pre .is) (after-is-finished .is-finished .ensures) (after-counts-fit .counts-fit .ensures) (c .if1 .taken)
+    λ store. held-no _ _ (start .pre .is) (after-is-finished .is-finished .ensures)
+    (after-counts-fit .counts-fit .ensures) (c .if1 .taken)
 
 stretch-ok-requires : tie.Need-stretch-ok-requires
 stretch-ok-requires c κs =
@@ -32,8 +33,9 @@ returns-2 c =
     let after-counts-fit : tie.After-counts-fit = search in
     let after-is-finished : tie.After-is-finished = search in
     let start : tie.Start = search in
-    λ store. held-yes _ _ (start .pre .is) (after-is-finished .is-finished .ensures) (after-counts-fit .counts-fit .ensures) (else1 .if1 .left)
-    ((after-stretch-ok .stretch-ok .ensures) store) (after-check-kinds .check-kinds .ensures) (c .and .ensures)
+    λ store. held-yes _ _ (start .pre .is) (after-is-finished .is-finished .ensures)
+    (after-counts-fit .counts-fit .ensures) (else1 .if1 .left) ((after-stretch-ok .stretch-ok .ensures) store)
+    (after-check-kinds .check-kinds .ensures) (c .and .ensures)
 
 pub held-ok-spec : {M : Type 1} → statement M
 held-ok-spec =
