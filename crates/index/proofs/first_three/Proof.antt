@@ -15,10 +15,24 @@ question3-requires : tie.Need-question3-requires
 question3-requires c κs = sym (c .before .before .before .question1 .ensures) ∙ not-false _ (c .before .before .if1 .left)
 
 returns-3 : tie.Need-returns-3
-returns-3 c = no-3 _ _ (c .before .before .before .before .before .question1 .ensures) (c .before .before .before .before .if1 .left) (c .before .before .before .question2 .ensures) (c .before .before .if2 .left) (c .before .question3 .ensures) (c .if3 .taken)
+returns-3 c =
+    let third : tie.After-question3 = search in
+    let passed2 : tie.Else2 = search in
+    let second : tie.After-question2 = search in
+    let passed1 : tie.Else1 = search in
+    let first : tie.After-question1 = search in
+    no-3 _ _ (first .question1 .ensures) (passed1 .if1 .left) (second .question2 .ensures) (passed2 .if2 .left)
+    (third .question3 .ensures) (c .if3 .taken)
 
 returns-4 : tie.Need-returns-4
-returns-4 c = yes-3 _ _ (c .before .before .before .before .before .question1 .ensures) (c .before .before .before .before .if1 .left) (c .before .before .before .question2 .ensures) (c .before .before .if2 .left) (c .before .question3 .ensures) (c .if3 .left)
+returns-4 c =
+    let third : tie.After-question3 = search in
+    let passed2 : tie.Else2 = search in
+    let second : tie.After-question2 = search in
+    let passed1 : tie.Else1 = search in
+    let first : tie.After-question1 = search in
+    yes-3 _ _ (first .question1 .ensures) (passed1 .if1 .left) (second .question2 .ensures) (passed2 .if2 .left)
+    (third .question3 .ensures) (c .if3 .left)
 
 pub first-three-spec : {M : Type 1} → statement M
 first-three-spec =

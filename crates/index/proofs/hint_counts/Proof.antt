@@ -7,7 +7,9 @@ use Rattle.index.proofs.hint_counts.Tie as tie
 
 returns : tie.Need-returns
 unfolding hintCounts all
-returns c = simp and-true (cc)
+returns c =
+    let both : tie.After-and = search in
+    rw (c .and2 .ensures, both .and .ensures, and-true)
 
 pub hint-counts-spec : {M : Type 1} → statement M
 hint-counts-spec = tie.close (tie.spec (λ c κs. search needs) (λ c κs. search needs) returns)

@@ -7,13 +7,23 @@ returns : tie.Need-returns
 returns c = held-no _ _ (c .before .scan-ok .ensures) (c .if1 .taken)
 
 hinting-ok-requires : tie.Need-hinting-ok-requires
-hinting-ok-requires c κs = hint-space (c .before .before .before .before .before .before .before .before .before .before .pre)
+hinting-ok-requires c κs = let start : tie.Start = search in hint-space (start .pre)
 
 check-kinds-requires : tie.Need-check-kinds-requires
-check-kinds-requires c κs = parts-long (c .before .before .before .before .before .before .before .before .before .before .before .pre) (c .before .before .before .scan-ok .ensures) (c .before .before .if1 .left)
+check-kinds-requires c κs =
+    let passed : tie.Else1 = search in
+    let scan : tie.After-scan-ok = search in
+    let start : tie.Start = search in
+    parts-long (start .pre) (scan .scan-ok .ensures) (passed .if1 .left)
 
 returns-2 : tie.Need-returns-2
-returns-2 c = held-yes _ _ (c .before .before .before .before .before .scan-ok .ensures) (c .before .before .before .before .if1 .left) (c .before .before .hinting-ok .ensures) (c .before .check-kinds .ensures) (c .and .ensures)
+returns-2 c =
+    let kinds : tie.After-check-kinds = search in
+    let hinting : tie.After-hinting-ok = search in
+    let passed : tie.Else1 = search in
+    let scan : tie.After-scan-ok = search in
+    held-yes _ _ (scan .scan-ok .ensures) (passed .if1 .left) (hinting .hinting-ok .ensures)
+    (kinds .check-kinds .ensures) (c .and .ensures)
 
 pub question4-spec : {M : Type 1} → statement M
 question4-spec =

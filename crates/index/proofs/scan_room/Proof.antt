@@ -8,7 +8,21 @@ use Rattle.index.proofs.scan_room.Tie as tie
 
 returns : tie.Need-returns
 unfolding scanSpace scanRoom all
-returns c = simp and-true (cc)
+returns c =
+    let rest : tie.After-and2 = search in
+    let frames : tie.After-fits4 = search in
+    let checkpoints : tie.After-fits3 = search in
+    let stored : tie.After-and = search in
+    let parts : tie.After-fits2 = search in
+    rw (
+      c .and3 .ensures,
+      rest .and2 .ensures,
+      frames .fits4 .ensures,
+      checkpoints .fits3 .ensures,
+      stored .and .ensures,
+      parts .fits2 .ensures,
+      and-true,
+    )
 
 pub scan-room-spec : {M : Type 1} → statement M
 scan-room-spec =

@@ -8,7 +8,10 @@ use Rattle.index.proofs.room.hinting_room.Tie as tie
 
 returns : tie.Need-returns
 unfolding hintRoom hintingRoom all
-returns c = simp and-true (cc)
+returns c =
+    let confirmed : tie.After-fits3 = search in
+    let hints : tie.After-fits2 = search in
+    rw (c .and .ensures, confirmed .fits3 .ensures, hints .fits2 .ensures, and-true)
 
 pub hinting-room-spec : {M : Type 1} → statement M
 hinting-room-spec =

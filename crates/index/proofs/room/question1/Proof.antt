@@ -7,7 +7,9 @@ use Rattle.index.proofs.room.question1.Tie as tie
 
 returns : tie.Need-returns
 unfolding areaOk all
-returns c = simp and-true (cc)
+returns c =
+    let range : tie.After-and = search in
+    rw (c .and2 .ensures, range .and .ensures, and-true)
 
 pub question1-spec : {M : Type 1} → statement M
 question1-spec = tie.close (tie.spec (λ c κs. search needs) (λ c κs. search needs) returns)

@@ -7,7 +7,9 @@ use Rattle.index.proofs.room.question2.Tie as tie
 
 returns : tie.Need-returns
 unfolding numbersOk all
-returns c = simp and-true (cc)
+returns c =
+    let most : tie.After-and = search in
+    rw (c .and2 .ensures, most .and .ensures, and-true)
 
 pub question2-spec : {M : Type 1} → statement M
 question2-spec = tie.close (tie.spec (λ c κs. search needs) (λ c κs. search needs) returns)
