@@ -12,7 +12,7 @@ use summing::sum_u32;
 use summing::sum_u64;
 ghost use mathlib.Core.Path.{_≡_};
 ghost use mathlib.Core.List.{_++_};
-ghost use Prim.Native.Nat.{_+_, _^_, _≤_, _<_};
+ghost use Prim.Native.Nat.{_^_, _≤_, _<_};
 ghost use lib.ListN.{length, take, drop};
 ghost use Rattle.field.specs.Number.{encode, put};
 ghost use Rattle.fnv.specs.Fnv.{fnvFrom, fnv64, prime64};
