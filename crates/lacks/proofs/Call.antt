@@ -15,7 +15,8 @@ use Rattle.rules.specs.declared.Checkpoint.{Checkpoint}
 use Rattle.rules.specs.declared.Held.{Held}
 use Rattle.rules.specs.Tests.{walk, isSome, Accepted, after}
 use Rattle.rules.specs.Values.{count, stated}
-use Rattle.rules.specs.Sections.{partOk, malformedOk, hintsOk, confirmationsOk, ownLsn, anyLsn, hintLsn, hintOk, confirmedLsn, confirmationOk}
+use Rattle.rules.specs.Sections.{partOk, malformedOk, hintsOk, confirmationsOk, ownLsn, anyLsn}
+use Rattle.rules.specs.Sections.{hintLsn, hintOk, confirmedLsn, confirmationOk}
 use Rattle.rules.specs.File.{decodeCheckpoint}
 use Rattle.rules.proofs.Tests.{all→}
 use Rattle.rules.proofs.Walk.{walk-head, walk-tail}
