@@ -32,7 +32,8 @@ ghost use Rattle.lacks.specs.Steps.{lacksBy, countsIn};
 ghost use Rattle.lacks.specs.Lacks.{lackedOf, lacksIn};
 ghost use Rattle.lacks.specs.Pass.{firstStands, missed, common};
 ghost use Rattle.lacks.specs.Sections.{widthOf, itemKey, standsFor, itemsIn, itemAt};
-ghost use Rattle.lacks.specs.Parts.{nearestTo, FramesLent, PairIs, PairAt, samePartBy, partKey, PartWithin, PartsWithin, standsIn, StepIs, unpairedYet, PartsLent};
+ghost use Rattle.lacks.specs.Parts.{nearestTo, FramesLent, PairIs, PairAt, samePartBy, partKey, PartWithin};
+ghost use Rattle.lacks.specs.Parts.{PartsWithin, standsIn, StepIs, unpairedYet, PartsLent};
 
 // How many of what lies in tables.
 pub struct Missing {
@@ -202,47 +203,7 @@ fn source_to(frames: &[u8], f: usize, s: Source, g: u32) -> Source
     Source { frame: g, offset }
 }
 
-// The pair of frame number g of f and frame number k of m others.
-fn pair_anew(
-    s: Paired,
-    f: usize,
-    frames: &[u8],
-    store: &[u8],
-    g: u32,
-    m: usize,
-    other_frames: &[u8],
-    other_store: &[u8],
-    k: u32,
-) -> Paired
-    requires { ⌜ PairIs f (now frames) (now store) m (now «other_frames») (now «other_store») s
-        × FramesLent f (now frames) (now store) × FramesLent m (now «other_frames») (now «other_store»)
-        × (g < f) × (k < m) ⌝ }
-    ensures { λ r. ⌜ PairAt f (now (frames .entry)) (now (store .entry)) g m (now («other_frames» .entry))
-        (now («other_store» .entry)) k r ⌝ }
-{
-    let a = s.own;
-    let b = s.other;
-    let p = source_to(frames, f, a, g);
-    let q = source_to(other_frames, m, b, k);
-    let h = get_header(frames, f, g as usize);
-    let i = get_header(other_frames, m, k as usize);
-    let c = stretch_common(
-        store,
-        p.offset as usize,
-        h.len as usize,
-        other_store,
-        q.offset as usize,
-        i.len as usize,
-    );
-    Paired {
-        known: true,
-        own: p,
-        other: q,
-        common: c,
-    }
-}
-
-// The same, from s where it is that of g and k.
+// The pair of frame number g of f and frame number k of m others: s where it is that.
 fn pair_at(
     s: Paired,
     f: usize,
@@ -265,7 +226,24 @@ fn pair_at(
     if and(s.known, and(a.frame == g, b.frame == k)) {
         return s;
     }
-    pair_anew(s, f, frames, store, g, m, other_frames, other_store, k)
+    let p = source_to(frames, f, a, g);
+    let q = source_to(other_frames, m, b, k);
+    let h = get_header(frames, f, g as usize);
+    let i = get_header(other_frames, m, k as usize);
+    let c = stretch_common(
+        store,
+        p.offset as usize,
+        h.len as usize,
+        other_store,
+        q.offset as usize,
+        i.len as usize,
+    );
+    Paired {
+        known: true,
+        own: p,
+        other: q,
+        common: c,
+    }
 }
 
 fn same_remaining(a: i32, b: i32) -> bool
