@@ -17,9 +17,28 @@ cast-ask-2 c = omega (arith, (c .struct-known2 .given))
 returns : tie.Need-returns
 unfolding endNumber
 returns c =
-    let after-counted : tie.After-counted = search in
-    let after-ending-ok : tie.After-ending-ok = search in
-    λ cs ps e f. let p = after-counted .counted .ensures cs e in let q = after-ending-ok .ending-ok .ensures cs e in asked-all _ refl (cc)
+    let least : tie.After-min-u64 = search in
+    let malformed : tie.After-counted = search in
+    let third : tie.After-ask3 = search in
+    let unset : tie.After-unset-ok = search in
+    let second : tie.After-ask2 = search in
+    let ended : tie.After-ending-ok = search in
+    let first : tie.After-ask = search in
+    let ending : tie.After-ending-of = search in
+    λ cs ps e f.
+    asked-all _ refl
+    (rw (
+      c .ask4 .ensures,
+      least .min-u64 .ensures,
+      malformed .counted .ensures cs e,
+      third .ask3 .ensures,
+      unset .unset-ok .ensures,
+      second .ask2 .ensures,
+      ended .ending-ok .ensures cs e,
+      first .ask .ensures,
+      ending .ending-of .ensures .1,
+      f,
+    ))
 
 pub end-questions-spec : {M : Type 1} → statement M
 end-questions-spec =
