@@ -1,4 +1,3 @@
-pub mod Answers
 pub mod Left
 pub mod Sections
 pub mod Tails

@@ -17,7 +17,7 @@ use Rattle.rules.specs.declared.Checkpoint.{Checkpoint}
 use Rattle.rules.specs.declared.Confirmation.{Confirmation}
 use Rattle.rules.specs.declared.Header.{Header}
 use Rattle.rules.specs.declared.HintHeader.{HintHeader}
-use Rattle.rules.specs.Tests.{Answer, Refused, Accepted, bind}
+use Rattle.rules.specs.Tests.{Answer, Refused, Accepted}
 use Rattle.rules.specs.Values.{Frame, used}
 use Rattle.rules.specs.Sections.{Filled, risen, hintLsn, confirmedLsn}
 use Rattle.rules.specs.File.{decodeHeld, decodeLsn}

@@ -18,12 +18,11 @@ use Rattle.rules.specs.Tests.{Answer, Refused, Accepted, after, bind, firstNo}
 use Rattle.rules.specs.Values.{boundaries}
 use Rattle.rules.specs.Sections.{begun, passed, checkpointOk, checkpointsOk, countsOk}
 use Rattle.rules.specs.File.{readHeader, decodeCheckpoint}
-use Rattle.rules.specs.Load.{Read, read, readCheckpoints, headerNumber, isComplete, fixedSize}
+use Rattle.rules.specs.Load.{read, readCheckpoints, headerNumber, isComplete, fixedSize}
 use Rattle.rules.proofs.Tests.{asked, and-right}
 use Rattle.tables.specs.Tables.{checkpointsIn}
 use Rattle.tables.proofs.Reading.{read-all}
 use Rattle.inspect.specs.declared.cursor.Cursor.{Cursor}
-use Rattle.inspect.specs.Cursors.{to}
 use Rattle.inspect.proofs.Sections.{TookConfirmed}
 use Rattle.inspect.specs.declared.Found.{Found}
 use Rattle.inspect.specs.declared.Inspected.{Inspected}
@@ -39,11 +38,6 @@ module _ {A : Type 0} {x : Answer A} (f : A → Answer Found) where
   pub goes-on : {t : A} {r : Inspected} → x ≡ Accepted t → r ≡ answered (f t) → r ≡ answered (bind x f)
   unfolding bind
   goes-on e g = rw e g
-
--- on behind n bytes of the body s from at on, where the cursor d is
-pub goes-behind : {A : Type 0} {x : Answer (Read A)} (f : Read A → Answer Found) (s : List ℕ) (at n : ℕ) {v : A} {d : Cursor} {r : Inspected} → x ≡ read v (drop n (drop at s))
-    → d ≡ to (at + n) → r ≡ answered (f (record { value = v; rest = drop (d .at) s })) → r ≡ answered (bind x f)
-goes-behind f s at n e q g = goes-on f e (rw (drop-drop n at s) (rw q at g))
 
 pub after-no : {A : Type 0} (n : ℕ) (x : Answer A) → (n ≡ 0 → ⊥) → after n x ≡ Refused n
 unfolding after

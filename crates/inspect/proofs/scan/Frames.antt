@@ -13,7 +13,7 @@ use lib.Seq.{drop-drop, length-take-le}
 use Rattle.field.specs.Number.{numberAt}
 use Rattle.field.proofs.Number.{number-drop}
 use Rattle.rules.specs.declared.Area.{Area}
-use Rattle.rules.specs.Tests.{Answer, Refused, Accepted, firstNo, after, all}
+use Rattle.rules.specs.Tests.{Answer, Refused, Accepted, firstNo, after}
 use Rattle.rules.specs.Values.{Frame}
 use Rattle.rules.specs.Sections.{Filled, frameOk}
 use Rattle.rules.specs.Load.{Read, read, readFrame}

@@ -8,7 +8,7 @@ use borrow.Author.Tests.{not-true, not-false}
 use lib.Dec.{eqb}
 use lib.ListN.{length, drop, length-drop}
 use Rattle.field.specs.Records.{records}
-use Rattle.rules.specs.Tests.{walk, Refused}
+use Rattle.rules.specs.Tests.{walk}
 use Rattle.rules.specs.Load.{readEach, readRecord}
 use Rattle.tables.proofs.Reading.{read-all, read-short}
 use Rattle.inspect.specs.declared.cursor.Cursor.{Cursor}
