@@ -15,6 +15,8 @@ use inspect::Inspected;
 use inspect::inspect;
 use rules::Area;
 use rules::AreaIndex;
+use rules::FRAME_HEADER;
+use rules::HEADER;
 use rules::Made;
 use tables::behind;
 use thin::thin_into;
@@ -61,8 +63,8 @@ fn move_frame(
     ensures { λ r. ⌜ Moved (now (b .entry)) here i used r (now (frames .entry)) (now (frames .exit)) (now (store .entry)) (now (store .exit)) ⌝ }
 {
     let len = read_u32(b, here + 4) as usize;
-    copy_part(frames, i * 8, b, here, 8);
-    copy_part(store, used, b, here + 8, len);
+    copy_part(frames, i * FRAME_HEADER, b, here, FRAME_HEADER);
+    copy_part(store, used, b, here + FRAME_HEADER, len);
     len
 }
 
@@ -124,7 +126,7 @@ pub fn commit(
         y.most,
         y.confirmed,
     );
-    commit_part(checkpoints, bytes, 80, p.checkpoints);
+    commit_part(checkpoints, bytes, HEADER, p.checkpoints);
     commit_frames(frames, store, bytes, p.frames_at, p.frames);
     commit_part(parts, bytes, p.parts_at, p.parts);
     commit_part(malformed, bytes, p.malformed_at, p.malformed);

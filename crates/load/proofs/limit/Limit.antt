@@ -14,11 +14,10 @@ use Rattle.rules.specs.declared.Checkpoint.{Checkpoint}
 use Rattle.rules.specs.declared.Confirmation.{Confirmation}
 use Rattle.rules.specs.declared.Header.{Header}
 use Rattle.rules.specs.declared.Held.{Held}
-use Rattle.rules.specs.declared.Fingerprint.{Fingerprint}
 use Rattle.rules.specs.declared.Fingerprint.the-variants.{Unknown}
 use Rattle.rules.specs.declared.Fingerprint.the-variants as fingerprint
 use Rattle.rules.specs.Tests.{Accepted}
-use Rattle.rules.specs.Values.{Frame, Index, used}
+use Rattle.rules.specs.Values.{Frame, Index}
 use Rattle.rules.specs.Hints.{unkept}
 use Rattle.rules.specs.File.{readHeader}
 use Rattle.rules.specs.Load.{HintSection, hasFingerprint, indexFrom, bodyIn, fromBytes, fitting, within, unmarked, limited}

@@ -6,9 +6,9 @@ use Rattle.load.proofs.places.locate.Tie as tie
 returns : tie.Need-returns
 unfolding placesIn
 returns c =
-    let after-parts-from : tie.After-parts-from = search in
-    let after-frames-from : tie.After-frames-from = search in
-    cc ((after-parts-from .parts-from .ensures), (after-frames-from .frames-from .ensures), (c .confirmed-size .ensures))
+    let parts : tie.After-parts-from = search in
+    let frames : tie.After-frames-from = search in
+    rw (parts .parts-from .ensures, frames .frames-from .ensures, c .confirmed-size .ensures)
 
 pub locate-spec : {M : Type 1} → statement M
 locate-spec =
