@@ -3,6 +3,7 @@ use crate::block::put_made;
 use blocks::calls::index_in;
 use blocks::read::is_index;
 use drawer::merge_all;
+use view::is_workshop;
 ghost use mathlib.Core.Path.{_≡_};
 ghost use Rattle.tables.specs.Index.{tables};
 ghost use Rattle.player.specs.Player.{calledOver, mergeAllCallAs};
@@ -40,7 +41,7 @@ pub extern "C" fn seek_raw_merge_all(
         (now («work_parts» .entry)) (now («work_malformed» .entry)) (now («work_hints» .entry))
         (now («work_confirmed» .entry))) ⌝ }
 {
-    if role != 2 {
+    if !is_workshop(role) {
         return 52;
     }
     if !is_index(head) {

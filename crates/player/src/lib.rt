@@ -17,6 +17,7 @@ use blocks::calls::area_from;
 use blocks::calls::index_in;
 use blocks::calls::saved_number;
 use blocks::read::is_index;
+use view::is_workshop;
 ghost use mathlib.Core.Path.{_≡_};
 ghost use Rattle.fnv.specs.Fnv.{fnv64};
 ghost use Rattle.tables.specs.Index.{tables};
@@ -191,7 +192,7 @@ pub extern "C" fn seek_raw_load(
         (tables (now (checkpoints .entry)) (now (frames .entry)) (now (store .entry)) (now (parts .entry))
         (now (malformed .entry)) (now (hints .entry)) (now (confirmed .entry))) ⌝ }
 {
-    if role != 2 {
+    if !is_workshop(role) {
         return 52;
     }
     if head.len() < HEAD_BYTES {
@@ -342,7 +343,7 @@ pub extern "C" fn seek_raw_save(
         (now (malformed .entry)) (now (hints .entry)) (now (confirmed .entry)))
         (now (out .entry)) ⌝ }
 {
-    if role != 2 {
+    if !is_workshop(role) {
         return 52;
     }
     if !is_index(head) {
@@ -394,7 +395,7 @@ pub extern "C" fn seek_raw_merge(
         (now («other_store» .entry)) (now («other_parts» .entry)) (now («other_malformed» .entry))
         (now («other_hints» .entry)) (now («other_confirmed» .entry))) ⌝ }
 {
-    if role != 2 {
+    if !is_workshop(role) {
         return 52;
     }
     if !is_index(head) {

@@ -9,6 +9,7 @@ use blocks::calls::area_from;
 use blocks::calls::index_in;
 use blocks::calls::saved_number;
 use blocks::read::is_index;
+use view::is_workshop;
 ghost use mathlib.Core.Path.{_≡_};
 ghost use Rattle.tables.specs.Index.{tables};
 ghost use Rattle.blocks.specs.Calls.{called, givenArea};
@@ -135,7 +136,7 @@ pub extern "C" fn seek_raw_disc_load(
         (now («other_store» .entry)) (now («other_parts» .entry)) (now («other_malformed» .entry))
         (now («other_hints» .entry)) (now («other_confirmed» .entry))) ⌝ }
 {
-    if role != 2 {
+    if !is_workshop(role) {
         return 52;
     }
     if head.len() < HEAD_BYTES {
@@ -298,7 +299,7 @@ pub extern "C" fn seek_raw_disc_save(
         (now (malformed .entry)) (now (hints .entry)) (now (confirmed .entry)))
         (now (out .entry)) ⌝ }
 {
-    if role != 2 {
+    if !is_workshop(role) {
         return 52;
     }
     if !is_index(head) {
@@ -350,7 +351,7 @@ pub extern "C" fn seek_raw_disc_save_both(
         (now («other_hints» .entry)) (now («other_confirmed» .entry)))
         (now (out .entry)) ⌝ }
 {
-    if role != 2 {
+    if !is_workshop(role) {
         return 52;
     }
     if !is_index(head) {

@@ -2,7 +2,6 @@
 use Prim.Native.Nat.{ℕ}
 use mathlib.Core.Bool.{cond}
 use mathlib.Core.List.{List, [], _∷_}
-use lib.Dec.{eqb}
 use Rattle.rules.specs.declared.Area.{Area}
 use Rattle.rules.specs.Tests.{Answer, after, ask, firstNo}
 use Rattle.rules.specs.Values.{Index, Lengths}
@@ -11,11 +10,11 @@ use Rattle.rules.specs.Load.{load}
 use Rattle.rules.specs.Merge.{merge}
 use Rattle.rules_drawer.specs.Drawer.{mergeAll}
 use Rattle.rules_disc.specs.Disc.{Disc, loadDisc, saveOne, saveBoth}
-use Rattle.rules_view.specs.View.{workshop}
+use Rattle.rules_view.specs.View.{isWorkshop}
 
 -- 52: is it the workshop's role? ("role 1 calls a workshop operation; it is asked before all others")
 unfoldable pub asWorkshop : {A : Type 0} → ℕ → Answer A → Answer A
-asWorkshop role r = after (firstNo (ask (eqb role workshop) 52 ∷ [])) r
+asWorkshop role r = after (firstNo (ask (isWorkshop role) 52 ∷ [])) r
 
 abbrev pub loadAs : ℕ → Lengths → Area → List ℕ → ℕ → Answer Index
 loadAs role l a b limit = asWorkshop role (load l a b limit)
@@ -40,4 +39,4 @@ saveBothAs role l x m y out = asWorkshop role (saveBoth l x m y out)
 
 -- a call for C: what is answered where the role is not the workshop's, asked before all else
 unfoldable pub inWorkshop : {A : Type 0} → ℕ → A → A → A
-inWorkshop role refused r = cond (eqb role workshop) r refused
+inWorkshop role refused r = cond (isWorkshop role) r refused

@@ -24,6 +24,10 @@ listener = 1
 abbrev pub workshop : ℕ
 workshop = 2
 
+-- is it the workshop's role?
+abbrev pub isWorkshop : ℕ → Bool
+isWorkshop role = eqb role workshop
+
 -- ---- "A listener's view gives the area, interval, completeness, and each checkpoint's LSN and threshold"
 -- of a checkpoint: its LSN and threshold
 pub record Seen : Type 0 where

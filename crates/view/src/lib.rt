@@ -16,7 +16,7 @@ ghost use mathlib.Core.List.{[]};
 ghost use Prim.Native.Nat.{_+_, _*_, _≤_};
 ghost use lib.ListN.{length};
 ghost use Rattle.rules.specs.File.{over};
-ghost use Rattle.rules_view.specs.View.{isRole, viewBytes, viewLength};
+ghost use Rattle.rules_view.specs.View.{isRole, isWorkshop, viewBytes, viewLength};
 ghost use Rattle.tables.specs.Index.{Tables, indexIn, tables};
 ghost use Rattle.view.specs.Sections.{Shown};
 ghost use Rattle.view.specs.View.{viewed, viewIn, viewSizeIn, viewedOf, blockRefusal};
@@ -28,6 +28,16 @@ pub fn is_role(role: u32) -> bool
     ensures { λ r. ⌜ r ≡ isRole role ⌝ }
 {
     or(role == 1, role == 2)
+}
+
+// 52 of what the workshop alone may call: is the role 2?
+pub fn is_workshop(role: u32) -> bool
+    ensures { λ r. ⌜ r ≡ isWorkshop role ⌝ }
+{
+    if role == 2 {
+        return true;
+    }
+    false
 }
 
 // 52, then 3 of the block with the list's numbers: the number of the first answered no, 0 for none.

@@ -2,7 +2,7 @@ use mathlib.Core.Path.{refl}
 use Rattle.tables.specs.Index.{Tables, tables}
 use Rattle.player.specs.Player.{mergeCall, mergeCallAs}
 use Rattle.blocks.proofs.calls.Blocks.{no-head, is-head, known, known-long}
-use Rattle.rules_view.proofs.Roles.{no-workshop, is-workshop}
+use Rattle.view.proofs.Roles.{no-workshop, is-workshop}
 use Rattle.player.proofs.Answers.{merge-done}
 use borrow.Author.Needs.{needs}
 use Rattle.player.proofs.seek_raw_merge.Statement.{statement}
@@ -33,19 +33,20 @@ call-before p = search
 
 returns : tie.Need-returns
 unfolding mergeCallAs
-returns c = no-workshop _ _ _ (c .if1 .taken)
+returns c = no-workshop _ _ _ (c .before .is-workshop .ensures) (c .if1 .taken)
 
 returns-2 : tie.Need-returns-2
 unfolding mergeCall mergeCallAs
 returns-2 c =
     let role : tie.Else1 = search in
-    is-workshop _ _ _ (role .if1 .left) (no-head _ _ _ (c .before .is-index .ensures) (c .if2 .taken))
+    is-workshop _ _ _ (role .before .is-workshop .ensures) (role .if1 .left)
+    (no-head _ _ _ (c .before .is-index .ensures) (c .if2 .taken))
 
 returns-3 : tie.Need-returns-3
 unfolding mergeCall mergeCallAs
 returns-3 c =
     let test : tie.Else2 = search in
-    is-workshop _ _ _ (role-before test .if1 .left)
+    is-workshop _ _ _ (role-before test .before .is-workshop .ensures) (role-before test .if1 .left)
     (is-head _ _ _ (known (test .before .is-index .ensures) (test .if2 .left)) (no-head _ _ _ (c .before .is-index2 .ensures) (c .if3 .taken)))
 
 returns-4 : tie.Need-returns-4
@@ -60,7 +61,7 @@ returns-4 c =
     let test : tie.Else2 = search in
     let role = role-before test in
     let start = begin role in
-    is-workshop _ _ _ (role .if1 .left)
+    is-workshop _ _ _ (role .before .is-workshop .ensures) (role .if1 .left)
     (merge-done (start .args .head .now) _ _ (known (test .before .is-index .ensures) (test .if2 .left)) (start .args .other .now) (known (test2 .before .is-index2 .ensures) (test2 .if3 .left)) (own .index-in .result)
     (other .index-in2 .result) (other .index-in2 .ensures) (lent start) (others start) _ (call .merge .result) (put .put-made .ensures)
     (call .merge .ensures) (own .index-in .ensures))
@@ -69,6 +70,7 @@ pub seek-raw-merge-spec : {M : Type 1} → statement M
 seek-raw-merge-spec =
     tie.close
     (tie.spec
+    (λ c κs. search needs)
     returns
     (λ c κs. search needs)
     (λ c. refl)

@@ -3,7 +3,7 @@ use Rattle.tables.specs.Index.{Tables, tables}
 use Rattle.blocks.specs.Calls.{givenArea}
 use Rattle.player_disc.specs.PlayerDisc.{discLoadCall, discLoadCallAs}
 use Rattle.blocks.proofs.calls.Blocks.{too-short, long-enough}
-use Rattle.rules_view.proofs.Roles.{no-workshop, is-workshop}
+use Rattle.view.proofs.Roles.{no-workshop, is-workshop}
 use Rattle.player_disc.proofs.Answers.{load-done}
 use borrow.Author.Needs.{needs}
 use Rattle.player_disc.proofs.seek_raw_disc_load.Statement.{statement}
@@ -54,26 +54,27 @@ begin role = search
 
 returns : tie.Need-returns
 unfolding discLoadCallAs
-returns c = no-workshop _ _ _ (c .if1 .taken)
+returns c = no-workshop _ _ _ (c .before .is-workshop .ensures) (c .if1 .taken)
 
 returns-2 : tie.Need-returns-2
 unfolding discLoadCall discLoadCallAs
 returns-2 c =
     let role : tie.Else1 = search in
-    is-workshop _ _ _ (role .if1 .left) (too-short _ _ _ (c .if2 .taken))
+    is-workshop _ _ _ (role .before .is-workshop .ensures) (role .if1 .left) (too-short _ _ _ (c .if2 .taken))
 
 returns-3 : tie.Need-returns-3
 unfolding discLoadCall discLoadCallAs
 returns-3 c =
     let test : tie.Else2 = search in
-    is-workshop _ _ _ (role-before test .if1 .left) (long-enough _ _ _ (test .if2 .left) (too-short _ _ _ (c .if3 .taken)))
+    is-workshop _ _ _ (role-before test .before .is-workshop .ensures) (role-before test .if1 .left)
+    (long-enough _ _ _ (test .if2 .left) (too-short _ _ _ (c .if3 .taken)))
 
 returns-4 : tie.Need-returns-4
 unfolding discLoadCall discLoadCallAs
 returns-4 c =
     let test2 : tie.Else3 = search in
     let test = test-before test2 in
-    is-workshop _ _ _ (role-before test .if1 .left)
+    is-workshop _ _ _ (role-before test .before .is-workshop .ensures) (role-before test .if1 .left)
     (long-enough _ _ _ (test .if2 .left) (long-enough _ _ _ (test2 .if3 .left) (too-short _ _ _ (c .if4 .taken))))
 
 put-loaded-requires : tie.Need-put-loaded-requires
@@ -96,7 +97,7 @@ returns-5 c =
     let test = test-before test2 in
     let role = role-before test in
     let start = begin role in
-    is-workshop _ _ _ (role .if1 .left)
+    is-workshop _ _ _ (role .before .is-workshop .ensures) (role .if1 .left)
     (load-done (start .args .head .now) (start .args .other .now) (start .args .answer .now) _ _ _ _ (test .if2 .left) (test2 .if3 .left) (test3 .if4 .left)
     (area-0 start) (area-1 start) (area0 .area-from .result) (area1 .area-from2 .result) (start .args .file .now) (start .args .limit) (lent start)
     (others start) _ _ (call .from-disc .result) (put .put-loaded .ensures) (call .from-disc .ensures) (area0 .area-from .ensures)
@@ -106,6 +107,7 @@ pub seek-raw-disc-load-spec : {M : Type 1} → statement M
 seek-raw-disc-load-spec =
     tie.close
     (tie.spec
+    (λ c κs. search needs)
     returns
     returns-2
     returns-3

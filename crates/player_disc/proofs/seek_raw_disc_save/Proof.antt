@@ -1,6 +1,6 @@
 use Rattle.player_disc.specs.PlayerDisc.{discSaveCall, discSaveCallAs}
 use Rattle.blocks.proofs.calls.Blocks.{no-head, known, known-long}
-use Rattle.rules_view.proofs.Roles.{no-workshop, is-workshop}
+use Rattle.view.proofs.Roles.{no-workshop, is-workshop}
 use Rattle.player_disc.proofs.Answers.{save-done}
 use borrow.Author.Needs.{needs}
 use Rattle.player_disc.proofs.seek_raw_disc_save.Statement.{statement}
@@ -8,13 +8,14 @@ use Rattle.player_disc.proofs.seek_raw_disc_save.Tie as tie
 
 returns : tie.Need-returns
 unfolding discSaveCallAs
-returns c = no-workshop _ _ _ (c .if1 .taken)
+returns c = no-workshop _ _ _ (c .before .is-workshop .ensures) (c .if1 .taken)
 
 returns-2 : tie.Need-returns-2
 unfolding discSaveCall discSaveCallAs
 returns-2 c =
     let role : tie.Else1 = search in
-    is-workshop _ _ _ (role .if1 .left) (no-head _ _ _ (c .before .is-index .ensures) (c .if2 .taken))
+    is-workshop _ _ _ (role .before .is-workshop .ensures) (role .if1 .left)
+    (no-head _ _ _ (c .before .is-index .ensures) (c .if2 .taken))
 
 returns-3 : tie.Need-returns-3
 unfolding discSaveCallAs
@@ -24,13 +25,14 @@ returns-3 c =
     let call : tie.After-save-one = search in
     let told : tie.After-saved-number = search in
     let role : tie.Else1 = search in
-    is-workshop _ _ _ (role .if1 .left)
+    is-workshop _ _ _ (role .before .is-workshop .ensures) (role .if1 .left)
     (save-done _ (known (test .before .is-index .ensures) (test .if2 .left)) _ (own .index-in .ensures) _ _ _ _ _ (call .save-one .ensures) (told .saved-number .ensures))
 
 pub seek-raw-disc-save-spec : {M : Type 1} → statement M
 seek-raw-disc-save-spec =
     tie.close
     (tie.spec
+    (λ c κs. search needs)
     returns
     (λ c κs. search needs)
     returns-2

@@ -2,7 +2,7 @@ use mathlib.Core.Path.{refl}
 use Rattle.tables.specs.Index.{Tables, tables}
 use Rattle.player.specs.Player.{mergeAllCall, mergeAllCallAs}
 use Rattle.blocks.proofs.calls.Blocks.{no-head, known, known-long}
-use Rattle.rules_view.proofs.Roles.{no-workshop, is-workshop}
+use Rattle.view.proofs.Roles.{no-workshop, is-workshop}
 use Rattle.player.proofs.drawer_calls.Answers.{merge-all-done}
 use borrow.Author.Needs.{needs}
 use Rattle.player.proofs.drawer_calls.seek_raw_merge_all.Statement.{statement}
@@ -37,13 +37,14 @@ own p = search
 
 returns : tie.Need-returns
 unfolding mergeAllCallAs
-returns c = no-workshop _ _ _ (c .if1 .taken)
+returns c = no-workshop _ _ _ (c .before .is-workshop .ensures) (c .if1 .taken)
 
 returns-2 : tie.Need-returns-2
 unfolding mergeAllCall mergeAllCallAs
 returns-2 c =
     let role : tie.Else1 = search in
-    is-workshop _ _ _ (role .if1 .left) (no-head _ _ _ (c .before .is-index .ensures) (c .if2 .taken))
+    is-workshop _ _ _ (role .before .is-workshop .ensures) (role .if1 .left)
+    (no-head _ _ _ (c .before .is-index .ensures) (c .if2 .taken))
 
 returns-3 : tie.Need-returns-3
 unfolding mergeAllCallAs
@@ -55,7 +56,7 @@ returns-3 c =
     let test = tested head in
     let role = role-before test in
     let start = begin role in
-    is-workshop _ _ _ (role .if1 .left)
+    is-workshop _ _ _ (role .before .is-workshop .ensures) (role .if1 .left)
     (merge-all-done (start .args .head .now) _ _ (known (test .before .is-index .ensures) (test .if2 .left)) (head .index-in .result)
     (start .args .lengths .now) (start .args .files .now) (start .args .limit) (lent start) (work start) _ (call .merge-all .result) (put .put-made .ensures)
     (call .merge-all .ensures) (head .index-in .ensures))
@@ -64,6 +65,7 @@ pub seek-raw-merge-all-spec : {M : Type 1} → statement M
 seek-raw-merge-all-spec =
     tie.close
     (tie.spec
+    (λ c κs. search needs)
     returns
     (λ c κs. search needs)
     (λ c. refl)
