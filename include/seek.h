@@ -381,6 +381,7 @@ uint32_t seek_raw_load(uint32_t role, SEEK_OUT(head), SEEK_AREA_NUMBERS, SEEK_IN
 uint64_t seek_raw_saved_length(SEEK_IN(head), SEEK_TABLES_IN);
 uint64_t seek_raw_save(uint32_t role, SEEK_IN(head), SEEK_TABLES_IN, SEEK_OUT(out));
 uint32_t seek_raw_plan(SEEK_IN(head), uint32_t frame, SEEK_OUT(answer), SEEK_TABLES_IN);
+uint64_t seek_raw_part(SEEK_IN(store), uint64_t offset, uint64_t length);
 uint32_t seek_raw_fingerprint(SEEK_OUT(head), uint64_t value, SEEK_TABLES_IN);
 uint32_t seek_raw_merge(uint32_t role, SEEK_OUT(head), SEEK_IN(other), SEEK_TABLES_OUT, SEEK_TABLES_IN2);
 uint32_t seek_raw_adds(SEEK_IN(head), SEEK_IN(other), SEEK_OUT(answer), SEEK_TABLES_IN, SEEK_TABLES_IN2);
@@ -807,7 +808,7 @@ static inline uint32_t seek_plan(const seek_list *l, uint32_t frame, seek_jump *
 /* The bytes of the held part that seek_plan told; NULL where it told none. */
 static inline const uint8_t *seek_part(const seek_list *l, const seek_jump *j)
 {
-    if (!j->held || l->store.length < j->offset || l->store.length - j->offset < j->length)
+    if (!j->held || !seek_raw_part(SEEK_LENT_(l->store), j->offset, j->length))
         return SEEK_NULL_;
     return l->store.at + j->offset;
 }

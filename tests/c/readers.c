@@ -23,6 +23,7 @@ static void records(void)
     seek_list l;
     seek_checkpoint c;
     seek_held h;
+    seek_jump j;
     seek_confirmation f;
     uint32_t lsn, number, made = 0;
     uint64_t at;
@@ -37,6 +38,15 @@ static void records(void)
     HOLDS(seek_boundary(&l, 7, &at) && at == 1350 && !seek_boundary(&l, 8, &at) && at == 0 && !seek_boundary(&l, UINT32_MAX, &at));
     HOLDS(seek_held_at(&l, 0, &h) && h.checkpoint == 2 && h.start == 1060 && h.length == SAMPLE_PART && h.number == 149 && h.remaining == -7);
     HOLDS(h.kind == SEEK_DSD && !seek_held_at(&l, 1, &h) && h.length == 0);
+    HOLDS(seek_plan(&l, 150, &j) == 0 && j.held && j.length == SAMPLE_PART && seek_part(&l, &j) == l.store.at + j.offset);
+    j.offset = l.store.length - j.length;
+    HOLDS(seek_part(&l, &j) == l.store.at + j.offset);
+    j.offset++; /* one byte past the store, and sums past 2^64 */
+    HOLDS(seek_part(&l, &j) == NULL);
+    j.offset = UINT64_MAX;
+    HOLDS(seek_part(&l, &j) == NULL);
+    j.offset = 1, j.length = UINT64_MAX;
+    HOLDS(seek_part(&l, &j) == NULL);
     HOLDS(seek_hint_at(&l, 1, &lsn, &number) && lsn == 1003 && number == 4 && !seek_hint_at(&l, 3, &lsn, &number) && lsn == 0 && number == 0);
     HOLDS(!seek_malformed_at(&l, 0, &made) && made == 0 && !seek_confirmation_at(&l, 0, &f));
     HOLDS(seek_fingerprint(&l, 9) == 0 && seek_keep_confirmation(&l, 1003, 4, 11, &kept) == 0 && kept);

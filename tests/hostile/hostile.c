@@ -156,6 +156,7 @@ static uint64_t call_save(void) { return seek_raw_save(ROLE, LENT(HEAD), TABLES,
 static uint64_t call_view_length(void) { return seek_raw_view_length(ROLE, LENT(HEAD), TABLES); }
 static uint64_t call_view(void) { return seek_raw_view(ROLE, LENT(HEAD), TABLES, LENT(OUT)); }
 static uint64_t call_plan(void) { return seek_raw_plan(LENT(HEAD), (uint32_t)v[0], LENT(ANSWER), TABLES); }
+static uint64_t call_part(void) { return seek_raw_part(LENT(STORE), v[0], v[1]), 0; }
 static uint64_t call_fingerprint(void) { return seek_raw_fingerprint(LENT(HEAD), v[0], TABLES); }
 static uint64_t call_merge(void) { return seek_raw_merge(ROLE, LENT(HEAD), LENT(OTHER), TABLES, OTHERS); }
 static uint64_t call_adds(void) { return seek_raw_adds(LENT(HEAD), LENT(OTHER), LENT(ANSWER), TABLES, OTHERS); }
@@ -235,6 +236,7 @@ static const struct {
     {"view_length", call_view_length, BIT(HEAD) | SEVEN, 0, 1, {0}},
     {"view", call_view, BIT(HEAD) | BIT(OUT) | SEVEN, BIT(OUT), 1, {0}},
     {"plan", call_plan, BIT(HEAD) | BIT(ANSWER) | SEVEN, BIT(ANSWER), 0, {160}},
+    {"part", call_part, BIT(STORE), 0, 0, {0, SAMPLE_PART}},
     {"fingerprint", call_fingerprint, BIT(HEAD) | SEVEN, BIT(HEAD), 0, {7}},
     {"merge", call_merge, BIT(HEAD) | BIT(OTHER) | SEVEN | SEVEN2, BIT(HEAD) | SEVEN, 0, {0}},
     {"adds", call_adds, BIT(HEAD) | BIT(OTHER) | BIT(ANSWER) | SEVEN | SEVEN2, BIT(ANSWER), 0, {0}},

@@ -14,12 +14,15 @@ use crate::block::put_plan;
 use crate::block::put_sizes;
 use blocks::HEAD_BYTES;
 use blocks::calls::area_from;
+use blocks::calls::bit_word;
 use blocks::calls::index_in;
 use blocks::calls::saved_number;
 use blocks::read::is_index;
 use view::is_workshop;
 ghost use mathlib.Core.Path.{_≡_};
 ghost use Rattle.fnv.specs.Fnv.{fnv64};
+ghost use Rattle.plan.specs.Plan.{liesIn};
+ghost use Rattle.rules.specs.File.{bit};
 ghost use Rattle.tables.specs.Index.{tables};
 ghost use Rattle.blocks.specs.Calls.{called, givenArea};
 ghost use Rattle.player.specs.Player.{calledOver, mergeCallAs, addsCall, addHintsCall, newCall, loadCallAs, fingerprintCall, planCall, saveCallAs, lengthCall, sizesCall, fileSizesCall, fileAreaCall, firstCall};
@@ -288,6 +291,15 @@ pub extern "C" fn seek_raw_plan(
         confirmed,
     );
     put_plan(answer, planned)
+}
+
+// 1 where the bytes of a held part lie in the store, at its offset; else 0.
+#[no_mangle]
+pub extern "C" fn seek_raw_part(store: &[u8], offset: u64, len: u64) -> u64
+    ensures { λ r. ⌜ r ≡ bit (liesIn (now (store .entry)) offset len) ⌝ }
+{
+    let lies = plan::part_lies(store, offset, len);
+    bit_word(lies)
 }
 
 // The length that saving will write, or the refusal number.
