@@ -99,11 +99,6 @@ pub ten-digits : (i : ℕ) → i ≤ 10 → 10 ^ i ≤ 10000000000
 ten-digits i h = pow-le-pow-right {n = 10} (omega arith) h
 
 -- ---- words
-word-inside : (s : List ℕ) → wordLength s ≤ length s
-unfolding wordLength
-word-inside [] = omega arith
-word-inside (b ∷ s) = test (eqb b 32) (λ e. rw e (omega arith)) (λ e. rw e (let h = word-inside s in omega arith))
-
 -- a list without a space is one word
 pub words-one : (s : List ℕ) → wordLength s ≡ length s → wordsOf s ≡ s ∷ []
 unfolding wordLength wordsOf onFirst
