@@ -47,14 +47,27 @@ module _ (own other : Index) (e : noneButImage (bringsOf own (merged own other))
       let e0 : x .area ≡ own .scan .area = merged-numbers (own .scan) (other .scan) .0 in
       let e1 : x .interval ≡ own .scan .interval = merged-numbers (own .scan) (other .scan) .1 in
       let e2 : x .budget ≡ own .scan .budget = merged-numbers (own .scan) (other .scan) .2 in
-      let e3 : own .scan .checkpoints ≡ x .checkpoints = sameList-eq sameCheckpoint sameCheckpoint-eq _ _ (same-of (t .0)) in
+      let e3 : own .scan .checkpoints ≡ x .checkpoints = sameList-eq sameCheckpoint sameCheckpoint-eq _ _
+      (same-of (t .0)) in
       let e4 : own .scan .ending ≡ x .ending = sameKnown-eq sameEnd sameEnd-eq _ _ (same-of (t .1 .0)) in
-      let p : (sameList sameFrame (own .scan .frames) (x .frames) && sameList sameHeld (own .scan .parts) (x .parts)) ≡ true = same-of (t .1 .1 .0) in
-      let e5 : own .scan .frames ≡ x .frames = sameList-eq sameFrame sameFrame-eq _ _ (and-left _ (sameList sameHeld (own .scan .parts) (x .parts)) p) in
-      let e6 : own .scan .parts ≡ x .parts = sameList-eq sameHeld sameHeld-eq _ _ (and-right (sameList sameFrame (own .scan .frames) (x .frames)) _ p) in
+      let p : (sameList sameFrame (own .scan .frames) (x .frames) && sameList sameHeld (own .scan .parts) (x .parts))
+      ≡ true = same-of (t .1 .1 .0) in
+      let e5 : own .scan .frames ≡ x .frames = sameList-eq sameFrame sameFrame-eq _ _
+      (and-left _ (sameList sameHeld (own .scan .parts) (x .parts)) p) in
+      let e6 : own .scan .parts ≡ x .parts = sameList-eq sameHeld sameHeld-eq _ _
+      (and-right (sameList sameFrame (own .scan .frames) (x .frames)) _ p) in
       let e7 : own .scan .malformed ≡ x .malformed = sameList-eq eqb eqb-true _ _ (same-of (t .1 .1 .1 .0)) in
       let f3 = sym e3 in let f4 = sym e4 in let f5 = sym e5 in let f6 = sym e6 in let f7 = sym e7 in
-      λ i. record { area = e0 i; interval = e1 i; budget = e2 i; checkpoints = f3 i; frames = f5 i; parts = f6 i; ending = f4 i; malformed = f7 i }
+      λ i. record {
+        area = e0 i;
+        interval = e1 i;
+        budget = e2 i;
+        checkpoints = f3 i;
+        frames = f5 i;
+        parts = f6 i;
+        ending = f4 i;
+        malformed = f7 i;
+      }
 
   pub hinting-same : merged own other .hinting ≡ own .hinting
   unfolding noneButImage bringsOf merged
@@ -62,7 +75,8 @@ module _ (own other : Index) (e : noneButImage (bringsOf own (merged own other))
       let x = merged own other .hinting in
       let t = all→ _ e in
       let e0 : own .hinting .hints ≡ x .hints = sameList-eq equalHint equalHint-eq _ _ (same-of (t .1 .1 .1 .1 .0)) in
-      let e1 : own .hinting .confirmed ≡ x .confirmed = sameList-eq sameConfirmation sameConfirmation-eq _ _ (same-of (t .1 .1 .1 .1 .1 .0)) in
+      let e1 : own .hinting .confirmed ≡ x .confirmed = sameList-eq sameConfirmation sameConfirmation-eq _ _
+      (same-of (t .1 .1 .1 .1 .1 .0)) in
       let f0 = sym e0 in let f1 = sym e1 in
       λ i. record { spacing = own .hinting .spacing; most = own .hinting .most; hints = f0 i; confirmed = f1 i }
 
@@ -115,14 +129,19 @@ record ButImage (own x : Index) : Type 0 where
   hinting : x .hinting ≡ own .hinting
   fingerprint : x .fingerprint ≡ own .fingerprint
 
-but-image : (l m : Lengths) (own other x : Index) (b : Brings) → brings l own m other ≡ Accepted b → noneButImage b ≡ true → merge l own m other ≡ Accepted x
+but-image : (l m : Lengths) (own other x : Index) (b : Brings) → brings l own m other ≡ Accepted b → noneButImage b
+    ≡ true → merge l own m other ≡ Accepted x
     → ButImage own x
 unfolding brings merge
 but-image l m own other x b e h g =
     let r = accepted→ (mergeNumber l own m other) (bringsOf own (merged own other)) b e in
     let z = accepted→ (mergeNumber l own m other) (merged own other) x g .1 in
     let k : noneButImage (bringsOf own (merged own other)) ≡ true = rw (r .1) h in
-    record { scan = rw (← z) (scan-same own other k); hinting = rw (← z) (hinting-same own other k); fingerprint = rw (← z) (fingerprint-same own other k) }
+    record {
+      scan = rw (← z) (scan-same own other k);
+      hinting = rw (← z) (hinting-same own other k);
+      fingerprint = rw (← z) (fingerprint-same own other k);
+    }
 
 -- no byte of a file depends on it
 same-file : (own x : Index) → ButImage own x → saved x ≡ saved own
@@ -161,7 +180,11 @@ only-image-named-in-tables x t y u b z t' a c e m h =
     let i = but-image (roomOf t) (roomOf u) own (indexIn y u) (l .list) b k h (l .accepted) in
     let s = only-image-named (roomOf t) (roomOf u) own (indexIn y u) (l .list) b k h (l .accepted) in
     let o = and-left (kindsIn x t) (kindsIn y u) (l .both) in
-    let pass : Passes x t = record { roomy = record { area = l .own .one; numbers = l .own .two; room = l .own .three }; held = both (l .own .four) o } in
+    let pass : Passes x t = record {
+      roomy = record
+          { area = l .own .one; numbers = l .own .two; room = l .own .three };
+      held = both (l .own .four) o;
+    } in
     let store : t' .store ≡ t .store =
     ap (λ (v : Tables). v .store) (sym (l .tables)) ∙ ap (λ (v : Scan). over (storeOf (v .frames)) (t .store)) (i .scan)
     ∙ ap (λ (v : Tables). v .store) (put-back pass (a .bytes)) in
@@ -172,7 +195,8 @@ only-image-named-in-tables x t y u b z t' a c e m h =
       file = ap saved (l .stands) ∙ s .file;
     }
   where
-    through : {A : Type 0} → (l : Left x t y u z t') → kindsIn x t ≡ true → (call : Lengths → Index → Answer A) → call (roomOf t) (l .list) ≡ call (roomOf t) (indexIn x t)
+    through : {A : Type 0} → (l : Left x t y u z t') → kindsIn x t ≡ true → (call : Lengths → Index → Answer A)
+        → call (roomOf t) (l .list) ≡ call (roomOf t) (indexIn x t)
         → kinded (kindsIn z t') (call (roomOf t') (indexIn z t')) ≡ kinded (kindsIn x t) (call (roomOf t) (indexIn x t))
     through l o call q =
         kinds-pass (kindsIn z t') _ (l .kinds) ∙ ap₂ call (l .room) (l .stands) ∙ q ∙ sym (kinds-pass (kindsIn x t) _ o)

@@ -32,7 +32,8 @@ pub record Read (R : Reading) (x : Scan) : Type 0 where
   pub ending : (x .ending ≡ none) ⊎ ((x .ending ≡ some (endStateOf R)) × (count x ≡ boundaries (R .area) (R .interval)))
   pub malformed : x .malformed ≡ take maxMalformed (below (frontier x) (R .malformed))
 
-levels : (b n m : ℕ) (w v : Bool) → n ≤ b → (w ≡ true → n ≡ b) → m ≤ b → (v ≡ true → m ≡ b) → n + one w ≡ m + one v → (n ≡ m) × (w ≡ v)
+levels : (b n m : ℕ) (w v : Bool) → n ≤ b → (w ≡ true → n ≡ b) → m ≤ b → (v ≡ true → m ≡ b) → n + one w ≡ m + one v
+    → (n ≡ m) × (w ≡ v)
 levels b n m true true l f k g e = (omega arith, refl)
 levels b n m true false l f k g e = let x = f refl in let z : ⊥ = omega arith in absurd z
 levels b n m false true l f k g e = let x = g refl in let z : ⊥ = omega arith in absurd z
@@ -49,9 +50,11 @@ pub same-level : (R : Reading) (t u : Scan) → Counts t → Counts u → Read R
     → (t .checkpoints ≡ u .checkpoints) × (t .ending ≡ u .ending) × (t .malformed ≡ u .malformed)
 unfolding level
 same-level R t u ok ok' r s e =
-    let ea : t .area ≡ u .area = r .area ∙ sym (s .area) in let ei : t .interval ≡ u .interval = r .interval ∙ sym (s .interval) in
+    let ea : t .area ≡ u .area = r .area ∙ sym (s .area) in let ei : t .interval ≡ u .interval = r .interval
+    ∙ sym (s .interval) in
     let b : boundaries (t .area) (t .interval) ≡ boundaries (u .area) (u .interval) = rw (ea, ei) in
-    let c = levels (boundaries (t .area) (t .interval)) (count t) (count u) (complete t) (complete u) (ok .within) (ok .full)
+    let c = levels (boundaries (t .area) (t .interval)) (count t) (count u) (complete t) (complete u) (ok .within)
+    (ok .full)
     (let x = ok' .within in omega arith) (λ v. ok' .full v ∙ sym b) e in
     let ee = same-ending R t u r s (c .1) in
     let fr : frontier t ≡ frontier u = λ i. frontierOf (ea i) (ei i) (c .0 i) (ee i) in (
@@ -68,7 +71,8 @@ module _ (R : Reading) (own other : Scan) (r : Read R own) (s : Read R other) wh
   pub same-interval : own .interval ≡ other .interval
   same-interval = r .interval ∙ sym (s .interval)
 
-  merged-read : (further own other ≡ true → own .checkpoints ≡ take (count own) (other .checkpoints)) → Read R (mergedScan own other)
+  merged-read : (further own other ≡ true → own .checkpoints ≡ take (count own) (other .checkpoints))
+      → Read R (mergedScan own other)
   unfolding mergedScan
   merged-read prefix =
       choose (Read R) (further own other) (takenScan own other) own
@@ -81,7 +85,8 @@ module _ (R : Reading) (own other : Scan) (r : Read R own) (s : Read R other) wh
         ending = s .ending;
         malformed =
             s .malformed
-            ∙ ap (λ (n : ℕ). take maxMalformed (below n (R .malformed))) (λ i. frontierOf (sym same-area i) (sym same-interval i) (count other) (other .ending));
+            ∙ ap (λ (n : ℕ). take maxMalformed (below n (R .malformed)))
+            (λ i. frontierOf (sym same-area i) (sym same-interval i) (count other) (other .ending));
       }))
       (λ f. r)
 
@@ -94,19 +99,28 @@ module _ (R : Reading) where
   cut-counts x c = counts (x .scan) (cut-scan x c)
 
   pub cut-read : (x : Index) → Cut R x → Read R (x .scan)
-  cut-read x c = record { area = c .area; interval = c .interval; checkpoints = c .checkpoints; ending = c .ending; malformed = c .malformed }
+  cut-read x c = record {
+    area = c .area;
+    interval = c .interval;
+    checkpoints = c .checkpoints;
+    ending = c .ending;
+    malformed = c .malformed;
+  }
 
   -- two lists of one reading pass 41 and 43
   ends-agree : (x y : Index) → Cut R x → Cut R y → agree sameEnd (x .scan .ending) (y .scan .ending) ≡ true
   unfolding agree
   ends-agree x y c d =
       ⊎-elim (λ e. rw e refl)
-      (λ e. ⊎-elim (λ f. rw f (agree-none sameEnd (x .scan .ending))) (λ f. rw (e .0, f .0) (sameEnd-self (endStateOf R))) (d .ending)) (c .ending)
+      (λ e. ⊎-elim (λ f. rw f (agree-none sameEnd (x .scan .ending)))
+      (λ f. rw (e .0, f .0) (sameEnd-self (endStateOf R))) (d .ending)) (c .ending)
 
-  checkpoints-agree : (x y : Index) → Cut R x → Cut R y → agrees sameCheckpoint (x .scan .checkpoints) (y .scan .checkpoints) ≡ true
+  checkpoints-agree : (x y : Index) → Cut R x → Cut R y
+      → agrees sameCheckpoint (x .scan .checkpoints) (y .scan .checkpoints) ≡ true
   checkpoints-agree x y c d =
       subst (λ (z : List Checkpoint). agrees sameCheckpoint z (y .scan .checkpoints) ≡ true) (sym (c .checkpoints))
-      (subst (λ (z : List Checkpoint). agrees sameCheckpoint (take (count (x .scan)) (checkpointsOf R)) z ≡ true) (sym (d .checkpoints))
+      (subst (λ (z : List Checkpoint). agrees sameCheckpoint (take (count (x .scan)) (checkpointsOf R)) z ≡ true)
+      (sym (d .checkpoints))
       (agrees-take sameCheckpoint sameCheckpoint-self (count (x .scan)) (count (y .scan)) (checkpointsOf R)))
 
   cut-41 : (x y : Index) → Cut R x → Cut R y → question41 x y ≡ true
@@ -123,7 +137,8 @@ module _ (R : Reading) where
   cut-merged-read own other c d =
       let x = cut-read own c in let y = cut-read other d in
       merged-read R (own .scan) (other .scan) x y
-      (further-prefix (own .scan) (other .scan) (cut-scan own c) (cut-scan other d) (x .area ∙ sym (y .area)) (x .interval ∙ sym (y .interval)) (checkpoints-agree own other c d))
+      (further-prefix (own .scan) (other .scan) (cut-scan own c) (cut-scan other d) (x .area ∙ sym (y .area))
+      (x .interval ∙ sym (y .interval)) (checkpoints-agree own other c d))
 
   pub cut-merged : (own other : Index) → Cut R own → Cut R other → Cut R (merged own other)
   cut-merged own other c d =
@@ -138,7 +153,8 @@ module _ (R : Reading) where
         checkpoints = unfold merged in r .checkpoints;
         ending = unfold merged in r .ending;
         malformed = unfold merged in r .malformed;
-        parts = unfold merged in merge-bytes (λ n c. c ≡ R .part n) own other (scan-of own (c .four)) (scan-of other (d .four)) q q' (c .parts) (d .parts);
+        parts = unfold merged in merge-bytes (λ n c. c ≡ R .part n) own other (scan-of own (c .four))
+            (scan-of other (d .four)) q q' (c .parts) (d .parts);
       }
 
   pub cut-limited : (limit : ℕ) (x : Index) → Cut R x → Cut R (limited limit x)
@@ -157,9 +173,15 @@ module _ (R : Reading) where
       }
 
   -- they are refused by 3 or 42 only
-  pub not-refused : (l m : Lengths) (own other : Index) → Cut R own → Cut R other → question3 l own ≡ true → question3 m other ≡ true → question42 own other ≡ true
+  pub not-refused : (l m : Lengths) (own other : Index) → Cut R own → Cut R other → question3 l own ≡ true
+      → question3 m other ≡ true → question42 own other ≡ true
       → mergeNumber l own m other ≡ 0
   unfolding mergeNumber
   not-refused l m own other c d t t' i =
-      asks _
-      (both (c .one) (d .one), (both (c .two) (d .two), (both t t', (both (c .four) (d .four), (cut-41 own other c d, (i, (cut-43 own other c d, tt)))))))
+      asks _ (
+        both (c .one) (d .one),
+        (
+          both (c .two) (d .two),
+          (both t t', (both (c .four) (d .four), (cut-41 own other c d, (i, (cut-43 own other c d, tt))))),
+        ),
+      )

@@ -33,7 +33,8 @@ at-least b n m w true l f h = let x = f refl in omega arith
 at-least b n m w false l f h = omega arith
 
 -- an accepted save passed question 3
-pub saved-three : (l : Lengths) (x : Index) (out : ℕ) → firstNo (four l x (ask (leb (savedLength x) out) 40 ∷ [])) ≡ 0 → question3 l x ≡ true
+pub saved-three : (l : Lengths) (x : Index) (out : ℕ) → firstNo (four l x (ask (leb (savedLength x) out) 40 ∷ []))
+    ≡ 0 → question3 l x ≡ true
 saved-three l x out e = asked _ refl e .1 .1 .0
 
 module _ (R : Reading) (p : ℕ → Place) (cut : AllCut R p) where
@@ -48,7 +49,9 @@ module _ (R : Reading) (p : ℕ → Place) (cut : AllCut R p) where
   start-inv k =
       record {
         fromR = cut k;
-        upper = λ w m. let e : level (p w .list .scan) ≡ level (p k .list .scan) = ap (λ (k : ℕ). level (p k .list .scan)) (List·Memᴰ·eq-of-singleton m) in omega arith;
+        upper = λ w m. let e : level (p w .list .scan)
+            ≡ level (p k .list .scan) = ap (λ (k : ℕ). level (p k .list .scan)) (List·Memᴰ·eq-of-singleton m)
+            in omega arith;
         lower = (k, List·Memᴰ·head refl, refl);
         room = refl;
       }
@@ -74,38 +77,52 @@ module _ (R : Reading) (p : ℕ → Place) (cut : AllCut R p) where
   after-merge : (k n : ℕ) (own other : Place) (l l' : List ℕ) → Inv k own l → Inv n other l'
       → Inv k (answered own (mergeInto own other)) (cond (eqb (mergeRefusal own other) 0) (l ++ l') l)
   unfolding merge after answered
-  after-merge k n own other l l' i j = test (eqb (mergeRefusal own other) 0) (λ e. rw e (merged-inv k n own other l l' i j)) (λ e. rw e i)
+  after-merge k n own other l l' i j = test (eqb (mergeRefusal own other) 0)
+      (λ e. rw e (merged-inv k n own other l l' i j)) (λ e. rw e i)
 
-  limited-inv : (k limit : ℕ) (q : Place) (l : List ℕ) → Inv k q l → Inv k (record { list = limited limit (q .list); room = q .room }) l
+  limited-inv : (k limit : ℕ) (q : Place) (l : List ℕ) → Inv k q l
+      → Inv k (record { list = limited limit (q .list); room = q .room }) l
   unfolding limited level
-  limited-inv k limit q l i = record { fromR = cut-limited R limit (q .list) (i .fromR); upper = i .upper; lower = i .lower; room = i .room }
+  limited-inv k limit q l i = record {
+    fromR = cut-limited R limit (q .list) (i .fromR);
+    upper = i .upper;
+    lower = i .lower;
+    room = i .room;
+  }
 
   -- what a place passed question 3 saves is loaded there
   pub loaded : (limit : ℕ) (q : Place) → Cut R (q .list) → question3 (q .room) (q .list) ≡ true
-      → answered q (load (q .room) (R .area) (saved (q .list)) limit) ≡ record { list = limited limit (q .list); room = q .room }
+      → answered q (load (q .room) (R .area) (saved (q .list)) limit)
+      ≡ record { list = limited limit (q .list); room = q .room }
   unfolding answered
   loaded limit q c t =
-      let e = limited-load (q .room) limit (q .list) (record { one = c .one; two = c .two; four = c .four; sizes = c .fits }) (limited-three limit (q .list) (q .room) t) in
+      let e = limited-load (q .room) limit (q .list)
+      (record { one = c .one; two = c .two; four = c .four; sizes = c .fits })
+      (limited-three limit (q .list) (q .room) t) in
       rw (← c .area) (rw e refl)
 
   -- ---- the invariant of a state
   -- what was just saved is what its place holds, in tables that are long enough
   abbrev pub JustOk : (ℕ → Place) → Option Saved → Type 0
   JustOk now none = Unit {0}
-  JustOk now (some b) = (b .bytes ≡ saved (now (b .place) .list)) × (question3 (now (b .place) .room) (now (b .place) .list) ≡ true)
+  JustOk now (some b) = (b .bytes ≡ saved (now (b .place) .list))
+      × (question3 (now (b .place) .room) (now (b .place) .list) ≡ true)
 
   pub record Good (s : State) : Type 0 where
     pub places : (k : ℕ) → Inv k (s .now k) (s .went k)
     pub just : JustOk (s .now) (s .just)
 
-  load-good : (limit : ℕ) (s : State) (o : Option Saved) → Good s → JustOk (s .now) o → Good (loadInto (R .area) limit s o)
+  load-good : (limit : ℕ) (s : State) (o : Option Saved) → Good s → JustOk (s .now) o
+      → Good (loadInto (R .area) limit s o)
   unfolding loadInto
   load-good limit s none g j = g
   load-good limit s (some b) g j =
       let i = g .places (b .place) in let e = loaded limit (s .now (b .place)) (i .fromR) (j .1) in
       record {
         places = λ k.
-            test (eqb k (b .place)) (λ t. let t' : k ≡ b .place = eqb-true k (b .place) t in rw t (rw (t', j .0, e) (limited-inv (b .place) limit (s .now (b .place)) (s .went (b .place)) i)))
+            test (eqb k (b .place)) (λ t. let t' : k
+            ≡ b .place = eqb-true k (b .place) t in rw t
+            (rw (t', j .0, e) (limited-inv (b .place) limit (s .now (b .place)) (s .went (b .place)) i)))
             (λ t. rw t (g .places k));
         just = tt;
       }
@@ -121,7 +138,8 @@ module _ (R : Reading) (p : ℕ → Place) (cut : AllCut R p) where
   step-good (mergeCall i j) s g =
       record {
         places = λ k.
-            test (eqb k i) (λ e. let e' : k ≡ i = eqb-true k i e in rw e (rw e' (after-merge i j (s .now i) (s .now j) (s .went i) (s .went j) (g .places i) (g .places j))))
+            test (eqb k i) (λ e. let e' : k ≡ i = eqb-true k i e in rw e
+            (rw e' (after-merge i j (s .now i) (s .now j) (s .went i) (s .went j) (g .places i) (g .places j))))
             (λ e. rw e (g .places k));
         just = tt;
       }
@@ -138,21 +156,25 @@ module _ (R : Reading) (p : ℕ → Place) (cut : AllCut R p) where
 
   -- ---- from the invariant to the claim
   module _ (k : ℕ) (q : Place) (ws : List ℕ) (i : Inv k q ws) where
-    same-boundaries : (w : ℕ) → boundaries (p w .list .scan .area) (p w .list .scan .interval) ≡ boundaries (q .list .scan .area) (q .list .scan .interval)
+    same-boundaries : (w : ℕ) → boundaries (p w .list .scan .area) (p w .list .scan .interval)
+        ≡ boundaries (q .list .scan .area) (q .list .scan .interval)
     same-boundaries w = ap₂ boundaries (cut w .area ∙ sym (i .fromR .area)) (cut w .interval ∙ sym (i .fromR .interval))
 
     -- a list of the level has read the same
     same : (w : ℕ) → level (p w .list .scan) ≡ level (q .list .scan) → SameRead (q .list .scan) (p w .list .scan)
     same w e =
-        let s = same-level R (q .list .scan) (p w .list .scan) (cut-counts R (q .list) (i .fromR)) (cut-counts R (p w .list) (cut w))
+        let s = same-level R (q .list .scan) (p w .list .scan) (cut-counts R (q .list) (i .fromR))
+        (cut-counts R (p w .list) (cut w))
         (cut-read R (q .list) (i .fromR)) (cut-read R (p w .list) (cut w)) (sym e) in
         record { checkpoints = s .0; ending = s .1; malformed = s .2 }
 
     enough : (w : ℕ) → List·Memᴰ w ws → count (p w .list .scan) ≤ count (q .list .scan)
     unfolding level
     enough w m =
-        let c = cut-counts R (q .list) (i .fromR) in let d = cut-counts R (p w .list) (cut w) .within in let b = same-boundaries w in
-        at-least (boundaries (q .list .scan .area) (q .list .scan .interval)) (count (p w .list .scan)) (count (q .list .scan))
+        let c = cut-counts R (q .list) (i .fromR) in let d = cut-counts R (p w .list) (cut w) .within
+        in let b = same-boundaries w in
+        at-least (boundaries (q .list .scan .area) (q .list .scan .interval)) (count (p w .list .scan))
+        (count (q .list .scan))
         (complete (p w .list .scan)) (complete (q .list .scan)) (omega arith) (c .full) (i .upper w m)
 
     -- the list that attains the level is the furthest
@@ -162,13 +184,15 @@ module _ (R : Reading) (p : ℕ → Place) (cut : AllCut R p) where
         let w = i .lower .0 in let e = i .lower .2 in
         test (complete (p w .list .scan)) (λ c. inl c)
         (λ c.
-        let z : one (complete (p w .list .scan)) ≡ 0 = ap one c in let b = same-boundaries w in let n = cut-counts R (p w .list) (cut w) .within in
+        let z : one (complete (p w .list .scan))
+        ≡ 0 = ap one c in let b = same-boundaries w in let n = cut-counts R (p w .list) (cut w) .within in
         inr (
           (λ v m.
               let u = i .upper v m in let b' = same-boundaries v in
               test (complete (p v .list .scan))
               (λ d.
-              let y : one (complete (p v .list .scan)) ≡ 1 = ap one d in let f = cut-counts R (p v .list) (cut v) .full d in
+              let y : one (complete (p v .list .scan))
+              ≡ 1 = ap one d in let f = cut-counts R (p v .list) (cut v) .full d in
               let q : ⊥ = omega arith in absurd q)
               (λ d. d)),
           (λ v m. let u = i .upper v m in omega arith),
@@ -184,7 +208,8 @@ module _ (R : Reading) (p : ℕ → Place) (cut : AllCut R p) where
         (λ (c : complete (p w .list .scan) ≡ true).
         let y : one (complete (p w .list .scan)) ≡ 1 = ap one c in let g = cut-counts R (p w .list) (cut w) .full c in
         omega (arith, one-most (complete (q .list .scan))))
-        (λ g. let y : one (complete (p v .list .scan)) ≡ 0 = ap one (g .0 v (i .lower .1)) in let h = g .1 v (i .lower .1) in omega arith) f
+        (λ g. let y : one (complete (p v .list .scan))
+        ≡ 0 = ap one (g .0 v (i .lower .1)) in let h = g .1 v (i .lower .1) in omega arith) f
 
   module _ (cs : List Call) where
     after-run : (k : ℕ) → Inv k (afterCalls R p cs .now k) (afterCalls R p cs .went k)
@@ -195,20 +220,29 @@ module _ (R : Reading) (p : ℕ → Place) (cut : AllCut R p) where
         let q = afterCalls R p cs .now k in let ws = afterCalls R p cs .went k in let i = after-run k in
         record {
           atLeast = enough k q ws i;
-          largest = (i .lower .0, i .lower .1, furthest-of k q ws i, ap length (same k q ws i (i .lower .0) (i .lower .2) .checkpoints));
+          largest = (
+            i .lower .0,
+            i .lower .1,
+            furthest-of k q ws i,
+            ap length (same k q ws i (i .lower .0) (i .lower .2) .checkpoints),
+          );
           furthest = λ w m f. same k q ws i w (furthest-level k q ws i w m f);
           cut = i .fromR;
           room = i .room;
-          joins = λ j. not-refused R (q .room) (afterCalls R p cs .now j .room) (q .list) (afterCalls R p cs .now j .list) (i .fromR) (after-run j .fromR);
+          joins = λ j. not-refused R (q .room) (afterCalls R p cs .now j .room) (q .list)
+              (afterCalls R p cs .now j .list) (i .fromR) (after-run j .fromR);
         }
 
   -- ---- the held parts, call by call
-  merged-parts : (own other : Place) → mergeRefusal own other ≡ 0 → MergedParts (own .list .scan) (other .list .scan) (merged (own .list) (other .list) .scan)
+  merged-parts : (own other : Place) → mergeRefusal own other ≡ 0
+      → MergedParts (own .list .scan) (other .list .scan) (merged (own .list) (other .list) .scan)
   merged-parts own other e =
-      let t = merge-takes (own .room) (other .room) (own .list) (other .list) (merged (own .list) (other .list)) (unfold merge after in rw e refl) in
+      let t = merge-takes (own .room) (other .room) (own .list) (other .list) (merged (own .list) (other .list))
+      (unfold merge after in rw e refl) in
       record { taken = t .scan .parts; kept = λ f. ap storedIn (t .scan .same f) }
 
-  load-left : (limit : ℕ) (s : State) (o : Option Saved) → Good s → JustOk (s .now) o → JustLeaves limit s (loadInto (R .area) limit s o) o
+  load-left : (limit : ℕ) (s : State) (o : Option Saved) → Good s → JustOk (s .now) o
+      → JustLeaves limit s (loadInto (R .area) limit s o) o
   unfolding JustLeaves loadInto limited
   load-left limit s none g j = λ k. refl
   load-left limit s (some b) g j =
@@ -240,10 +274,12 @@ module _ (R : Reading) (p : ℕ → Place) (cut : AllCut R p) where
   from-either f none b h k = k
   from-either f (some a) b h k = h
 
-  from-agree : (f : Index → Option ℕ) (a b : Option ℕ) → ((w v : ℕ) → agree eqb (f (p w .list)) (f (p v .list)) ≡ true) → From f a → From f b → agree eqb a b ≡ true
+  from-agree : (f : Index → Option ℕ) (a b : Option ℕ)
+      → ((w v : ℕ) → agree eqb (f (p w .list)) (f (p v .list)) ≡ true) → From f a → From f b → agree eqb a b ≡ true
   unfolding agree
   from-agree f a b g h k =
-      ⊎-elim (λ e. rw e refl) (λ e. ⊎-elim (λ e'. rw e' (agree-none eqb a)) (λ e'. rw (e .1, e' .1) (g (e .0) (e' .0))) k) h
+      ⊎-elim (λ e. rw e refl) (λ e. ⊎-elim (λ e'. rw e' (agree-none eqb a))
+      (λ e'. rw (e .1, e' .1) (g (e .0) (e' .0))) k) h
 
   abbrev imageOf : Index → Option ℕ
   imageOf x = x .image
@@ -264,27 +300,36 @@ module _ (R : Reading) (p : ℕ → Place) (cut : AllCut R p) where
       (record {
         three = merged-three (own .list) (other .list) (own .room) (h .three);
         image = unfold merged in from-either imageOf (own .list .image) (other .list .image) (h .image) (k .image);
-        print = unfold merged in rw merged-stated (from-either printOf (stated (own .list .fingerprint)) (stated (other .list .fingerprint)) (h .print) (k .print));
+        print = unfold merged in rw merged-stated
+            (from-either printOf (stated (own .list .fingerprint)) (stated (other .list .fingerprint)) (h .print)
+            (k .print));
       }))
       (λ e. rw e h)
 
   ready-limited : (limit : ℕ) (q : Place) → Ready q → Ready (record { list = limited limit (q .list); room = q .room })
   ready-limited limit q h =
-      record { three = limited-three limit (q .list) (q .room) (h .three); image = unfold limited in inl refl; print = unfold limited in rw unmarked-stated (h .print) }
+      record {
+        three = limited-three limit (q .list) (q .room) (h .three);
+        image = unfold limited in inl refl;
+        print = unfold limited in rw unmarked-stated (h .print);
+      }
 
   AllReady : State → Type 0
   AllReady s = (k : ℕ) → Ready (s .now k)
 
-  load-ready : (limit : ℕ) (s : State) (o : Option Saved) → Good s → JustOk (s .now) o → AllReady s → AllReady (loadInto (R .area) limit s o)
+  load-ready : (limit : ℕ) (s : State) (o : Option Saved) → Good s → JustOk (s .now) o → AllReady s
+      → AllReady (loadInto (R .area) limit s o)
   unfolding loadInto AllReady
   load-ready limit s none g j r k = r k
   load-ready limit s (some b) g j r k =
       let e = loaded limit (s .now (b .place)) (g .places (b .place) .fromR) (j .1) in
-      test (eqb k (b .place)) (λ t. rw t (rw (j .0, e) (ready-limited limit (s .now (b .place)) (r (b .place))))) (λ t. rw t (r k))
+      test (eqb k (b .place)) (λ t. rw t (rw (j .0, e) (ready-limited limit (s .now (b .place)) (r (b .place)))))
+      (λ t. rw t (r k))
 
   step-ready : (c : Call) (s : State) → Good s → AllReady s → AllReady (step (R .area) c s)
   unfolding AllReady step
-  step-ready (mergeCall i j) s g r k = test (eqb k i) (λ e. rw e (ready-merge (s .now i) (s .now j) (r i) (r j))) (λ e. rw e (r k))
+  step-ready (mergeCall i j) s g r k = test (eqb k i) (λ e. rw e (ready-merge (s .now i) (s .now j) (r i) (r j)))
+      (λ e. rw e (r k))
   step-ready (saveCall i out) s g r k = r k
   step-ready (loadCall limit) s g r k = load-ready limit s (s .just) g (g .just) r k
 
@@ -293,23 +338,30 @@ module _ (R : Reading) (p : ℕ → Place) (cut : AllCut R p) where
   run-ready [] s g r = r
   run-ready (c ∷ cs) s g r = run-ready cs (step (R .area) c s) (step-good c s g) (step-ready c s g r)
 
-  none-refused-of : ((i : ℕ) → question3 (p i .room) (p i .list) ≡ true) → ((i j : ℕ) → question42 (p i .list) (p j .list) ≡ true)
+  none-refused-of : ((i : ℕ) → question3 (p i .room) (p i .list) ≡ true)
+      → ((i j : ℕ) → question42 (p i .list) (p j .list) ≡ true)
       → (cs : List Call) (i j : ℕ) → mergeRefusal (afterCalls R p cs .now i) (afterCalls R p cs .now j) ≡ 0
   unfolding AllReady question42
   none-refused-of t q cs i j =
-      let r = run-ready cs (begin p) start-good (λ k. record { three = t k; image = inr (k, refl); print = inr (k, refl) }) in
+      let r = run-ready cs (begin p) start-good (λ k. record
+      { three = t k; image = inr (k, refl); print = inr (k, refl) }) in
       let x = afterCalls R p cs .now i .list in let y = afterCalls R p cs .now j .list in
       outcome cs i .joins j (r i .three) (r j .three)
       (→all _ (
         from-agree imageOf (x .image) (y .image) (λ w v. all→ _ (q w v) .0) (r i .image) (r j .image),
-        (from-agree printOf (stated (x .fingerprint)) (stated (y .fingerprint)) (λ w v. all→ _ (q w v) .1 .0) (r i .print) (r j .print), tt),
+        (
+          from-agree printOf (stated (x .fingerprint)) (stated (y .fingerprint)) (λ w v. all→ _ (q w v) .1 .0)
+              (r i .print) (r j .print),
+          tt,
+        ),
       ))
 
 pub outcomes : Outcomes
 outcomes R p cut cs i = outcome R p cut cs i
 
 pub parts-agree : PartsAgree
-parts-agree R p q c d cs ds i j a b la lb e = outcomes R p c cs i .cut .parts a la ∙ ap (R .part) e ∙ sym (outcomes R q d ds j .cut .parts b lb)
+parts-agree R p q c d cs ds i j a b la lb e = outcomes R p c cs i .cut .parts a la ∙ ap (R .part) e
+    ∙ sym (outcomes R q d ds j .cut .parts b lb)
 
 pub none-refused : NoneRefused
 none-refused R p cut t q cs i j = none-refused-of R p cut t q cs i j
@@ -319,4 +371,10 @@ parts-by-rule R p cut cs c = parts-left R p cut c (afterCalls R p cs) (run-good 
 
 pub demand3 : Demand3
 demand3 =
-    record { outcomes = outcomes; partsByRule = parts-by-rule; partsAgree = parts-agree; noneRefused = none-refused; jump = jump-not-back }
+    record {
+      outcomes = outcomes;
+      partsByRule = parts-by-rule;
+      partsAgree = parts-agree;
+      noneRefused = none-refused;
+      jump = jump-not-back;
+    }

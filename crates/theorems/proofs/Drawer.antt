@@ -32,13 +32,20 @@ merge-number : (l m : Lengths) (x y : Index) → Valid l x → Valid m y → pai
 unfolding mergeNumber pairNumber
 merge-number l m x y v w e =
     let q = asked _ refl e in
-    asks _ (both (v .one) (w .one), (both (v .two) (w .two), (both (v .three) (w .three), (both (v .four) (w .four), q))))
+    asks _ (
+      both (v .one) (w .one),
+      (
+        both (v .two) (w .two),
+        (both (v .three) (w .three), (both (v .four) (w .four), q)),
+      ),
+    )
 
 pub number-merge : (l m : Lengths) (x y : Index) → mergeNumber l x m y ≡ 0 → pairNumber x y ≡ 0
 unfolding mergeNumber pairNumber
 number-merge l m x y e = asks _ (asked _ refl e .1 .1 .1 .1)
 
-pub merge-accepts : (l m : Lengths) (x y : Index) → Valid l x → Valid m y → pairNumber x y ≡ 0 → merge l x m y ≡ Accepted (merged x y)
+pub merge-accepts : (l m : Lengths) (x y : Index) → Valid l x → Valid m y → pairNumber x y ≡ 0 → merge l x m y
+    ≡ Accepted (merged x y)
 unfolding merge
 merge-accepts l m x y v w e = →after (merge-number l m x y v w e) refl
 
@@ -51,16 +58,19 @@ scan-is x v = scan→ (x .scan) (scan-of x (v .four))
 
 -- ---- turns and pairs
 module _ (l m : Lengths) where
-  to-turns : (x : Index) {ys : List Index} → Valid l x → Each (Valid m) ys → pairsNumber (x ∷ ys) ≡ 0 → mergeTurns l x m ys ≡ Accepted (mergeEach x ys)
+  to-turns : (x : Index) {ys : List Index} → Valid l x → Each (Valid m) ys → pairsNumber (x ∷ ys) ≡ 0
+      → mergeTurns l x m ys ≡ Accepted (mergeEach x ys)
   unfolding pairsNumber pairsWith mergeTurns mergeEach
   to-turns x v nothing e = refl
   to-turns x v (one {x = y} {xs = ys} w ws) e =
       let a = first-of→ _ _ e in let b = first-of→ _ _ (a .0) in let c = first-of→ _ _ (a .1) in
       let k = merge-accepts l m x y v w (b .0) in
-      let u : pairsWith (merged x y) ys ≡ 0 = pairs-both x y (scan-is x v) (scan-is y w) (mergeable→ x y (b .0)) ys (b .1) (c .0) in
+      let u : pairsWith (merged x y) ys ≡ 0 = pairs-both x y (scan-is x v) (scan-is y w) (mergeable→ x y (b .0)) ys
+      (b .1) (c .0) in
       →bind _ k (to-turns (merged x y) (closure .merged l m x y (merged x y) k) ws (→first-of u (c .1)))
 
-  of-turns : (x z : Index) {ys : List Index} → Valid l x → Each (Valid m) ys → mergeTurns l x m ys ≡ Accepted z → (pairsNumber (x ∷ ys) ≡ 0) × (mergeEach x ys ≡ z)
+  of-turns : (x z : Index) {ys : List Index} → Valid l x → Each (Valid m) ys → mergeTurns l x m ys ≡ Accepted z
+      → (pairsNumber (x ∷ ys) ≡ 0) × (mergeEach x ys ≡ z)
   unfolding pairsNumber pairsWith mergeTurns mergeEach
   of-turns x z v nothing e = (→first-of refl refl, accepted-eq x z e)
   of-turns x z v (one {x = y} {xs = ys} w ws) e =
@@ -74,7 +84,8 @@ module _ (l m : Lengths) where
 
 -- ---- the files
 module _ (m : Lengths) (a : Area) (limit : ℕ) where
-  pub files-loaded : (ns b : List ℕ) (ys : List Index) → loadFiles m a ns b limit ≡ Accepted ys → EachLoads m a ns b limit ys
+  pub files-loaded : (ns b : List ℕ) (ys : List Index) → loadFiles m a ns b limit ≡ Accepted ys
+      → EachLoads m a ns b limit ys
   unfolding loadFiles
   files-loaded [] b ys e =
       let q : [] ≡ ys = accepted-eq [] ys e in
@@ -87,14 +98,20 @@ module _ (m : Lengths) (a : Area) (limit : ℕ) where
         file = file-at n ns b (h .first) (h .rest) (h .inside) (h .loads) (r .file);
       })
     where
-      file-at : (n : ℕ) (ns b : List ℕ) (y : Index) (ys : List Index) → n ≤ length b → load m a (take n b) limit ≡ Accepted y
+      file-at : (n : ℕ) (ns b : List ℕ) (y : Index) (ys : List Index) → n ≤ length b → load m a (take n b) limit
+          ≡ Accepted y
           → ((i : ℕ) (z : Index) → i < length ns → FileLoads m a ns (drop n b) limit i (getD ys i z))
           → (i : ℕ) (z : Index) → i < length (n ∷ ns) → FileLoads m a (n ∷ ns) b limit i (getD (y ∷ ys) i z)
       file-at n ns b y ys l d f zero z h = record { bytes = take n b; place = first-file n ns b l; loads = d }
       file-at n ns b y ys l d f (suc i) z h =
-          let g = f i z (omega arith) in record { bytes = g .bytes; place = next-file n ns b i l ∙ g .place; loads = g .loads }
+          let g = f i z (omega arith) in record {
+            bytes = g .bytes;
+            place = next-file n ns b i l ∙ g .place;
+            loads = g .loads;
+          }
 
-  pub loaded-files : (ns b : List ℕ) (ys : List Index) → EachLoads m a ns b limit ys → loadFiles m a ns b limit ≡ Accepted ys
+  pub loaded-files : (ns b : List ℕ) (ys : List Index) → EachLoads m a ns b limit ys → loadFiles m a ns b limit
+      ≡ Accepted ys
   unfolding loadFiles
   loaded-files [] b [] h = refl
   loaded-files [] b (y ∷ ys) h = let f : ⊥ = omega (arith, h .count) in absurd f
@@ -113,19 +130,22 @@ module _ (m : Lengths) (a : Area) (limit : ℕ) where
             loaded-files ns (drop n b) ys
             (record {
               count = let c = h .count in omega arith;
-              file = λ i z g. let k = h .file (suc i) z (omega arith) in record { bytes = k .bytes; place = sym (next-file n ns b i l) ∙ k .place; loads = k .loads };
+              file = λ i z g. let k = h .file (suc i) z (omega arith) in record
+                  { bytes = k .bytes; place = sym (next-file n ns b i l) ∙ k .place; loads = k .loads };
             });
         is = refl;
       })
 
   -- each loaded list passes 1 to 4
-  pub files-valid : (ns b : List ℕ) (ys : List Index) → Bytes b → loadFiles m a ns b limit ≡ Accepted ys → Each (Valid m) ys
+  pub files-valid : (ns b : List ℕ) (ys : List Index) → Bytes b → loadFiles m a ns b limit ≡ Accepted ys
+      → Each (Valid m) ys
   unfolding loadFiles
   files-valid [] b ys g e = subst (Each (Valid m)) (accepted-eq [] ys e) nothing
   files-valid (n ∷ ns) b ys g e =
       let h = behind→ m a limit n ns b ys e in
       subst (Each (Valid m)) (h .is)
-      (one (closure .loaded m a (take n b) limit (h .first) (bytes-take b n g) (h .loads)) (files-valid ns (drop n b) (h .rest) (bytes-drop b n g) (h .others)))
+      (one (closure .loaded m a (take n b) limit (h .first) (bytes-take b n g) (h .loads))
+      (files-valid ns (drop n b) (h .rest) (bytes-drop b n g) (h .others)))
 
 -- ---- the call
 -- an accepted set
@@ -136,7 +156,8 @@ pub record Gathered (l : Lengths) (x : Index) (m : Lengths) (ns b : List ℕ) (l
   pub pairs : pairsNumber (x ∷ lists) ≡ 0
   pub is : mergeEach x lists ≡ z
 
-pub gathered→ : (l m : Lengths) (x z : Index) (ns b : List ℕ) (limit : ℕ) → mergeAll l x m ns b limit ≡ Accepted z → Gathered l x m ns b limit z
+pub gathered→ : (l m : Lengths) (x z : Index) (ns b : List ℕ) (limit : ℕ) → mergeAll l x m ns b limit ≡ Accepted z
+    → Gathered l x m ns b limit z
 unfolding mergeAll mergeLists question44
 gathered→ l m x z ns b limit e =
     let t = asked→ _ _ z refl e in
@@ -156,11 +177,24 @@ gathered→ l m x z ns b limit e =
       is = w .1;
     }
 
-pub →gathered : (l m : Lengths) (x z : Index) (ns b : List ℕ) (limit : ℕ) → Gathered l x m ns b limit z → mergeAll l x m ns b limit ≡ Accepted z
+pub →gathered : (l m : Lengths) (x z : Index) (ns b : List ℕ) (limit : ℕ) → Gathered l x m ns b limit z
+    → mergeAll l x m ns b limit ≡ Accepted z
 unfolding mergeAll mergeLists question44
 →gathered l m x z ns b limit g =
     let v = g .asked .own in
-    →asked _ (v .one, (v .two, (v .three, (v .four, (both (le-leb _ _ (g .asked .atLeast)) (le-leb _ _ (g .asked .atMost)), tt)))))
+    →asked _ (
+      v .one,
+      (
+        v .two,
+        (
+          v .three,
+          (
+            v .four,
+            (both (le-leb _ _ (g .asked .atLeast)) (le-leb _ _ (g .asked .atMost)), tt),
+          ),
+        ),
+      ),
+    )
     (→bind _ (g .loaded) (→after (g .pairs) (ap (λ (y : Index). Accepted y) (g .is))))
 
 pub set-is-turns : SetIsTurns
@@ -172,13 +206,20 @@ set-is-turns l m x z ns b limit h = (
         lists = g .lists;
         load = files-loaded m (x .scan .area) limit ns b (g .lists) (g .loaded);
         turns =
-            to-turns l m x (g .asked .own) (files-valid m (x .scan .area) limit ns b (g .lists) h (g .loaded)) (g .pairs)
+            to-turns l m x (g .asked .own) (files-valid m (x .scan .area) limit ns b (g .lists) h (g .loaded))
+            (g .pairs)
             ∙ ap (λ (y : Index). Accepted y) (g .is);
       }),
   (λ t.
       let d = loaded-files m (x .scan .area) limit ns b (t .lists) (t .load) in
       let r = of-turns l m x z (t .asked .own) (files-valid m (x .scan .area) limit ns b (t .lists) h d) (t .turns) in
-      →gathered l m x z ns b limit (record { asked = t .asked; lists = t .lists; loaded = d; pairs = r .0; is = r .1 })),
+      →gathered l m x z ns b limit (record {
+        asked = t .asked;
+        lists = t .lists;
+        loaded = d;
+        pairs = r .0;
+        is = r .1;
+      })),
 )
 
 -- ---- pairs
@@ -187,7 +228,8 @@ each-in d nothing k h = let f : ⊥ = omega arith in absurd f
 each-in d (one p ps) zero h = p
 each-in d (one p ps) (suc k) h = each-in d ps k (omega arith)
 
-valid-at : (l m : Lengths) (x : Index) (ys : List Index) (i : ℕ) → Valid l x → Each (Valid m) ys → i < length (x ∷ ys) → Valid (roomAt l m i) (getD (x ∷ ys) i x)
+valid-at : (l m : Lengths) (x : Index) (ys : List Index) (i : ℕ) → Valid l x → Each (Valid m) ys
+    → i < length (x ∷ ys) → Valid (roomAt l m i) (getD (x ∷ ys) i x)
 unfolding roomAt
 valid-at l m x ys zero v w h = v
 valid-at l m x ys (suc i) v w h = each-in x w i (omega arith)
@@ -204,7 +246,8 @@ set-is-pairs l m x ns b limit h = (
         pairs =
             λ i j k k'.
             merge-number (roomAt l m i) (roomAt l m j) (getD (x ∷ g .lists) i x) (getD (x ∷ g .lists) j x)
-            (valid-at l m x (g .lists) i (g .asked .own) w (omega arith)) (valid-at l m x (g .lists) j (g .asked .own) w k')
+            (valid-at l m x (g .lists) i (g .asked .own) w (omega arith))
+            (valid-at l m x (g .lists) j (g .asked .own) w k')
             (pairs-at (x ∷ g .lists) i j x (g .pairs) k k');
       }),
   (λ t.
@@ -218,7 +261,8 @@ set-is-pairs l m x ns b limit h = (
               loaded = loaded-files m (x .scan .area) limit ns b (t .lists) (t .load);
               pairs =
                   pairs-of (x ∷ t .lists) x
-                  (λ i j k k'. number-merge (roomAt l m i) (roomAt l m j) (getD (x ∷ t .lists) i x) (getD (x ∷ t .lists) j x) (t .pairs i j k k'));
+                  (λ i j k k'. number-merge (roomAt l m i) (roomAt l m j) (getD (x ∷ t .lists) i x)
+                  (getD (x ∷ t .lists) j x) (t .pairs i j k k'));
               is = refl;
             });
       }),
@@ -229,7 +273,8 @@ turns-valid : (l m : Lengths) (x z : Index) (ys : List Index) → Valid l x → 
 unfolding mergeTurns
 turns-valid l m x z [] v e = subst (Valid l) (accepted-eq x z e) v
 turns-valid l m x z (y ∷ ys) v e =
-    let t = bind→ (merge l x m y) _ z e in turns-valid l m (t .value) z ys (closure .merged l m x y (t .value) (t .first)) (t .second)
+    let t = bind→ (merge l x m y) _ z e in turns-valid l m (t .value) z ys
+    (closure .merged l m x y (t .value) (t .first)) (t .second)
 
 pub set-valid : SetValid
 set-valid l m x z ns b limit h e =
@@ -238,7 +283,8 @@ set-valid l m x z ns b limit h e =
 -- ---- the number of a refusal
 module _ (m : Lengths) (a : Area) (limit : ℕ) where
   -- the first failing file
-  file-refused : (ns b : List ℕ) (k n : ℕ) → k < length ns → ((i : ℕ) → i < k → Loaded m a ns b limit i) → FileFails m a ns b limit k n
+  file-refused : (ns b : List ℕ) (k n : ℕ) → k < length ns → ((i : ℕ) → i < k → Loaded m a ns b limit i)
+      → FileFails m a ns b limit k n
       → loadFiles m a ns b limit ≡ Refused n
   unfolding loadFiles
   file-refused [] b k n h f g = let z : ⊥ = omega arith in absurd z
@@ -248,32 +294,42 @@ module _ (m : Lengths) (a : Area) (limit : ℕ) where
   file-refused (i ∷ ns) b zero n h f (refused c e q) =
       let l = file-inside i ns b 0 c e in
       let w = some-eq (sym (first-file i ns b l) ∙ e) in
-      →asked (ask (leb i (length b)) 20 ∷ []) (le-leb i (length b) l, tt) (refused-bind _ n (ap (λ (c : List ℕ). load m a c limit) w ∙ q))
+      →asked (ask (leb i (length b)) 20 ∷ []) (le-leb i (length b) l, tt)
+      (refused-bind _ n (ap (λ (c : List ℕ). load m a c limit) w ∙ q))
   file-refused (i ∷ ns) b (suc k) n h f g =
       let d = f 0 (omega arith) in
       let l = file-inside i ns b 0 (d .file .bytes) (d .file .place) in
       let w = some-eq (sym (first-file i ns b l) ∙ d .file .place) in
-      let r = file-refused ns (drop i b) k n (omega arith) (λ j t. behind i ns b j l (f (suc j) (omega arith))) (fails-behind i ns b k n l g) in
+      let r = file-refused ns (drop i b) k n (omega arith) (λ j t. behind i ns b j l (f (suc j) (omega arith)))
+      (fails-behind i ns b k n l g) in
       →asked (ask (leb i (length b)) 20 ∷ []) (le-leb i (length b) l, tt)
       (→bind _ (ap (λ (c : List ℕ). load m a c limit) w ∙ d .file .loads) (refused-bind _ n r))
     where
-      behind : (i : ℕ) (ns b : List ℕ) (j : ℕ) → i ≤ length b → Loaded m a (i ∷ ns) b limit (suc j) → Loaded m a ns (drop i b) limit j
+      behind : (i : ℕ) (ns b : List ℕ) (j : ℕ) → i ≤ length b → Loaded m a (i ∷ ns) b limit (suc j)
+          → Loaded m a ns (drop i b) limit j
       behind i ns b j l d =
           record {
             list = d .list;
-            file = record { bytes = d .file .bytes; place = sym (next-file i ns b j l) ∙ d .file .place; loads = d .file .loads };
+            file = record {
+              bytes = d .file .bytes;
+              place = sym (next-file i ns b j l) ∙ d .file .place;
+              loads = d .file .loads;
+            };
           }
 
-      fails-behind : (i : ℕ) (ns b : List ℕ) (j n : ℕ) → i ≤ length b → FileFails m a (i ∷ ns) b limit (suc j) n → FileFails m a ns (drop i b) limit j n
+      fails-behind : (i : ℕ) (ns b : List ℕ) (j n : ℕ) → i ≤ length b → FileFails m a (i ∷ ns) b limit (suc j) n
+          → FileFails m a ns (drop i b) limit j n
       fails-behind i ns b j n l (past e q) = past (sym (next-file i ns b j l) ∙ e) q
       fails-behind i ns b j n l (refused c e q) = refused c (sym (next-file i ns b j l) ∙ e) q
 
 -- a question before others
-first-no : (l : Lengths) (x : Index) (q : Ask) (n : ℕ) → firstNo (four l x []) ≡ n → n ≢ 0 → firstNo (four l x (q ∷ [])) ≡ n
+first-no : (l : Lengths) (x : Index) (q : Ask) (n : ℕ) → firstNo (four l x []) ≡ n → n ≢ 0
+    → firstNo (four l x (q ∷ [])) ≡ n
 unfolding firstNo
 first-no l x q n e z = more (question1 x) (question2 x) (question3 l x) (question4 x) e
   where
-    more : (a b c d : Bool) → cond a (cond b (cond c (cond d 0 4) 3) 2) 1 ≡ n → cond a (cond b (cond c (cond d (cond (q .ok) 0 (q .number)) 4) 3) 2) 1 ≡ n
+    more : (a b c d : Bool) → cond a (cond b (cond c (cond d 0 4) 3) 2) 1 ≡ n
+        → cond a (cond b (cond c (cond d (cond (q .ok) 0 (q .number)) 4) 3) 2) 1 ≡ n
     more false b c d e = e
     more true false c d e = e
     more true true false d e = e
@@ -284,19 +340,33 @@ size-no : (l : Lengths) (x : Index) (b : Bool) (n : ℕ) → Valid l x → b ≡
 unfolding firstNo
 size-no l x b n v e = rw (v .one, v .two, v .three, v .four, e)
 
-all-asked : (l : Lengths) (x : Index) (ns : List ℕ) → SetAsked l x ns → firstNo (four l x (ask (question44 ns) 44 ∷ [])) ≡ 0
+all-asked : (l : Lengths) (x : Index) (ns : List ℕ) → SetAsked l x ns
+    → firstNo (four l x (ask (question44 ns) 44 ∷ [])) ≡ 0
 unfolding question44
 all-asked l x ns q =
-    let v = q .own in asks _ (v .one, (v .two, (v .three, (v .four, (both (le-leb _ _ (q .atLeast)) (le-leb _ _ (q .atMost)), tt)))))
+    let v = q .own in asks _ (
+      v .one,
+      (
+        v .two,
+        (
+          v .three,
+          (v .four, (both (le-leb _ _ (q .atLeast)) (le-leb _ _ (q .atMost)), tt)),
+        ),
+      ),
+    )
 
 pub set-number : SetNumber
 set-number =
     record {
-      own = λ l m x ns b limit n e z. unfold mergeAll in let f = first-no l x (ask (question44 ns) 44) n e z in rw f (refused-after n _ z);
-      size = λ l m x ns b limit v e. unfold mergeAll in let f = size-no l x (question44 ns) 44 v e in rw f (refused-after 44 _ (λ z. omega arith));
-      file = λ l m x ns b limit i n q h f g. unfold mergeAll in →after (all-asked l x ns q) (refused-bind _ n (file-refused m (x .scan .area) limit ns b i n h f g));
+      own = λ l m x ns b limit n e z. unfold mergeAll in let f = first-no l x (ask (question44 ns) 44) n e z in rw f
+          (refused-after n _ z);
+      size = λ l m x ns b limit v e. unfold mergeAll in let f = size-no l x (question44 ns) 44 v e in rw f
+          (refused-after 44 _ (λ z. omega arith));
+      file = λ l m x ns b limit i n q h f g. unfold mergeAll in →after (all-asked l x ns q)
+          (refused-bind _ n (file-refused m (x .scan .area) limit ns b i n h f g));
       pair = λ l m x ns b limit ys i j n q d h k f e z.
           unfold mergeAll in unfold mergeLists in
           →after (all-asked l x ns q)
-          (→bind _ (loaded-files m (x .scan .area) limit ns b ys d) (let w = pairs-first (x ∷ ys) i j n x h k f e z in rw w (refused-after n _ z)));
+          (→bind _ (loaded-files m (x .scan .area) limit ns b ys d)
+          (let w = pairs-first (x ∷ ys) i j n x h k f e z in rw w (refused-after n _ z)));
     }

@@ -71,7 +71,12 @@ reading =
     }
 
 abbrev list : Scan → Option ℕ → Index
-list x image = record { scan = x; hinting = record { spacing = 8; most = 2048; hints = []; confirmed = [] }; fingerprint = Unknown; image = image }
+list x image = record {
+  scan = x;
+  hinting = record { spacing = 8; most = 2048; hints = []; confirmed = [] };
+  fingerprint = Unknown;
+  image = image;
+}
 
 abbrev short : Index
 short =
@@ -96,7 +101,8 @@ whole =
       interval = 100;
       budget = 5;
       checkpoints =
-          record { threshold = 0; back = 0; malformed = 0; digest = 11 } ∷ record { threshold = 0; back = 50; malformed = 0; digest = 12 }
+          record { threshold = 0; back = 0; malformed = 0; digest = 11 }
+          ∷ record { threshold = 0; back = 50; malformed = 0; digest = 12 }
           ∷ record { threshold = 75; back = 60; malformed = 1; digest = 13 } ∷ [];
       frames = record { start = 1050; bytes = 1 ∷ 2 ∷ 3 ∷ [] } ∷ record { start = 1140; bytes = 4 ∷ 5 ∷ [] } ∷ [];
       parts =
@@ -136,7 +142,11 @@ whole-cut =
       checkpoints = refl;
       ending = inr (refl, refl);
       malformed = refl;
-      parts = elim [ zero ↦ λ l. refl | suc i ↦ elim i [ zero ↦ λ l. refl | suc j ↦ λ l. let z : ⊥ = omega arith in absurd z ] ];
+      parts = elim [
+        | zero ↦ λ l. refl
+        | suc i ↦ elim i
+            [ zero ↦ λ l. refl | suc j ↦ λ l. let z : ⊥ = omega arith in absurd z ]
+      ];
     }
 
 -- place 0 has the short list, every other place the whole one
@@ -144,7 +154,15 @@ abbrev places : ℕ → Place
 places i =
     record {
       list = cond (eqb i 0) short whole;
-      room = record { checkpoints = 3; frames = 3; store = 5; parts = 3; malformed = 4096; hints = 264192; confirmed = 2049 };
+      room = record {
+        checkpoints = 3;
+        frames = 3;
+        store = 5;
+        parts = 3;
+        malformed = 4096;
+        hints = 264192;
+        confirmed = 2049;
+      };
     }
 
 pub all-cut : AllCut reading places
@@ -160,18 +178,28 @@ unfolding all agree stated question42
 ids i j =
     test (eqb i 0) (λ e. rw e refl) (λ e. test (eqb j 0) (λ f. rw (e, f) refl) (λ f. rw (e, f) refl))
 
-pub merges : (calls : List Call) (i j : ℕ) → mergeRefusal (afterCalls reading places calls .now i) (afterCalls reading places calls .now j) ≡ 0
+pub merges : (calls : List Call) (i j : ℕ) → mergeRefusal (afterCalls reading places calls .now i)
+    (afterCalls reading places calls .now j) ≡ 0
 merges = none-refused reading places all-cut rooms ids
 
 -- ---- in tables: those of zeros, with the lists put into them
 unfoldable pub zerosOf : ℕ → ℕ → ℕ → ℕ → ℕ → ℕ → ℕ → Tables
-zerosOf a b c d e f g = tables (replicate a 0) (replicate b 0) (replicate c 0) (replicate d 0) (replicate e 0) (replicate f 0) (replicate g 0)
+zerosOf a b c d e f g = tables (replicate a 0) (replicate b 0) (replicate c 0) (replicate d 0) (replicate e 0)
+    (replicate f 0) (replicate g 0)
 
 zeros-length : (n : ℕ) → length (replicate {A = ℕ} n 0) ≡ n
 zeros-length n = length-replicate {A = ℕ} n 0
 
 zeros-room : (a b c d e f g : ℕ)
-    → roomOf (zerosOf a b c d e f g) ≡ record { checkpoints = a / 24; frames = b / 8; store = c; parts = d / 24; malformed = e / 4; hints = f / 8; confirmed = g / 16 }
+    → roomOf (zerosOf a b c d e f g) ≡ record {
+      checkpoints = a / 24;
+      frames = b / 8;
+      store = c;
+      parts = d / 24;
+      malformed = e / 4;
+      hints = f / 8;
+      confirmed = g / 16;
+    }
 unfolding zerosOf
 zeros-room a b c d e f g =
     rw (zeros-length a, zeros-length b, zeros-length c, zeros-length d, zeros-length e, zeros-length f, zeros-length g)
@@ -208,7 +236,8 @@ bytes-zeros (suc n) zero = omega arith
 bytes-zeros (suc n) (suc i) = bytes-zeros n i
 
 bytes-over : (new : List ℕ) (n : ℕ) → Bytes new → Bytes (over new (replicate n 0))
-bytes-over new n h = bytes-append new (drop (length new) (replicate n 0)) h (bytes-drop (replicate n 0) (length new) (bytes-zeros n))
+bytes-over new n h = bytes-append new (drop (length new) (replicate n 0)) h
+    (bytes-drop (replicate n 0) (length new) (bytes-zeros n))
 
 -- frames, their bytes and parts
 record HeldBytes (x : Scan) : Type 0 where
@@ -216,7 +245,8 @@ record HeldBytes (x : Scan) : Type 0 where
   store : Bytes (storeOf (x .frames))
   parts : Bytes (bytesOf encodeHeld (x .parts))
 
-lent-zeros : (x : Index) → SizeFacts x → HeldBytes (x .scan) → (a b c d e f g : ℕ) → LentIn (numbersFrom x) (tablesFrom x (zerosOf a b c d e f g))
+lent-zeros : (x : Index) → SizeFacts x → HeldBytes (x .scan) → (a b c d e f g : ℕ)
+    → LentIn (numbersFrom x) (tablesFrom x (zerosOf a b c d e f g))
 unfolding zerosOf
 lent-zeros x s h a b c d e f g =
     record {
@@ -231,13 +261,17 @@ lent-zeros x s h a b c d e f g =
           };
       bytes =
           record {
-            checkpoints = bytes-over (bytesOf encodeCheckpoint (x .scan .checkpoints)) a (bytesOf-bytes checkpoint-layout (x .scan .checkpoints));
+            checkpoints = bytes-over (bytesOf encodeCheckpoint (x .scan .checkpoints)) a
+                (bytesOf-bytes checkpoint-layout (x .scan .checkpoints));
             frames = bytes-over (bytesOf encodeFrameHeader (x .scan .frames)) b (h .frames);
             store = bytes-over (storeOf (x .scan .frames)) c (h .store);
             parts = bytes-over (bytesOf encodeHeld (x .scan .parts)) d (h .parts);
-            malformed = bytes-over (bytesOf encodeLsn (x .scan .malformed)) e (bytesOf-bytes lsn-layout (x .scan .malformed));
-            hints = bytes-over (bytesOf encodeKept (x .hinting .hints)) f (bytesOf-bytes kept-layout (x .hinting .hints));
-            confirmed = bytes-over (bytesOf encodeConfirmation (x .hinting .confirmed)) g (bytesOf-bytes confirmation-layout (x .hinting .confirmed));
+            malformed = bytes-over (bytesOf encodeLsn (x .scan .malformed)) e
+                (bytesOf-bytes lsn-layout (x .scan .malformed));
+            hints = bytes-over (bytesOf encodeKept (x .hinting .hints)) f
+                (bytesOf-bytes kept-layout (x .hinting .hints));
+            confirmed = bytes-over (bytesOf encodeConfirmation (x .hinting .confirmed)) g
+                (bytesOf-bytes confirmation-layout (x .hinting .confirmed));
           };
     }
 
@@ -252,8 +286,10 @@ whole-bytes =
       frames = each-bytes (bytesOf encodeFrameHeader (whole .scan .frames)) refl;
       store = each-bytes (storeOf (whole .scan .frames)) refl;
       parts =
-          bytes-append (encodeHeld (getD (whole .scan .parts) 0 noHeld)) (encodeHeld (getD (whole .scan .parts) 1 noHeld) ++ []) (held-bytes (getD (whole .scan .parts) 0 noHeld))
-          (bytes-append (encodeHeld (getD (whole .scan .parts) 1 noHeld)) [] (held-bytes (getD (whole .scan .parts) 1 noHeld)) (λ i. omega arith));
+          bytes-append (encodeHeld (getD (whole .scan .parts) 0 noHeld))
+          (encodeHeld (getD (whole .scan .parts) 1 noHeld) ++ []) (held-bytes (getD (whole .scan .parts) 0 noHeld))
+          (bytes-append (encodeHeld (getD (whole .scan .parts) 1 noHeld)) []
+          (held-bytes (getD (whole .scan .parts) 1 noHeld)) (λ i. omega arith));
     }
 
 pub lent : (i : ℕ) → LentIn (tablePlaces i .numbers) (tablePlaces i .tables)
@@ -271,7 +307,8 @@ all-cut-in i =
 
 -- no merge among them is ever refused
 pub merges-in-tables : (calls : List TableCall) (i j : ℕ)
-    → isAccepted (merging (afterTableCalls reading tablePlaces calls .now i) (afterTableCalls reading tablePlaces calls .now j) .answer) ≡ true
+    → isAccepted (merging (afterTableCalls reading tablePlaces calls .now i)
+    (afterTableCalls reading tablePlaces calls .now j) .answer) ≡ true
 merges-in-tables =
     none-refused-in-tables reading tablePlaces all-cut-in
     (λ i. subst (λ (q : Place). question3 (q .room) (q .list) ≡ true) (sym (table-place i)) (rooms i))
@@ -285,7 +322,8 @@ holds-part =
     record {
       inside = subst (λ (q : Place). 3 ≤ q .room .store) (sym (table-place 1)) (omega arith);
       part =
-          subst (λ (q : Place). assemblyOf (q .list .scan .frames) (q .list .scan .parts) 1 ≡ Stored (record { kind = Dst; number = 7; remaining = pos 5; offset = 0; len = 3 }))
+          subst (λ (q : Place). assemblyOf (q .list .scan .frames) (q .list .scan .parts) 1
+          ≡ Stored (record { kind = Dst; number = 7; remaining = pos 5; offset = 0; len = 3 }))
           (sym (table-place 1)) refl;
     }
 
@@ -293,8 +331,21 @@ holds-part =
 abbrev agreeing : Scan → List Hint → List Confirmation → Option ℕ → Place
 agreeing x hs cs image =
     record {
-      list = record { scan = x; hinting = record { spacing = 8; most = 4; hints = hs; confirmed = cs }; fingerprint = Checked 9; image = image };
-      room = record { checkpoints = 3; frames = 3; store = 5; parts = 3; malformed = 4096; hints = 262148; confirmed = 5 };
+      list = record {
+        scan = x;
+        hinting = record { spacing = 8; most = 4; hints = hs; confirmed = cs };
+        fingerprint = Checked 9;
+        image = image;
+      };
+      room = record {
+        checkpoints = 3;
+        frames = 3;
+        store = 5;
+        parts = 3;
+        malformed = 4096;
+        hints = 262148;
+        confirmed = 5;
+      };
     }
 
 abbrev at : ℕ → Hint
@@ -319,18 +370,21 @@ agreed i = cond (eqb i 0) one (cond (eqb i 1) two other)
 -- what holds of the three holds of each place
 module _ (P : Place → Type 0) (x : P one) (y : P two) (z : P other) where
   each-agreed : (i : ℕ) → P (agreed i)
-  each-agreed i = choose P (eqb i 0) one (cond (eqb i 1) two other) (λ e. x) (λ e. choose P (eqb i 1) two other (λ f. y) (λ f. z))
+  each-agreed i = choose P (eqb i 0) one (cond (eqb i 1) two other) (λ e. x)
+      (λ e. choose P (eqb i 1) two other (λ f. y) (λ f. z))
 
 valid-agreed : (i : ℕ) → Valid (agreed i .room) (agreed i .list)
 unfolding all each walk lastOr isSome boundaries frontierOf counted stated sameKind countsOk checkpointOk checkpointsOk frameOk framesOk follows belongs partOk reached partsOk endOk endingOk risingOk rising malformedOk hintsOk isKept keptCount marksOk confirmationsOk areaOk numbersOk heldOk scanOk hintingOk scanRoom hintingRoom question1 question2 question3 question4
 valid-agreed =
     each-agreed (λ p. Valid (p .room) (p .list)) (record { one = refl; two = refl; three = refl; four = refl })
-    (record { one = refl; two = refl; three = refl; four = refl }) (record { one = refl; two = refl; three = refl; four = refl })
+    (record { one = refl; two = refl; three = refl; four = refl })
+    (record { one = refl; two = refl; three = refl; four = refl })
 
 scans-agree : (i j : ℕ) → question43 (agreed i .list) (agreed j .list) ≡ true
 unfolding all agree agrees sameCheckpoint sameEnd question43
 scans-agree i j =
-    each-agreed (λ p. question43 (p .list) (agreed j .list) ≡ true) (each-agreed (λ q. question43 (one .list) (q .list) ≡ true) refl refl refl j)
+    each-agreed (λ p. question43 (p .list) (agreed j .list) ≡ true)
+    (each-agreed (λ q. question43 (one .list) (q .list) ≡ true) refl refl refl j)
     (each-agreed (λ q. question43 (two .list) (q .list) ≡ true) refl refl refl j)
     (each-agreed (λ q. question43 (other .list) (q .list) ≡ true) refl refl refl j) i
 
@@ -360,18 +414,21 @@ member3 = List·Memᴰ·tail (List·Memᴰ·tail (List·Memᴰ·tail (List·Mem�
 number-agreed : (i : ℕ) (h : Hint) → List·Memᴰ h (hintsAt (agreed i)) → h .number ≡ h .lsn - 1000
 number-agreed i h m =
     all-member (λ g. g .number ≡ g .lsn - 1000) (hintsAt (agreed i)) h
-    (each-agreed (λ p. All (λ g. g .number ≡ g .lsn - 1000) (hintsAt p)) (refl, (refl, tt)) (refl, (refl, tt)) (refl, (refl, tt)) i) m
+    (each-agreed (λ p. All (λ g. g .number ≡ g .lsn - 1000) (hintsAt p)) (refl, (refl, tt)) (refl, (refl, tt))
+    (refl, (refl, tt)) i) m
 
 digest-agreed : (i : ℕ) (c : Confirmation) → List·Memᴰ c (confirmedAt (agreed i)) → c .digest ≡ c .lsn
 digest-agreed i c m =
     all-member (λ d. d .digest ≡ d .lsn) (confirmedAt (agreed i)) c
-    (each-agreed (λ p. All (λ d. d .digest ≡ d .lsn) (confirmedAt p)) (refl, (refl, tt)) (refl, (refl, tt)) (refl, (refl, tt)) i) m
+    (each-agreed (λ p. All (λ d. d .digest ≡ d .lsn) (confirmedAt p)) (refl, (refl, tt)) (refl, (refl, tt))
+    (refl, (refl, tt)) i) m
 
 kept-agreed : (i : ℕ) (h : Hint) → List·Memᴰ h (hintsAt (agreed i)) → isKept h ≡ false
 unfolding isKept
 kept-agreed i h m =
     all-member (λ g. isKept g ≡ false) (hintsAt (agreed i)) h
-    (each-agreed (λ p. All (λ g. isKept g ≡ false) (hintsAt p)) (refl, (refl, tt)) (refl, (refl, tt)) (refl, (refl, tt)) i) m
+    (each-agreed (λ p. All (λ g. isKept g ≡ false) (hintsAt p)) (refl, (refl, tt)) (refl, (refl, tt))
+    (refl, (refl, tt)) i) m
 
 pub together : Together agreed area 100 4
 together =
@@ -391,12 +448,14 @@ together =
       hintsFit = omega arith;
       hintsIn = λ i h m.
           all-member (λ g. List·Memᴰ (g .lsn) lsns) (hintsAt (agreed i)) h
-          (each-agreed (λ p. All (λ g. List·Memᴰ (g .lsn) lsns) (hintsAt p)) (member0, (member1, tt)) (member1, (member2, tt)) (member2, (member3, tt)) i) m;
+          (each-agreed (λ p. All (λ g. List·Memᴰ (g .lsn) lsns) (hintsAt p)) (member0, (member1, tt))
+          (member1, (member2, tt)) (member2, (member3, tt)) i) m;
       confirmedLsns = lsns;
       confirmedFit = omega arith;
       confirmedIn = λ i c m.
           all-member (λ d. List·Memᴰ (d .lsn) lsns) (confirmedAt (agreed i)) c
-          (each-agreed (λ p. All (λ d. List·Memᴰ (d .lsn) lsns) (confirmedAt p)) (member0, (member1, tt)) (member0, (member2, tt)) (member0, (member3, tt)) i) m;
+          (each-agreed (λ p. All (λ d. List·Memᴰ (d .lsn) lsns) (confirmedAt p)) (member0, (member1, tt))
+          (member0, (member2, tt)) (member0, (member3, tt)) i) m;
     }
 
 -- they lose none, in every order
@@ -415,12 +474,14 @@ unfolding all each stated keySized frameSized scanSized knownSized hintingSized 
 fits-agreed = each-agreed (λ p. sized (p .list) ≡ true) refl refl refl
 
 savable-agreed : (i : ℕ) → Savable (agreed i .list)
-savable-agreed i = let v = valid-agreed i in record { one = v .one; two = v .two; four = v .four; sizes = fits-agreed i }
+savable-agreed i = let v = valid-agreed i in record
+    { one = v .one; two = v .two; four = v .four; sizes = fits-agreed i }
 
 agreed-place : (i : ℕ) → placeIn (agreedTables i) ≡ agreed i
 agreed-place i =
     stood (agreed i) agreedZeros (savable-agreed i)
-    (each-agreed (λ p. roomOf agreedZeros ≡ p .room) (zeros-room 72 24 5 72 16384 2097184 80) (zeros-room 72 24 5 72 16384 2097184 80) (zeros-room 72 24 5 72 16384 2097184 80) i)
+    (each-agreed (λ p. roomOf agreedZeros ≡ p .room) (zeros-room 72 24 5 72 16384 2097184 80)
+    (zeros-room 72 24 5 72 16384 2097184 80) (zeros-room 72 24 5 72 16384 2097184 80) i)
     (valid-agreed i .three)
 
 agreed-lent : (i : ℕ) → LentPlace (agreedTables i)
@@ -428,10 +489,13 @@ agreed-lent i =
     record {
       lent =
           lent-zeros (agreed i .list) (sized→ (agreed i .list) (fits-agreed i))
-          (each-agreed (λ p. HeldBytes (p .list .scan)) short-bytes whole-bytes short-bytes i) 72 24 5 72 16384 2097184 80;
+          (each-agreed (λ p. HeldBytes (p .list .scan)) short-bytes whole-bytes short-bytes i) 72 24 5 72 16384
+          2097184 80;
       kinds = kinds-from (agreed i .list) agreedZeros (savable-agreed i);
     }
 
-pub gathers-in-tables : (ms : List Merge) (i : ℕ) → Gathered (λ n. placeIn (agreedTables n)) (stateIn (afterTableMerges area agreedTables ms)) i
+pub gathers-in-tables : (ms : List Merge) (i : ℕ)
+    → Gathered (λ n. placeIn (agreedTables n)) (stateIn (afterTableMerges area agreedTables ms)) i
 gathers-in-tables =
-    hints-gathered-in-tables agreedTables area 100 4 agreed-lent (subst (λ (q : ℕ → Place). Together q area 100 4) (λ k i. sym (agreed-place i) k) together)
+    hints-gathered-in-tables agreedTables area 100 4 agreed-lent
+    (subst (λ (q : ℕ → Place). Together q area 100 4) (λ k i. sym (agreed-place i) k) together)

@@ -23,7 +23,8 @@ refused→ : {A : Type 0} (m : ℕ) (x : A) (n : ℕ) → after m (Accepted x) �
 unfolding after
 refused→ {A} m x n h =
     test (eqb m 0)
-    (λ e. let q : _≡_ {A = Answer A} (Accepted x) (Refused n) = rw e at h in let z : _≡_ {A = ℕ} 0 1 = cc in let f : ⊥ = omega arith in absurd f)
+    (λ e. let q : _≡_ {A = Answer A} (Accepted x) (Refused n) = rw e at h in let z : _≡_ {A = ℕ} 0 1 = cc
+    in let f : ⊥ = omega arith in absurd f)
     (λ e. let q : _≡_ {A = Answer A} (Refused m) (Refused n) = rw e at h in (e, cc))
 
 before→ : (m n : ℕ) → eqb (beforeSum m) 0 ≡ false → beforeSum m ≡ n → (eqb m 0 ≡ false) × (m ≡ n)
@@ -43,28 +44,35 @@ except26 = 20 ∷ 21 ∷ 22 ∷ 23 ∷ 24 ∷ 25 ∷ 27 ∷ 28 ∷ 29 ∷ 30 ∷
 
 -- 26 is answered yes
 passed-26 : (p q r s t u v w : Bool) (x : Answer Index) → Only except26 x
-    → Only except26 (after (firstNo (ask p 23 ∷ ask q 24 ∷ ask r 25 ∷ ask true 26 ∷ ask s 27 ∷ ask t 28 ∷ ask u 29 ∷ ask v 28 ∷ ask w 30 ∷ [])) x)
+    → Only except26 (after (firstNo (ask p 23 ∷ ask q 24 ∷ ask r 25 ∷ ask true 26 ∷ ask s 27 ∷ ask t 28 ∷ ask u 29
+    ∷ ask v 28 ∷ ask w 30 ∷ [])) x)
 unfolding firstNo among
 passed-26 p q r s t u v w x o =
-    only-after except26 (ask p 23 ∷ ask q 24 ∷ ask r 25 ∷ ask s 27 ∷ ask t 28 ∷ ask u 29 ∷ ask v 28 ∷ ask w 30 ∷ []) x refl o
+    only-after except26 (ask p 23 ∷ ask q 24 ∷ ask r 25 ∷ ask s 27 ∷ ask t 28 ∷ ask u 29 ∷ ask v 28 ∷ ask w 30 ∷ [])
+    x refl o
 
-pub other-number : (a : Area) (b : List ℕ) → sameKey (keyOf (readHeader (bodyIn b))) (a .key) ≡ true → Only except26 (fromBytes a b)
+pub other-number : (a : Area) (b : List ℕ) → sameKey (keyOf (readHeader (bodyIn b))) (a .key) ≡ true
+    → Only except26 (fromBytes a b)
 unfolding fromBytes fileNumber headerNumber among
 other-number a b e =
-    only-after except26 _ _ refl (rw e (passed-26 _ _ _ _ _ _ _ _ _ (only-wider ofSections except26 _ refl (only-sections a _ _))))
+    only-after except26 _ _ refl (rw e (passed-26 _ _ _ _ _ _ _ _ _
+    (only-wider ofSections except26 _ refl (only-sections a _ _))))
 
 -- the key of the area that is given
 given-key : (b : List ℕ) (a : Area) → fileArea b ≡ Accepted a → sameKey (keyOf (readHeader (bodyIn b))) (a .key) ≡ true
 unfolding fileArea rangeOf
 given-key b a e =
-    let q : rangeOf (keyOf (readHeader (bodyIn b))) ≡ a = accepted→ (beforeSum (fileNumber b)) (rangeOf (keyOf (readHeader (bodyIn b)))) a e .1 in
-    subst (λ (c : Area). sameKey (keyOf (readHeader (bodyIn b))) (c .key) ≡ true) q (sameKey-self (keyOf (readHeader (bodyIn b))))
+    let q : rangeOf (keyOf (readHeader (bodyIn b)))
+    ≡ a = accepted→ (beforeSum (fileNumber b)) (rangeOf (keyOf (readHeader (bodyIn b)))) a e .1 in
+    subst (λ (c : Area). sameKey (keyOf (readHeader (bodyIn b))) (c .key) ≡ true) q
+    (sameKey-self (keyOf (readHeader (bodyIn b))))
 
 area-there : (b : List ℕ) → fileNumber b ≡ 0 → fileArea b ≡ Accepted (rangeOf (keyOf (readHeader (bodyIn b))))
 unfolding fileArea beforeSum after
 area-there b e = rw e refl
 
-loads-under : (a : Area) (b : List ℕ) (x : Index) → fromBytes a b ≡ Accepted x → (c : Area) × (fileArea b ≡ Accepted c) × (sameKey (c .key) (a .key) ≡ true)
+loads-under : (a : Area) (b : List ℕ) (x : Index) → fromBytes a b ≡ Accepted x → (c : Area)
+    × (fileArea b ≡ Accepted c) × (sameKey (c .key) (a .key) ≡ true)
 unfolding fromBytes headerNumber rangeOf
 loads-under a b x e =
     let f = after→ (fileNumber b) _ x e in

@@ -46,7 +46,8 @@ module _ (a : Area) (k t : ℕ) where
   last-most : (cs : List Checkpoint) (n : ℕ) → place (lastNotAbove t cs n) ≤ lsnOf a k n
   unfolding lastNotAbove
   last-most cs zero = omega arith
-  last-most cs (suc n) = let h = last-most cs n in test (leb (checkpointAt cs n .threshold) t) (λ e. rw e (omega arith)) (λ e. rw e (omega arith))
+  last-most cs (suc n) = let h = last-most cs n in test (leb (checkpointAt cs n .threshold) t)
+      (λ e. rw e (omega arith)) (λ e. rw e (omega arith))
 
   pub last-grows : (cs : List Checkpoint) (n m : ℕ) → n ≤ m → place (lastNotAbove t cs n) ≤ place (lastNotAbove t cs m)
   unfolding lastNotAbove
@@ -56,15 +57,18 @@ module _ (a : Area) (k t : ℕ) where
       (λ (e : n < suc m). let h = last-grows cs n m (omega arith) in let g = last-most cs m in
       test (leb (checkpointAt cs m .threshold) t) (λ e. rw e (omega arith)) (λ e. rw e h)) (eq-or-lt-of-le l)
 
-  pub last-inside : (cs : List Checkpoint) (n : ℕ) → 1 ≤ k → a .start ≤ a .end → n ≤ boundaries a k → place (lastNotAbove t cs n) ≤ a .end
+  pub last-inside : (cs : List Checkpoint) (n : ℕ) → 1 ≤ k → a .start ≤ a .end → n ≤ boundaries a k
+      → place (lastNotAbove t cs n) ≤ a .end
   unfolding lastNotAbove
   last-inside cs zero hk ha l = ha
   last-inside cs (suc n) hk ha l =
-      test (leb (checkpointAt cs n .threshold) t) (λ e. rw e (let h = in-boundary a k n hk (omega arith) in omega arith))
+      test (leb (checkpointAt cs n .threshold) t)
+      (λ e. rw e (let h = in-boundary a k n hk (omega arith) in omega arith))
       (λ e. rw e (last-inside cs n hk ha (omega arith)))
 
 -- it is decided by the checkpoints before n
-pub last-same : (t : ℕ) (cs ds : List Checkpoint) (n : ℕ) → ((i : ℕ) → i < n → checkpointAt cs i ≡ checkpointAt ds i) → lastNotAbove t cs n ≡ lastNotAbove t ds n
+pub last-same : (t : ℕ) (cs ds : List Checkpoint) (n : ℕ) → ((i : ℕ) → i < n → checkpointAt cs i ≡ checkpointAt ds i)
+    → lastNotAbove t cs n ≡ lastNotAbove t ds n
 unfolding lastNotAbove
 last-same t cs ds zero h = refl
 last-same t cs ds (suc n) h = rw (h n (omega arith), last-same t cs ds n (λ i l. h i (omega arith)))
@@ -75,7 +79,8 @@ unfolding planFrom startOf
 plan-at x none = refl
 plan-at x (some j) = refl
 
-plan-least : (a : Area) (t n : ℕ) (e : Option EndState) (q : Plan) → n ≤ startOf a q → n ≤ a .end → n ≤ startOf a (planOr t e q)
+plan-least : (a : Area) (t n : ℕ) (e : Option EndState) (q : Plan) → n ≤ startOf a q → n ≤ a .end
+    → n ≤ startOf a (planOr t e q)
 unfolding planOr startOf
 plan-least a t n none q h s = h
 plan-least a t n (some e) q h s = test (leb (e .threshold) t) (λ w. rw w s) (λ w. rw w h)
@@ -87,9 +92,11 @@ none-of (some x) e = never {b = true} refl e
 
 incomplete : (own other : Scan) → further own other ≡ true → own .ending ≡ none
 unfolding further
-incomplete own other f = none-of (own .ending) (not-true (complete own) (and-left (not (complete own)) (complete other || ltb (count own) (count other)) f))
+incomplete own other f = none-of (own .ending) (not-true (complete own)
+    (and-left (not (complete own)) (complete other || ltb (count own) (count other)) f))
 
-jump-scan : (own other : Scan) (t : ℕ) → Joinable own other → 1 ≤ own .interval → own .area .start ≤ own .area .end → jump own t ≤ jump (mergedScan own other) t
+jump-scan : (own other : Scan) (t : ℕ) → Joinable own other → 1 ≤ own .interval → own .area .start ≤ own .area .end
+    → jump own t ≤ jump (mergedScan own other) t
 unfolding mergedScan planned
 jump-scan own other t j hk ha =
     test (further own other)
@@ -98,16 +105,20 @@ jump-scan own other t j hk ha =
     let d = j .longer f in
     let same : lastNotAbove t (own .checkpoints) n ≡ lastNotAbove t (other .checkpoints) n =
     last-same t (own .checkpoints) (other .checkpoints) n
-    (λ i l. ap (λ (cs : List Checkpoint). checkpointAt cs i) (j .prefix f) ∙ getD-take n (other .checkpoints) i noCheckpoint l) in
-    let mine : planOr t (own .ending) (planFrom own (lastNotAbove t (own .checkpoints) n)) ≡ planFrom own (lastNotAbove t (own .checkpoints) n) =
-    unfold planOr in ap (λ (e : Option EndState). planOr t e (planFrom own (lastNotAbove t (own .checkpoints) n))) (incomplete own other f) in
+    (λ i l. ap (λ (cs : List Checkpoint). checkpointAt cs i) (j .prefix f)
+    ∙ getD-take n (other .checkpoints) i noCheckpoint l) in
+    let mine : planOr t (own .ending) (planFrom own (lastNotAbove t (own .checkpoints) n))
+    ≡ planFrom own (lastNotAbove t (own .checkpoints) n) =
+    unfold planOr in ap (λ (e : Option EndState). planOr t e (planFrom own (lastNotAbove t (own .checkpoints) n)))
+    (incomplete own other f) in
     let at-own = plan-at own (lastNotAbove t (own .checkpoints) n) in
     let cs = own .checkpoints ++ drop n (other .checkpoints) in
     let e : cs ≡ other .checkpoints = appended (own .checkpoints) (other .checkpoints) (j .prefix f) in
     rw f
     (rw (mine, at-own, same)
     (plan-least a t _ (other .ending) _
-    (rw (plan-at (takenScan own other) (lastNotAbove t cs (length cs)), e) (last-grows a k t (other .checkpoints) n (count other) d))
+    (rw (plan-at (takenScan own other) (lastNotAbove t cs (length cs)), e)
+    (last-grows a k t (other .checkpoints) n (count other) d))
     (last-inside a k t (other .checkpoints) n hk ha (c .within)))))
     (λ f. rw f (omega arith))
 
@@ -130,4 +141,5 @@ unfolding merge merged question1 question2 areaOk
 jump-not-back l m own other y t e =
     let r = accepted→ (mergeNumber l own m other) (merged own other) y e in let c = taken l m own other (r .0) in
     subst (λ (z : Index). jump (own .scan) t ≤ jump (z .scan) t) (r .1)
-    (jump-scan (own .scan) (other .scan) t (joinable l m own other c) (interval-pos _ _ (c .two)) (leb-true _ _ (all→ _ (c .one) .1 .0)))
+    (jump-scan (own .scan) (other .scan) t (joinable l m own other c) (interval-pos _ _ (c .two))
+    (leb-true _ _ (all→ _ (c .one) .1 .0)))

@@ -25,24 +25,30 @@ use Rattle.theorems.specs.Terms.{Stays, Holds}
 use Rattle.theorems.specs.PartRule.{PartClosed, PartStored, PartPassedOver, Admits, PartsAdmitted}
 
 pub part-closed : PartClosed
-part-closed a k budget first cs h c p e at b b' hi s n = →held _ _ _ _ _ _ _ (next-part a k budget first cs h c p (held→ _ _ _ _ _ _ _ e) at b b' hi s n)
+part-closed a k budget first cs h c p e at b b' hi s n = →held _ _ _ _ _ _ _
+    (next-part a k budget first cs h c p (held→ _ _ _ _ _ _ _ e) at b b' hi s n)
 
 -- what is held stays where frames only grow and parts are only appended
-stays : (a : Area) (k budget first : ℕ) (cs : List Checkpoint) (h h' : Stored) → HeldIs a k budget first cs (h .frames) (h .parts) → Keeps h h' → (i : ℕ) → i < length (h .parts)
+stays : (a : Area) (k budget first : ℕ) (cs : List Checkpoint) (h h' : Stored)
+    → HeldIs a k budget first cs (h .frames) (h .parts) → Keeps h h' → (i : ℕ) → i < length (h .parts)
     → Stays h h' i
 stays a k budget first cs h h' ok s i l =
     let f = part-at a k budget first cs (h .frames) (h .parts) i ok l in
-    let q : getD (h' .parts) i noHeld ≡ getD (h .parts) i noHeld = ap (λ (x : List _). getD x i noHeld) (s .parts) ∙ List·getD-append (h .parts) (s .more) noHeld i l in
+    let q : getD (h' .parts) i noHeld ≡ getD (h .parts) i noHeld = ap (λ (x : List _). getD x i noHeld) (s .parts)
+    ∙ List·getD-append (h .parts) (s .more) noHeld i l in
     record {
       part = q;
-      content = ap (contentOf (h' .frames)) q ∙ sym (content-kept (h .frames) (h' .frames) (getD (h .parts) i noHeld) (s .frames) (f .frame) (f .len));
+      content = ap (contentOf (h' .frames)) q ∙ sym
+          (content-kept (h .frames) (h' .frames) (getD (h .parts) i noHeld) (s .frames) (f .frame) (f .len));
     }
 
 pub part-stored : PartStored
 part-stored a k budget first cs h p e s =
     let ok = held→ a k budget first cs (h .frames) (h .parts) e in let h' = addPart budget h p in
     let t = addPart-added budget h p (ok .reached) s in
-    let q : getD (h' .parts) (length (h .parts)) noHeld ≡ t .new = ap (λ (x : List _). getD x (length (h .parts)) noHeld) (t .parts) ∙ getD-append-seam (h .parts) (t .new) [] noHeld in
+    let q : getD (h' .parts) (length (h .parts)) noHeld
+    ≡ t .new = ap (λ (x : List _). getD x (length (h .parts)) noHeld) (t .parts)
+    ∙ getD-append-seam (h .parts) (t .new) [] noHeld in
     record {
       count = ap length (t .parts) ∙ length-snoc (h .parts) (t .new);
       older = stays a k budget first cs h h' ok (added-keeps h h' p t);
@@ -55,13 +61,16 @@ part-passed-over = addPart-passed
 
 -- ---- the parts of another list
 -- a stretch, then another
-addParts-append : (budget : ℕ) (gs : List Frame) (n : ℕ) (xs ys : List Held) (h : Stored) → addParts budget gs n (xs ++ ys) h ≡ addParts budget gs n ys (addParts budget gs n xs h)
+addParts-append : (budget : ℕ) (gs : List Frame) (n : ℕ) (xs ys : List Held) (h : Stored)
+    → addParts budget gs n (xs ++ ys) h ≡ addParts budget gs n ys (addParts budget gs n xs h)
 unfolding addParts
 addParts-append budget gs n [] ys h = refl
 addParts-append budget gs n (x ∷ xs) ys h = addParts-append budget gs n xs ys _
 
-module _ (a : Area) (k budget budget' first first' : ℕ) (cs ds : List Checkpoint) (gs : List Frame) (qs : List Held) (h : Stored)
-    (ok : HeldIs a k budget first cs (h .frames) (h .parts)) (ok' : HeldIs a k budget' first' ds gs qs) (joins : first' ≤ first + length cs) where
+module _ (a : Area) (k budget budget' first first' : ℕ) (cs ds : List Checkpoint) (gs : List Frame) (qs : List Held)
+    (h : Stored)
+    (ok : HeldIs a k budget first cs (h .frames) (h .parts)) (ok' : HeldIs a k budget' first' ds gs qs)
+    (joins : first' ≤ first + length cs) where
   abbrev n : ℕ
   n = first + length cs
 
@@ -76,12 +85,16 @@ module _ (a : Area) (k budget budget' first first' : ℕ) (cs ds : List Checkpoi
   Any at c = Unit {0}
 
   held-after : HeldIs a k budget first cs' (addParts budget gs n qs h .frames) (addParts budget gs n qs h .parts)
-  held-after = addParts-ok Any a k budget budget' first first' cs ds gs qs h ok ok' joins (λ i l. tt) (λ i l m. tt) .held
+  held-after = addParts-ok Any a k budget budget' first first' cs ds gs qs h ok ok' joins (λ i l. tt) (λ i l m. tt)
+      .held
 
-  given-after : Says (λ at c. n ≤ at → Holds (record { frames = gs; parts = qs }) at c) (addParts budget gs n qs h .frames) (addParts budget gs n qs h .parts)
+  given-after : Says (λ at c. n ≤ at → Holds (record { frames = gs; parts = qs }) at c)
+      (addParts budget gs n qs h .frames) (addParts budget gs n qs h .parts)
   given-after =
-      addParts-ok (λ at c. n ≤ at → Holds (record { frames = gs; parts = qs }) at c) a k budget budget' first first' cs ds gs qs h ok ok' joins
-      (λ i l m. let f = part-at a k budget first cs (h .frames) (h .parts) i ok l .high in let z : ⊥ = omega arith in absurd z)
+      addParts-ok (λ at c. n ≤ at → Holds (record { frames = gs; parts = qs }) at c) a k budget budget' first first'
+      cs ds gs qs h ok ok' joins
+      (λ i l m. let f = part-at a k budget first cs (h .frames) (h .parts) i ok l .high in let z : ⊥ = omega arith
+      in absurd z)
       (λ i l m m'. record { place = i; inside = l; checkpoint = refl; content = refl }) .says
 
   -- ---- one of them, q, whose turn comes after xs
@@ -114,17 +127,24 @@ module _ (a : Area) (k budget budget' first first' : ℕ) (cs ds : List Checkpoi
         ap (λ (l : List Held). addParts budget gs n l h) e ∙ addParts-append budget gs n xs (q ∷ ys) h
         ∙ addParts-add budget gs n q ys before (le-ltb (q .at) n late)
 
-    admitted-after : stores budget before (piece gs q) ≡ true → Holds (addParts budget gs n qs h) (q .at) (contentOf gs q)
+    admitted-after : stores budget before (piece gs q) ≡ true
+        → Holds (addParts budget gs n qs h) (q .at) (contentOf gs q)
     admitted-after s =
-        let x = addParts-on Any a k budget budget' first first' cs ds gs qs h ok ok' joins h none xs h (walk-left (partOk a k first' ds gs) keep none xs (q ∷ ys) whole) (λ i l m. tt)
+        let x = addParts-on Any a k budget budget' first first' cs ds gs qs h ok ok' joins h none xs h
+        (walk-left (partOk a k first' ds gs) keep none xs (q ∷ ys) whole) (λ i l m. tt)
         (addParts-start Any a k budget budget' first first' cs ds gs qs h ok ok' joins (λ i l. tt)) in
         let t = addPart-added budget before (piece gs q) (x .held .reached) s in
-        let y = take-add Any a k budget first cs' n h gs earlier q before in-order late (onward-piece Any a k budget budget' first first' cs ds gs qs h ok ok' joins q (part→ a k first' ds gs earlier q in-turn .0) late) tt x in
-        let z = addParts-on Any a k budget budget' first first' cs ds gs qs h ok ok' joins behind (some q) ys behind (walk-tail (partOk a k first' ds gs) keep earlier q ys from-q) (λ i l m. tt)
+        let y = take-add Any a k budget first cs' n h gs earlier q before in-order late
+        (onward-piece Any a k budget budget' first first' cs ds gs qs h ok ok' joins q
+        (part→ a k first' ds gs earlier q in-turn .0) late) tt x in
+        let z = addParts-on Any a k budget budget' first first' cs ds gs qs h ok ok' joins behind (some q) ys behind
+        (walk-tail (partOk a k first' ds gs) keep earlier q ys from-q) (λ i l m. tt)
         (record { keeps = keeps-self behind; held = y .held; says = λ i l. tt; next = y .next }) in
         let i = length (before .parts) in
-        let l : i < length (behind .parts) = omega (arith, ap length (t .parts), length-snoc (before .parts) (t .new)) in
-        let r : getD (behind .parts) i noHeld ≡ t .new = ap (λ (x : List _). getD x i noHeld) (t .parts) ∙ getD-append-seam (before .parts) (t .new) [] noHeld in
+        let l : i < length (behind .parts) = omega
+        (arith, ap length (t .parts), length-snoc (before .parts) (t .new)) in
+        let r : getD (behind .parts) i noHeld ≡ t .new = ap (λ (x : List _). getD x i noHeld) (t .parts)
+        ∙ getD-append-seam (before .parts) (t .new) [] noHeld in
         let w = stays a k budget first cs' behind (addParts budget gs n ys behind) (y .held) (z .keeps) i l in
         rw result
         (record {
@@ -138,7 +158,8 @@ module _ (a : Area) (k budget budget' first first' : ℕ) (cs ds : List Checkpoi
     abbrev Other : ℕ → Content → Type 0
     Other at c = at ≢ q .at
 
-    rises : (i j : ℕ) → i < j → j < length (xs ++ (q ∷ ys)) → getD (xs ++ (q ∷ ys)) i noHeld .at < getD (xs ++ (q ∷ ys)) j noHeld .at
+    rises : (i j : ℕ) → i < j → j < length (xs ++ (q ∷ ys))
+        → getD (xs ++ (q ∷ ys)) i noHeld .at < getD (xs ++ (q ∷ ys)) j noHeld .at
     rises = parts-rise a k first' ds gs (xs ++ (q ∷ ys)) whole
 
     lengths : length (xs ++ (q ∷ ys)) ≡ length xs + suc (length ys)
@@ -146,27 +167,39 @@ module _ (a : Area) (k budget budget' first first' : ℕ) (cs ds : List Checkpoi
 
     before-q : (i : ℕ) → i < length xs → getD xs i noHeld .at < q .at
     before-q i l =
-        rw (List·getD-append xs (q ∷ ys) noHeld i l, getD-append-seam xs q ys noHeld) at (rises i (length xs) l (omega (arith, lengths)))
+        rw (List·getD-append xs (q ∷ ys) noHeld i l, getD-append-seam xs q ys noHeld) at
+        (rises i (length xs) l (omega (arith, lengths)))
 
     behind-q : (i : ℕ) → i < length ys → q .at < getD ys i noHeld .at
     behind-q i l =
-        rw (getD-append-seam xs q ys noHeld, getD-append-add xs (q ∷ ys) (suc i) noHeld) at (rises (length xs) (length xs + suc i) (omega arith) (omega (arith, lengths)))
+        rw (getD-append-seam xs q ys noHeld, getD-append-add xs (q ∷ ys) (suc i) noHeld) at
+        (rises (length xs) (length xs + suc i) (omega arith) (omega (arith, lengths)))
 
-    passed-after : stores budget before (piece gs q) ≡ false → Says Other (addParts budget gs n qs h .frames) (addParts budget gs n qs h .parts)
+    passed-after : stores budget before (piece gs q) ≡ false
+        → Says Other (addParts budget gs n qs h .frames) (addParts budget gs n qs h .parts)
     passed-after s =
-        let x = addParts-on Other a k budget budget' first first' cs ds gs qs h ok ok' joins h none xs h (walk-left (partOk a k first' ds gs) keep none xs (q ∷ ys) whole)
+        let x = addParts-on Other a k budget budget' first first' cs ds gs qs h ok ok' joins h none xs h
+        (walk-left (partOk a k first' ds gs) keep none xs (q ∷ ys) whole)
         (λ i l m w. let v = before-q i l in omega arith)
         (addParts-start Other a k budget budget' first first' cs ds gs qs h ok ok' joins
         (λ i l w. let f = part-at a k budget first cs (h .frames) (h .parts) i ok l .high in omega arith)) in
-        let y : On Other h (some q) before = record { keeps = x .keeps; held = x .held; says = x .says; next = λ j m m'. let o = in-order in x .next j m (omega arith) } in
-        let z = addParts-on Other a k budget budget' first first' cs ds gs qs h ok ok' joins h (some q) ys before (walk-tail (partOk a k first' ds gs) keep earlier q ys from-q)
+        let y : On Other h (some q) before = record {
+          keeps = x .keeps;
+          held = x .held;
+          says = x .says;
+          next = λ j m m'. let o = in-order in x .next j m (omega arith);
+        } in
+        let z = addParts-on Other a k budget budget' first first' cs ds gs qs h ok ok' joins h (some q) ys before
+        (walk-tail (partOk a k first' ds gs) keep earlier q ys from-q)
         (λ i l m w. let v = behind-q i l in omega arith) y in
         rw (result, addPart-passed budget before (piece gs q) s) (z .says)
 
   pub admits : Admits budget gs n qs h (addParts budget gs n qs h)
   admits =
       record {
-        older = stays a k budget first cs h (addParts budget gs n qs h) ok (addParts-ok Any a k budget budget' first first' cs ds gs qs h ok ok' joins (λ i l. tt) (λ i l m. tt) .keeps);
+        older = stays a k budget first cs h (addParts budget gs n qs h) ok
+            (addParts-ok Any a k budget budget' first first' cs ds gs qs h ok ok' joins (λ i l. tt) (λ i l m. tt)
+            .keeps);
         given = given-after;
         admitted = admitted-after;
         passed = passed-after;
@@ -174,5 +207,7 @@ module _ (a : Area) (k budget budget' first first' : ℕ) (cs ds : List Checkpoi
 
 pub parts-admitted : PartsAdmitted
 parts-admitted a k budget budget' first first' cs ds gs qs h e e' l =
-    let ok = held→ a k budget first cs (h .frames) (h .parts) e in let ok' = held→ a k budget' first' ds gs qs e' in
-    (admits a k budget budget' first first' cs ds gs qs h ok ok' l, →held _ _ _ _ _ _ _ (held-after a k budget budget' first first' cs ds gs qs h ok ok' l))
+    let ok = held→ a k budget first cs (h .frames) (h .parts) e in let ok' = held→ a k budget' first' ds gs qs e' in (
+      admits a k budget budget' first first' cs ds gs qs h ok ok' l,
+      →held _ _ _ _ _ _ _ (held-after a k budget budget' first first' cs ds gs qs h ok ok' l),
+    )

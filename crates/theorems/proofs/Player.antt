@@ -38,7 +38,8 @@ length-told x n = (
 )
 
 told-by : (k a b c d e : Bool) (x : Index) (out : List ℕ) (n : ℕ)
-    → Told (saveOut (kinded k (after (firstNo (ask a 1 ∷ ask b 2 ∷ ask c 3 ∷ ask d 4 ∷ ask e 40 ∷ [])) (Accepted (saved x)))) out .answer) n
+    → Told (saveOut (kinded k (after (firstNo (ask a 1 ∷ ask b 2 ∷ ask c 3 ∷ ask d 4 ∷ ask e 40 ∷ []))
+    (Accepted (saved x)))) out .answer) n
 unfolding saveOut kinded after firstNo orFour numberOf
 told-by true false b c d e x out n = refused-told 1 n (omega arith) (omega arith)
 told-by true true false c d e x out n = refused-told 2 n (omega arith) (omega arith)
@@ -59,9 +60,12 @@ save-number x t out n = told-by _ _ _ _ _ _ _ out n
 
 -- the same questions before both
 length-by : (k a b c d : Bool) (x : Index) (out : List ℕ)
-    → let n = kindedNumber k (firstNo (ask a 1 ∷ ask b 2 ∷ ask c 3 ∷ ask d 4 ∷ [])) in let m = cond (eqb n 0) (savedLength x) n in
+    → let n = kindedNumber k (firstNo (ask a 1 ∷ ask b 2 ∷ ask c 3 ∷ ask d 4 ∷ [])) in let m = cond (eqb n 0)
+    (savedLength x) n in
     m ≤ length out
-    → savedNumber (saveOut (kinded k (after (firstNo (ask a 1 ∷ ask b 2 ∷ ask c 3 ∷ ask d 4 ∷ ask (leb (savedLength x) (length out)) 40 ∷ [])) (Accepted (saved x)))) out .answer) ≡ m
+    → savedNumber (saveOut (kinded k (after (firstNo
+    (ask a 1 ∷ ask b 2 ∷ ask c 3 ∷ ask d 4 ∷ ask (leb (savedLength x) (length out)) 40 ∷ [])) (Accepted (saved x))))
+    out .answer) ≡ m
 unfolding saveOut kinded kindedNumber after firstNo orFour numberOf savedNumber
 length-by true false b c d x out l = refl
 length-by true true false c d x out l = refl
@@ -111,7 +115,8 @@ module _ {A : Type 0} {h : HintRecorder} where
 same-spacing : (r h : HintRecorder) → created.Recorder r ≡ created.Recorder h → r .spacing ≡ h .spacing
 same-spacing r h e = cc
 
-made-by : (k : Bool) (n : ℕ) (g : Hinting) (h : HintRecorder) → createdFrom (kinded k (after n (Accepted (emptyHintRecorder g)))) ≡ created.Recorder h
+made-by : (k : Bool) (n : ℕ) (g : Hinting) (h : HintRecorder)
+    → createdFrom (kinded k (after n (Accepted (emptyHintRecorder g)))) ≡ created.Recorder h
     → 1 ≤ h .spacing
 unfolding createdFrom kinded after
 made-by false n g h e = not-refused _ e
@@ -119,7 +124,8 @@ made-by true n g h e =
     test (eqb n 0)
     (λ z.
     test (eqb (g .spacing) 0) (λ s. not-none (rw (z, s) at e))
-    (λ s. test (eqb (g .most) 0) (λ m. not-none (rw (z, s, m) at e)) (λ m. rw (← same-spacing _ h (rw (z, s, m) at e)) (some-number (g .spacing) s))))
+    (λ s. test (eqb (g .most) 0) (λ m. not-none (rw (z, s, m) at e))
+    (λ m. rw (← same-spacing _ h (rw (z, s, m) at e)) (some-number (g .spacing) s))))
     (λ z. not-refused n (rw z at e))
 
 pub made-has-spacing : MadeHasSpacing

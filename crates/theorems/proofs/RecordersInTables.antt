@@ -98,7 +98,15 @@ asIndex r =
     }
 
 abbrev asTables : RecorderTables → Tables
-asTables u = record { checkpoints = u .checkpoints; frames = u .frames; store = u .store; parts = u .parts; malformed = []; hints = []; confirmed = [] }
+asTables u = record {
+  checkpoints = u .checkpoints;
+  frames = u .frames;
+  store = u .store;
+  parts = u .parts;
+  malformed = [];
+  hints = [];
+  confirmed = [];
+}
 
 no-bytes : Bytes []
 no-bytes i = omega arith
@@ -109,26 +117,45 @@ unfolding knownSized stated
 recorder-sized r u b =
     let f : SizeFacts (indexIn (asIndex r) (asTables u)) =
     sized→ _
-    (sized-in (asIndex r) (asTables u) (record { start = omega arith; end = omega arith; channels = omega arith; sectors = omega arith; spacing = omega arith; fingerprint = refl })
-    (record { checkpoints = b .checkpoints; frames = b .frames; store = b .store; parts = b .parts; malformed = no-bytes; hints = no-bytes; confirmed = no-bytes })) in
+    (sized-in (asIndex r) (asTables u) (record {
+      start = omega arith;
+      end = omega arith;
+      channels = omega arith;
+      sectors = omega arith;
+      spacing = omega arith;
+      fingerprint = refl;
+    })
+    (record {
+      checkpoints = b .checkpoints;
+      frames = b .frames;
+      store = b .store;
+      parts = b .parts;
+      malformed = no-bytes;
+      hints = no-bytes;
+      confirmed = no-bytes;
+    })) in
     record { checkpoints = →each _ (f .checkpoints); held = (→each _ (f .frames), →each _ (f .parts)) }
 
 -- a digest
 sum-small : (s : List ℕ) → fnv64 s ≤ max64
 sum-small s = let b = at-both .at64 .below basis64 s (omega arith) in omega arith
 
-assembled-sized : (r : values.Recorder) (lsn : ℕ) (f : UnderAssembly) (b : List ℕ) → SignedIn f → Bytes b → HeldSized (storedOf r) → HeldSized (assembled r lsn (assemblingIn f b))
+assembled-sized : (r : values.Recorder) (lsn : ℕ) (f : UnderAssembly) (b : List ℕ) → SignedIn f → Bytes b
+    → HeldSized (storedOf r) → HeldSized (assembled r lsn (assemblingIn f b))
 unfolding assembled assemblingIn
 assembled-sized r lsn Nothing b s g h = h
 assembled-sized r lsn (Frame a) b s g h =
     choose HeldSized (ltb replaySectors (lsn - a .start)) _ (storedOf r)
-    (λ e. addPart-sized (r .budget) (storedOf r) _ h (each-of (λ v. ltb v 256) 0 b (λ i l. lt-ltb _ 256 (g i))) (lt-ltb _ 2147483648 s)) (λ e. h)
+    (λ e. addPart-sized (r .budget) (storedOf r) _ h (each-of (λ v. ltb v 256) 0 b (λ i l. lt-ltb _ 256 (g i)))
+    (lt-ltb _ 2147483648 s)) (λ e. h)
 
-pub recorded-sized : (r : values.Recorder) (lsn threshold malformed : ℕ) (f : UnderAssembly) (b sector : List ℕ) → SignedIn f → Bytes b → RecorderSized r
+pub recorded-sized : (r : values.Recorder) (lsn threshold malformed : ℕ) (f : UnderAssembly) (b sector : List ℕ)
+    → SignedIn f → Bytes b → RecorderSized r
     → RecorderSized (recorded r lsn threshold malformed (assemblingIn f b) sector)
 recorded-sized r lsn threshold malformed f b sector s g z =
     record {
-      checkpoints = each-append _ (r .checkpoints) _ (z .checkpoints) (each-cons _ _ [] (le-leb (fnv64 sector) max64 (sum-small sector)) (each-none _));
+      checkpoints = each-append _ (r .checkpoints) _ (z .checkpoints)
+          (each-cons _ _ [] (le-leb (fnv64 sector) max64 (sum-small sector)) (each-none _));
       held = assembled-sized r lsn f b s g (z .held);
     }
 
@@ -147,14 +174,16 @@ module _ (r : values.Recorder) (s : Sound r) (z : RecorderSized r) where
 
   checkpoints-fits : Each CheckpointFits (r .checkpoints)
   unfolding checkpointsOk
-  checkpoints-fits = checkpoints-fit (r .area) (r .interval) interval-is area-is (begun (r .first)) (r .checkpoints) (is .within) (is .checkpoints) (each→ _ _ (z .checkpoints))
+  checkpoints-fits = checkpoints-fit (r .area) (r .interval) interval-is area-is (begun (r .first)) (r .checkpoints)
+      (is .within) (is .checkpoints) (each→ _ _ (z .checkpoints))
 
   frames-in : Each (Placed (r .area)) (r .frames)
   unfolding framesOk
   frames-in = frames-placed (r .area) (r .budget) (unfilled (r .area)) (r .frames) (is .held .frames)
 
   headers-fits : Each FrameFits (r .frames)
-  headers-fits = each-map (λ f p. p .numbers) (frames-fit (r .area) (r .frames) area-is frames-in (each→ _ _ (z .held .0)))
+  headers-fits = each-map (λ f p. p .numbers) (frames-fit (r .area) (r .frames) area-is frames-in
+      (each→ _ _ (z .held .0)))
 
   parts-fits : Each HeldFits (r .parts)
   parts-fits =
@@ -167,18 +196,25 @@ module _ (r : values.Recorder) (s : Sound r) (z : RecorderSized r) where
       each-both (λ p q v. record { numbers = q; signed = ltb-true _ _ v })
       (walk-each (partOk (r .area) (r .interval) (r .first) (r .checkpoints) (r .frames)) keep
       (λ o p q. let i = part→ (r .area) (r .interval) (r .first) (r .checkpoints) (r .frames) o p q .0 in
-      let l : length (frameAt (r .frames) (p .frame) .bytes) ≤ maxFrame = each-at {P = λ f. length (f .bytes) ≤ maxFrame} (p .frame) noFrame (each-map (λ f g. g .size) frames-in) (omega arith) in
+      let l : length (frameAt (r .frames) (p .frame) .bytes) ≤ maxFrame = each-at
+      {P = λ f. length (f .bytes) ≤ maxFrame} (p .frame) noFrame (each-map (λ f g. g .size) frames-in) (omega arith)
+      in
       omega arith) none (r .parts) (is .held .parts)) (each→ _ _ (z .held .1))
 
   -- it stands there, and its kinds are 0 or 1
   pub recorder-stands : (u : RecorderTables) → recorderIn (recorderFrom r) (recorderOver r u) ≡ r
-  recorder-stands u = rw (records-bytes checkpoint-layout _ checkpoints-fits, frames-back _ _ headers-fits, held-records _ parts-fits)
+  recorder-stands u = rw (
+    records-bytes checkpoint-layout _ checkpoints-fits,
+    frames-back _ _ headers-fits,
+    held-records _ parts-fits,
+  )
 
   pub recorder-kinds : (u : RecorderTables) → recorderKinds (recorderFrom r) (recorderOver r u) ≡ true
   recorder-kinds u = kinds-held _ parts-fits
 
 -- ---- what stands in the tables that are not written
-pub mode-back : (r : Recorder) (u : RecorderTables) (m : Mode) → recorderIn (recorderFrom (withMode (recorderIn r u) m)) u ≡ withMode (recorderIn r u) m
+pub mode-back : (r : Recorder) (u : RecorderTables) (m : Mode)
+    → recorderIn (recorderFrom (withMode (recorderIn r u) m)) u ≡ withMode (recorderIn r u) m
 mode-back r u m =
     rw (
       records-length 24 decodeCheckpoint (r .checkpoints) (u .checkpoints),
@@ -187,7 +223,8 @@ mode-back r u m =
       records-length 24 decodeHeld (r .parts) (u .parts),
     )
 
-pub mode-kinds : (r : Recorder) (u : RecorderTables) (m : Mode) → recorderKinds r u ≡ true → recorderKinds (recorderFrom (withMode (recorderIn r u) m)) u ≡ true
+pub mode-kinds : (r : Recorder) (u : RecorderTables) (m : Mode) → recorderKinds r u ≡ true
+    → recorderKinds (recorderFrom (withMode (recorderIn r u) m)) u ≡ true
 mode-kinds r u m k = rw (records-length 24 decodeHeld (r .parts) (u .parts)) k
 
 -- nothing
@@ -200,25 +237,32 @@ unfolding kindsOk records each
 emptied-kinds r u = refl
 
 -- ---- 1, 2 and 4 are those of the value
-pub stands-as : (v : values.Recorder) (r : Recorder) (u : RecorderTables) → Sound v → recorderIn r u ≡ v → recorderKinds r u ≡ true → StandsRecorder r u
+pub stands-as : (v : values.Recorder) (r : Recorder) (u : RecorderTables) → Sound v → recorderIn r u ≡ v
+    → recorderKinds r u ≡ true → StandsRecorder r u
 stands-as v r u s e k =
     let t : Sound (recorderIn r u) = subst (λ (w : values.Recorder). Sound w) (sym e) s in
     record { one = t .0; two = t .1; four = t .2; kinds = k }
 
 -- ---- recorder, record, finish
-numbers→ : (a : Answer values.Recorder) (n : Recorder) → recorderOf a ≡ recordedAs.Recorder n → (v : values.Recorder) × (a ≡ Accepted v) × (recorderFrom v ≡ n)
+numbers→ : (a : Answer values.Recorder) (n : Recorder) → recorderOf a ≡ recordedAs.Recorder n → (v : values.Recorder)
+    × (a ≡ Accepted v) × (recorderFrom v ≡ n)
 unfolding recorderOf
 numbers→ (Refused m) n e = let z : _≡_ {A = ℕ} 0 1 = cc in let f : ⊥ = omega arith in absurd f
 numbers→ (Accepted v) n e = (v, refl, cc)
 
-tables→ : (u : RecorderTables) (a : Answer values.Recorder) (n : Recorder) (u' : RecorderTables) → recordOut u a ≡ recorderOut (recordedAs.Recorder n) u'
+tables→ : (u : RecorderTables) (a : Answer values.Recorder) (n : Recorder) (u' : RecorderTables) → recordOut u a
+    ≡ recorderOut (recordedAs.Recorder n) u'
     → (v : values.Recorder) × (a ≡ Accepted v) × (recorderFrom v ≡ n) × (recorderOver v u ≡ u')
 unfolding recordOut
-tables→ u (Refused m) n u' e = let a = ap (λ (o : RecorderOut). o .answer) e in let z : _≡_ {A = ℕ} 0 1 = cc in let f : ⊥ = omega arith in absurd f
+tables→ u (Refused m) n u' e = let a = ap (λ (o : RecorderOut). o .answer) e in let z : _≡_ {A = ℕ} 0 1 = cc
+    in let f : ⊥ = omega arith in absurd f
 tables→ u (Accepted v) n u' e =
-    let a : recordedAs.Recorder (recorderFrom v) ≡ recordedAs.Recorder n = ap (λ (o : RecorderOut). o .answer) e in (v, refl, cc, ap (λ (o : RecorderOut). o .tables) e)
+    let a : recordedAs.Recorder (recorderFrom v)
+    ≡ recordedAs.Recorder n = ap (λ (o : RecorderOut). o .answer) e
+    in (v, refl, cc, ap (λ (o : RecorderOut). o .tables) e)
 
-pub started-stands : (x : AreaIndex) (t : Tables) (from : ℕ) (r : Recorder) (u : RecorderTables) → startedIn x t from ≡ recordedAs.Recorder r → StandsRecorder r u
+pub started-stands : (x : AreaIndex) (t : Tables) (from : ℕ) (r : Recorder) (u : RecorderTables) → startedIn x t from
+    ≡ recordedAs.Recorder r → StandsRecorder r u
 unfolding startedIn recorder records framesOf kindsOk each
 started-stands x t from r u e =
     let i = indexIn x t in
@@ -226,11 +270,15 @@ started-stands x t from r u e =
     let d = kinded→ (kindsIn x t) (recorder (roomOf t) i from) (n .0) (n .1) in
     let v = emptyRecorder (i .scan) from in
     let q : v ≡ n .0 = accepted→ (firstNo (four (roomOf t) i [])) v (n .0) (d .1) .1 in
-    let s : Sound v = subst (λ (w : values.Recorder). Sound w) (sym q) (recorder-sound (roomOf t) i from (n .0) (d .1)) in
-    subst (λ (w : Recorder). StandsRecorder w u) (ap (λ (w : values.Recorder). recorderFrom w) q ∙ n .2) (stands-as v (recorderFrom v) u s refl refl)
+    let s : Sound v = subst (λ (w : values.Recorder). Sound w) (sym q)
+    (recorder-sound (roomOf t) i from (n .0) (d .1)) in
+    subst (λ (w : Recorder). StandsRecorder w u) (ap (λ (w : values.Recorder). recorderFrom w) q ∙ n .2)
+    (stands-as v (recorderFrom v) u s refl refl)
 
-pub recorded-stands : (r : Recorder) (u : RecorderTables) (lsn threshold malformed : ℕ) (f : UnderAssembly) (b sector : List ℕ) (s : Recorder) (u' : RecorderTables)
-    → RecorderBytes u → SignedIn f → Bytes b → recordIn r u lsn threshold malformed f b sector ≡ recorderOut (recordedAs.Recorder s) u' → StandsRecorder s u'
+pub recorded-stands : (r : Recorder) (u : RecorderTables) (lsn threshold malformed : ℕ) (f : UnderAssembly)
+    (b sector : List ℕ) (s : Recorder) (u' : RecorderTables)
+    → RecorderBytes u → SignedIn f → Bytes b → recordIn r u lsn threshold malformed f b sector
+    ≡ recorderOut (recordedAs.Recorder s) u' → StandsRecorder s u'
 unfolding recordIn recordAt
 recorded-stands r u lsn threshold malformed f b sector s u' g h k e =
     let w = recorderIn r u in
@@ -239,13 +287,17 @@ recorded-stands r u lsn threshold malformed f b sector s u' g h k e =
     let d = kinded→ (recorderKinds r u) a (n .0) (n .1) in
     let v = recorded w lsn threshold malformed (assemblingIn f b) sector in
     let q : v ≡ n .0 = accepted→ _ v (n .0) (d .1) .1 in
-    let z : RecorderSized (n .0) = subst (λ (y : values.Recorder). RecorderSized y) q (recorded-sized w lsn threshold malformed f b sector h k (recorder-sized r u g)) in
-    let t : Sound (n .0) = record-sound (recorderRoom u) w lsn threshold malformed (assemblingIn f b) sector (n .0) (d .1) in
+    let z : RecorderSized (n .0) = subst (λ (y : values.Recorder). RecorderSized y) q
+    (recorded-sized w lsn threshold malformed f b sector h k (recorder-sized r u g)) in
+    let t : Sound (n .0) = record-sound (recorderRoom u) w lsn threshold malformed (assemblingIn f b) sector (n .0)
+    (d .1) in
     subst (λ (y : Recorder). StandsRecorder y u') (n .2)
     (subst (λ (y : RecorderTables). StandsRecorder (recorderFrom (n .0)) y) (n .3)
-    (stands-as (n .0) (recorderFrom (n .0)) (recorderOver (n .0) u) t (recorder-stands (n .0) t z u) (recorder-kinds (n .0) t z u)))
+    (stands-as (n .0) (recorderFrom (n .0)) (recorderOver (n .0) u) t (recorder-stands (n .0) t z u)
+    (recorder-kinds (n .0) t z u)))
 
-pub finished-stands : (r : Recorder) (u : RecorderTables) (e : EndState) (s : Recorder) → finishedIn r u e ≡ recordedAs.Recorder s → StandsRecorder s u
+pub finished-stands : (r : Recorder) (u : RecorderTables) (e : EndState) (s : Recorder) → finishedIn r u e
+    ≡ recordedAs.Recorder s → StandsRecorder s u
 unfolding finishedIn finish
 finished-stands r u e s h =
     let w = recorderIn r u in
@@ -253,26 +305,35 @@ finished-stands r u e s h =
     let d = kinded→ (recorderKinds r u) (finish (recorderRoom u) w e) (n .0) (n .1) in
     let v = withMode w (Finished e) in
     let q : v ≡ n .0 = accepted→ _ v (n .0) (d .1) .1 in
-    let t : Sound v = subst (λ (y : values.Recorder). Sound y) (sym q) (finish-sound (recorderRoom u) w e (n .0) (d .1)) in
+    let t : Sound v = subst (λ (y : values.Recorder). Sound y) (sym q)
+    (finish-sound (recorderRoom u) w e (n .0) (d .1)) in
     subst (λ (y : Recorder). StandsRecorder y u) (ap (λ (y : values.Recorder). recorderFrom y) q ∙ n .2)
     (stands-as v (recorderFrom v) u t (mode-back r u (Finished e)) (mode-kinds r u (Finished e) (d .0)))
 
 -- ---- hint recorders
-hints-stand : (v : values.HintRecorder) (s : HintRecorder) (t : List ℕ) → length (v .list) ≤ maxList → hintRecorderFrom v ≡ s → StandsHintRecorder s t
-hints-stand v s t l e = subst (λ (r : HintRecorder). StandsHintRecorder r t) e (rw (records-length 8 decodeHint (length (v .list)) t) l)
+hints-stand : (v : values.HintRecorder) (s : HintRecorder) (t : List ℕ) → length (v .list) ≤ maxList
+    → hintRecorderFrom v ≡ s → StandsHintRecorder s t
+hints-stand v s t l e = subst (λ (r : HintRecorder). StandsHintRecorder r t) e
+    (rw (records-length 8 decodeHint (length (v .list)) t) l)
 
-seen→ : (t : List ℕ) (a : Answer values.HintRecorder) (s : HintRecorder) (t' : List ℕ) → hinting.seenOutOf t a ≡ hinting.seenOut (seenAs.Recorder s) t'
+seen→ : (t : List ℕ) (a : Answer values.HintRecorder) (s : HintRecorder) (t' : List ℕ) → hinting.seenOutOf t a
+    ≡ hinting.seenOut (seenAs.Recorder s) t'
     → (v : values.HintRecorder) × (a ≡ Accepted v) × (hintRecorderFrom v ≡ s)
 unfolding hinting.seenOutOf
-seen→ t (Refused n) s t' e = let a = ap (λ (o : hinting.SeenOut). o .answer) e in let z : _≡_ {A = ℕ} 0 1 = cc in let f : ⊥ = omega arith in absurd f
-seen→ t (Accepted v) s t' e = let a : seenAs.Recorder (hintRecorderFrom v) ≡ seenAs.Recorder s = ap (λ (o : hinting.SeenOut). o .answer) e in (v, refl, cc)
+seen→ t (Refused n) s t' e = let a = ap (λ (o : hinting.SeenOut). o .answer) e in let z : _≡_ {A = ℕ} 0 1 = cc
+    in let f : ⊥ = omega arith in absurd f
+seen→ t (Accepted v) s t' e = let a : seenAs.Recorder (hintRecorderFrom v)
+    ≡ seenAs.Recorder s = ap (λ (o : hinting.SeenOut). o .answer) e in (v, refl, cc)
 
-saw→ : (t : List ℕ) (a : Answer rules.SeenSector) (s : SeenSector) (t' : List ℕ) → hinting.sawOutOf t a ≡ hinting.sawOut (sawAs.Sector s) t'
+saw→ : (t : List ℕ) (a : Answer rules.SeenSector) (s : SeenSector) (t' : List ℕ) → hinting.sawOutOf t a
+    ≡ hinting.sawOut (sawAs.Sector s) t'
     → (v : rules.SeenSector) × (a ≡ Accepted v) × (hintRecorderFrom (v .recorder) ≡ s .recorder)
 unfolding hinting.sawOutOf
-saw→ t (Refused n) s t' e = let a = ap (λ (o : hinting.SawOut). o .answer) e in let z : _≡_ {A = ℕ} 0 1 = cc in let f : ⊥ = omega arith in absurd f
+saw→ t (Refused n) s t' e = let a = ap (λ (o : hinting.SawOut). o .answer) e in let z : _≡_ {A = ℕ} 0 1 = cc
+    in let f : ⊥ = omega arith in absurd f
 saw→ t (Accepted v) s t' e =
-    let a : sawAs.Sector (record { first = v .first; recorder = hintRecorderFrom (v .recorder) }) ≡ sawAs.Sector s = ap (λ (o : hinting.SawOut). o .answer) e in
+    let a : sawAs.Sector (record { first = v .first; recorder = hintRecorderFrom (v .recorder) })
+    ≡ sawAs.Sector s = ap (λ (o : hinting.SawOut). o .answer) e in
     let q : record { first = v .first; recorder = hintRecorderFrom (v .recorder) } ≡ s = cc in
     (v, refl, ap (λ (x : SeenSector). x .recorder) q)
 
@@ -281,12 +342,15 @@ pub seen-stands : (r : HintRecorder) (t : List ℕ) (lsn : ℕ) (sector : List �
 unfolding seeIn
 seen-stands r t lsn sector s t' e =
     let n = saw→ t _ s t' e in
-    hints-stand (n .0 .recorder) (s .recorder) t' (closure .seen (length t / 8) (hintRecorderIn r t) lsn sector (n .0) (n .1) .four) (n .2)
+    hints-stand (n .0 .recorder) (s .recorder) t'
+    (closure .seen (length t / 8) (hintRecorderIn r t) lsn sector (n .0) (n .1) .four) (n .2)
 
-pub flushed-stands : (r : HintRecorder) (t : List ℕ) (s : HintRecorder) (t' : List ℕ) → flushIn r t ≡ hinting.seenOut (seenAs.Recorder s) t' → StandsHintRecorder s t'
+pub flushed-stands : (r : HintRecorder) (t : List ℕ) (s : HintRecorder) (t' : List ℕ) → flushIn r t
+    ≡ hinting.seenOut (seenAs.Recorder s) t' → StandsHintRecorder s t'
 unfolding flushIn
 flushed-stands r t s t' e =
-    let n = seen→ t _ s t' e in hints-stand (n .0) s t' (closure .flushed (length t / 8) (hintRecorderIn r t) (n .0) (n .1) .four) (n .2)
+    let n = seen→ t _ s t' e in hints-stand (n .0) s t'
+    (closure .flushed (length t / 8) (hintRecorderIn r t) (n .0) (n .1) .four) (n .2)
 
 created→ : (a : Answer (Option values.HintRecorder)) (r : HintRecorder) → hinting.createdFrom a ≡ createdAs.Recorder r
     → (v : values.HintRecorder) × (a ≡ Accepted (some v)) × (hintRecorderFrom v ≡ r)
@@ -295,21 +359,26 @@ created→ (Refused n) r e = let z : _≡_ {A = ℕ} 0 1 = cc in let f : ⊥ = o
 created→ (Accepted none) r e = let z : _≡_ {A = ℕ} 0 1 = cc in let f : ⊥ = omega arith in absurd f
 created→ (Accepted (some v)) r e = (v, refl, cc)
 
-pub created-stands : (x : AreaIndex) (t : Tables) (r : HintRecorder) (t' : List ℕ) → createdIn x t ≡ createdAs.Recorder r → StandsHintRecorder r t'
+pub created-stands : (x : AreaIndex) (t : Tables) (r : HintRecorder) (t' : List ℕ) → createdIn x t
+    ≡ createdAs.Recorder r → StandsHintRecorder r t'
 unfolding createdIn
 created-stands x t r t' e =
     let n = created→ (kinded (kindsIn x t) (hintRecorder (roomOf t) (indexIn x t))) r e in
     let d = kinded→ (kindsIn x t) (hintRecorder (roomOf t) (indexIn x t)) (some (n .0)) (n .1) in
     hints-stand (n .0) r t' (closure .hintRecording (roomOf t) (indexIn x t) (n .0) (d .1) .four) (n .2)
 
-taken→ : (a : Answer rules.TakenHints) (k : TakenList) → hinting.takenFrom a ≡ takenAs.List k → (v : rules.TakenHints) × (a ≡ Accepted v) × (hintRecorderFrom (v .recorder) ≡ k .recorder)
+taken→ : (a : Answer rules.TakenHints) (k : TakenList) → hinting.takenFrom a ≡ takenAs.List k
+    → (v : rules.TakenHints) × (a ≡ Accepted v) × (hintRecorderFrom (v .recorder) ≡ k .recorder)
 unfolding hinting.takenFrom
 taken→ (Refused n) k e = let z : _≡_ {A = ℕ} 0 1 = cc in let f : ⊥ = omega arith in absurd f
 taken→ (Accepted v) k e =
-    let q : record { count = length (v .list); recorder = hintRecorderFrom (v .recorder) } ≡ k = cc in (v, refl, ap (λ (l : TakenList). l .recorder) q)
+    let q : record { count = length (v .list); recorder = hintRecorderFrom (v .recorder) }
+    ≡ k = cc in (v, refl, ap (λ (l : TakenList). l .recorder) q)
 
-pub taken-stands : (r : HintRecorder) (t : List ℕ) (k : TakenList) → takeIn r t ≡ takenAs.List k → StandsHintRecorder (k .recorder) t
+pub taken-stands : (r : HintRecorder) (t : List ℕ) (k : TakenList) → takeIn r t ≡ takenAs.List k
+    → StandsHintRecorder (k .recorder) t
 unfolding takeIn
 taken-stands r t k e =
     let n = taken→ (takeList (length t / 8) (hintRecorderIn r t)) k e in
-    hints-stand (n .0 .recorder) (k .recorder) t (closure .taken (length t / 8) (hintRecorderIn r t) (n .0) (n .1) .four) (n .2)
+    hints-stand (n .0 .recorder) (k .recorder) t
+    (closure .taken (length t / 8) (hintRecorderIn r t) (n .0) (n .1) .four) (n .2)

@@ -40,10 +40,15 @@ room-stripped l x = refl
 
 bytes-stripped : (x : Index) → saved (stripped x) ≡ saved x
 unfolding saved bodyOf headerOf hintSection confirmedSection versionOf hasHinting
-bytes-stripped x = rw (unmarked-stated (x .fingerprint), unkept-length (x .hinting .hints), unkept-bytes (x .hinting .hints))
+bytes-stripped x = rw (
+  unmarked-stated (x .fingerprint),
+  unkept-length (x .hinting .hints),
+  unkept-bytes (x .hinting .hints),
+)
 
 -- an accepted save
-save→ : (l : Lengths) (x : Index) (out : ℕ) (b : List ℕ) → save l x out ≡ Accepted b → Answered l x (leb (savedLength x) out) (saved x) b
+save→ : (l : Lengths) (x : Index) (out : ℕ) (b : List ℕ) → save l x out ≡ Accepted b
+    → Answered l x (leb (savedLength x) out) (saved x) b
 unfolding save
 save→ l x out b e = four→ l x (leb (savedLength x) out) 40 (saved x) b (omega arith) e
 
@@ -52,10 +57,12 @@ savable l x out b z e = let t = save→ l x out b e in record { one = t .one; tw
 
 pub limited-loads : LimitedLoads
 limited-loads l m x out limit b z e q =
-    ap (λ (b : List ℕ). load m (x .scan .area) b limit) (sym (save→ l x out b e .is)) ∙ limited-load m limit x (savable l x out b z e) q
+    ap (λ (b : List ℕ). load m (x .scan .area) b limit) (sym (save→ l x out b e .is))
+    ∙ limited-load m limit x (savable l x out b z e) q
 
 -- under a limit that drops nothing
-whole-load : (m : Lengths) (limit : ℕ) (x : Index) → Savable x → question3 m x ≡ true → Ample limit x → load m (x .scan .area) (saved x) limit ≡ Accepted (stripped x)
+whole-load : (m : Lengths) (limit : ℕ) (x : Index) → Savable x → question3 m x ≡ true → Ample limit x
+    → load m (x .scan .area) (saved x) limit ≡ Accepted (stripped x)
 whole-load m limit x s r a =
     let e = large-limit limit x (s .four) (a .budget) (a .hints) in
     let q : question3 m (limited limit x) ≡ true = ap (question3 m) e ∙ room-stripped m x ∙ r in
@@ -63,7 +70,8 @@ whole-load m limit x s r a =
 
 pub saved-loads : SavedLoads
 saved-loads l m x out limit b z e r a =
-    ap (λ (b : List ℕ). load m (x .scan .area) b limit) (sym (save→ l x out b e .is)) ∙ whole-load m limit x (savable l x out b z e) r a
+    ap (λ (b : List ℕ). load m (x .scan .area) b limit) (sym (save→ l x out b e .is))
+    ∙ whole-load m limit x (savable l x out b z e) r a
 
 -- a file's list is of the area asked for, and has no mark and no id
 pub loaded-area : (a : Area) (b : List ℕ) (x : Index) → Bytes b → fromBytes a b ≡ Accepted x → x .scan .area ≡ a
@@ -79,7 +87,8 @@ loaded-area a b x g e =
 pub unstripped : (a : Area) (b : List ℕ) (x : Index) → Bytes b → Savable x → fromBytes a b ≡ Accepted x → stripped x ≡ x
 unstripped a b x g v e =
     accepted-eq (stripped x) x
-    (sym (load-of-save x v) ∙ ap (λ (c : Area). fromBytes c (saved x)) (loaded-area a b x g e) ∙ ap (fromBytes a) (own-bytes a b x g e) ∙ e)
+    (sym (load-of-save x v) ∙ ap (λ (c : Area). fromBytes c (saved x)) (loaded-area a b x g e)
+    ∙ ap (fromBytes a) (own-bytes a b x g e) ∙ e)
 
 pub loaded-saves : LoadedSaves
 loaded-saves l a b limit out x y h e m d w =
@@ -87,11 +96,14 @@ loaded-saves l a b limit out x y h e m d w =
     let same : t .whole ≡ x = accepted-eq (t .whole) x (sym (t .read) ∙ e) in
     let v = loaded-valid a b x h (t .area) e in
     let own : saved y ≡ b =
-    ap saved (sym (t .is) ∙ ap (limited limit) same ∙ large-limit limit x (v .four) (m .budget) (m .hints)) ∙ bytes-stripped x ∙ own-bytes a b x h e in
-    refuses-nothing .saves l y out (closure .loaded l a b limit y h d) (omega (arith, savedLength-is y .0, ap length own)) ∙ ap (λ (z : List ℕ). Accepted z) own
+    ap saved (sym (t .is) ∙ ap (limited limit) same ∙ large-limit limit x (v .four) (m .budget) (m .hints))
+    ∙ bytes-stripped x ∙ own-bytes a b x h e in
+    refuses-nothing .saves l y out (closure .loaded l a b limit y h d)
+    (omega (arith, savedLength-is y .0, ap length own)) ∙ ap (λ (z : List ℕ). Accepted z) own
 
 pub question4-is-loading : Question4IsLoading
 question4-is-loading l limit x q1 q2 q3 z a k = (
   (λ q4. whole-load l limit x (record { one = q1; two = q2; four = q4; sizes = z }) q3 a),
-  (λ e. sym (four-stripped x k) ∙ closure .loaded l (x .scan .area) (saved x) limit (stripped x) (saved-bytes x (sized→ x z)) e .four),
+  (λ e. sym (four-stripped x k) ∙ closure .loaded l (x .scan .area) (saved x) limit (stripped x)
+      (saved-bytes x (sized→ x z)) e .four),
 )

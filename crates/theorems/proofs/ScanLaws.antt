@@ -20,7 +20,10 @@ pub record Counts (x : Scan) : Type 0 where
 
 pub counts : (x : Scan) → ScanIs x → Counts x
 counts x ok =
-    let s = ok .stretch in record { within = let w = s .within in omega arith; full = λ v. let w = s .full v in omega arith }
+    let s = ok .stretch in record {
+      within = let w = s .within in omega arith;
+      full = λ v. let w = s .full v in omega arith;
+    }
 
 -- how far a list goes: its checkpoints, and one more if it is complete
 abbrev pub one : Bool → ℕ
@@ -34,29 +37,34 @@ one-most false = omega arith
 unfoldable pub level : Scan → ℕ
 level x = count x + one (complete x)
 
-level-test : (b n m : ℕ) (w v : Bool) → n ≤ b → (w ≡ true → n ≡ b) → m ≤ b → (v ≡ true → m ≡ b) → (not w && (v || ltb n m)) ≡ ltb (n + one w) (m + one v)
+level-test : (b n m : ℕ) (w v : Bool) → n ≤ b → (w ≡ true → n ≡ b) → m ≤ b → (v ≡ true → m ≡ b)
+    → (not w && (v || ltb n m)) ≡ ltb (n + one w) (m + one v)
 level-test b n m true true l f k g = let x = f refl in let y = g refl in sym (le-ltb (n + 1) (m + 1) (omega arith))
 level-test b n m true false l f k g = let x = f refl in sym (le-ltb (n + 1) (m + 0) (omega arith))
 level-test b n m false true l f k g = let y = g refl in sym (lt-ltb (n + 0) (m + 1) (omega arith))
 level-test b n m false false l f k g = let x : n + 0 ≡ n = omega arith in let y : m + 0 ≡ m = omega arith in rw (x, y)
 
-module _ (own other : Scan) (ok : ScanIs own) (ok' : ScanIs other) (ea : own .area ≡ other .area) (ei : own .interval ≡ other .interval) where
+module _ (own other : Scan) (ok : ScanIs own) (ok' : ScanIs other) (ea : own .area ≡ other .area)
+    (ei : own .interval ≡ other .interval) where
   -- the other list is taken where its level is higher
   further-level : further own other ≡ ltb (level own) (level other)
   unfolding further level
   further-level =
       let c = counts own ok in let d = counts other ok' in let b = ap₂ boundaries ea ei in
-      level-test (boundaries (own .area) (own .interval)) (count own) (count other) (complete own) (complete other) (c .within) (c .full)
+      level-test (boundaries (own .area) (own .interval)) (count own) (count other) (complete own) (complete other)
+      (c .within) (c .full)
       (let x = d .within in omega arith) (λ v. d .full v ∙ sym b)
 
   -- merging takes the larger level
-  pub merged-level : ((level (mergedScan own other) ≡ level own) × (level other ≤ level own)) ⊎ ((level (mergedScan own other) ≡ level other) × (level own ≤ level other))
+  pub merged-level : ((level (mergedScan own other) ≡ level own) × (level other ≤ level own)) ⊎
+      ((level (mergedScan own other) ≡ level other) × (level own ≤ level other))
   unfolding mergedScan level
   merged-level =
       let fl : further own other ≡ ltb (level own) (level other) = further-level in
       test (further own other)
       (λ f.
       let x = ltb-true (level own) (level other) (sym fl ∙ f) in let n = further-count own other ok ok' ea ei f in
-      let l = length-append (own .checkpoints) (drop (count own) (other .checkpoints)) in let m = length-drop (count own) (other .checkpoints) in
+      let l = length-append (own .checkpoints) (drop (count own) (other .checkpoints)) in let m = length-drop
+      (count own) (other .checkpoints) in
       rw f (inr (omega arith, omega arith)))
       (λ f. rw f (inl (refl, ltb-false (level own) (level other) (sym fl ∙ f))))

@@ -54,7 +54,8 @@ use Rattle.theorems.proofs.Closure.{number-by}
 pub load-keeps : LoadKeeps
 load-keeps l x v z limit = (
   limited limit x,
-  limited-load l limit x (record { one = v .one; two = v .two; four = v .four; sizes = z }) (limited-three limit x l (v .three)),
+  limited-load l limit x (record { one = v .one; two = v .two; four = v .four; sizes = z })
+      (limited-three limit x l (v .three)),
   unfold limited in
       record {
         read = record { checkpoints = refl; ending = refl; malformed = refl };
@@ -77,14 +78,16 @@ save-tells l x out b e = let t = savedLength-is x in (ap length (sym (accepted�
 
 -- ---- merge
 module _ (own other : Scan) (j : Joinable own other) where
-  abbrev taken-from : further own other ≡ true → own .checkpoints ++ drop (count own) (other .checkpoints) ≡ other .checkpoints
+  abbrev taken-from : further own other ≡ true → own .checkpoints ++ drop (count own) (other .checkpoints)
+      ≡ other .checkpoints
   taken-from f = appended (own .checkpoints) (other .checkpoints) (j .prefix f)
 
   longer-further : count own < count other → further own other ≡ true
   unfolding further
   longer-further w =
       let b = ap₂ boundaries (j .area) (j .interval) in
-      test (complete own) (λ h. let n = counts own (j .ok) .full h in let i = counts other (j .ok') .within in let z : ⊥ = omega arith in absurd z)
+      test (complete own) (λ h. let n = counts own (j .ok) .full h in let i = counts other (j .ok') .within
+      in let z : ⊥ = omega arith in absurd z)
       (λ h. rw h (or-right (complete other) (lt-ltb (count own) (count other) w)))
 
   complete-further : complete own ≡ false → complete other ≡ true → further own other ≡ true
@@ -92,18 +95,22 @@ module _ (own other : Scan) (j : Joinable own other) where
   complete-further h w = rw (h, w) refl
 
   -- the further list's parts come to the own ones
-  merge-admits : further own other ≡ true → Admits (own .budget) (other .frames) (count own) (other .parts) (storedIn own) (mergedStored own other)
+  merge-admits : further own other ≡ true → Admits (own .budget) (other .frames) (count own) (other .parts)
+      (storedIn own) (mergedStored own other)
   merge-admits f =
-      let theirs : HeldIs (own .area) (own .interval) (other .budget) 0 (other .checkpoints) (other .frames) (other .parts) = rw (j .area, j .interval) (j .ok' .stretch .held) in
+      let theirs : HeldIs (own .area) (own .interval) (other .budget) 0 (other .checkpoints) (other .frames)
+      (other .parts) = rw (j .area, j .interval) (j .ok' .stretch .held) in
       rw (zero-add (count own)) at
-      (admits (own .area) (own .interval) (own .budget) (other .budget) 0 0 (own .checkpoints) (other .checkpoints) (other .frames) (other .parts) (storedIn own) (j .ok .stretch .held) theirs (omega arith))
+      (admits (own .area) (own .interval) (own .budget) (other .budget) 0 0 (own .checkpoints) (other .checkpoints)
+      (other .frames) (other .parts) (storedIn own) (j .ok .stretch .held) theirs (omega arith))
 
   merge-of : MergeOf own other (mergedScan own other)
   unfolding mergedScan
   merge-of =
       record {
         longer = λ w. let f = longer-further w in rw f (taken-from f);
-        complete = λ w. test (further own other) (λ f. rw f w) (λ f. test (complete own) (λ h. rw f h) (λ h. never (complete-further h w) f));
+        complete = λ w. test (further own other) (λ f. rw f w)
+            (λ f. test (complete own) (λ h. rw f h) (λ h. never (complete-further h w) f));
         taken = λ f. rw f (record { checkpoints = taken-from f; ending = refl; malformed = refl }, refl);
         parts = λ f. rw f (merge-admits f);
         same = λ f. rw f refl;
@@ -140,7 +147,8 @@ module _ (t : ℕ) (cs : List Checkpoint) where
   -- one more that is above
   above-more : (i n : ℕ) → leb (checkpointAt cs n .threshold) t ≡ false → Above i n → Above i (suc n)
   above-more i n h f k a b =
-      ⊎-elim (λ (q : k ≡ n). rw q (leb-false (checkpointAt cs n .threshold) t h)) (λ (q : k < n). f k a q) (eq-or-lt-of-le (let l : k ≤ n = omega arith in l))
+      ⊎-elim (λ (q : k ≡ n). rw q (leb-false (checkpointAt cs n .threshold) t h)) (λ (q : k < n). f k a q)
+      (eq-or-lt-of-le (let l : k ≤ n = omega arith in l))
 
   none-above : (n : ℕ) → lastNotAbove t cs n ≡ none → Above 0 n
   unfolding lastNotAbove
@@ -162,7 +170,11 @@ module _ (t : ℕ) (cs : List Checkpoint) where
       test (leb (checkpointAt cs n .threshold) t)
       (λ h. let q : some n ≡ some j = rw h at e in let i : n ≡ j = cc in
       subst (λ (m : ℕ). Found (suc n) m) i
-      (record { inside = omega arith; notAbove = leb-true (checkpointAt cs n .threshold) t h; last = λ k a b. let z : ⊥ = omega arith in absurd z }))
+      (record {
+        inside = omega arith;
+        notAbove = leb-true (checkpointAt cs n .threshold) t h;
+        last = λ k a b. let z : ⊥ = omega arith in absurd z;
+      }))
       (λ h.
       let r = last-found n j (rw h at e) in
       record { inside = omega (arith, r .inside); notAbove = r .notAbove; last = above-more (j + 1) n h (r .last) })
@@ -171,7 +183,8 @@ stored-not : (p : HeldPart) → Stored p ≢ Replayed
 stored-not p e = let z : _≡_ {A = ℕ} 0 1 = cc in omega arith
 
 -- a part that is held is answered
-part-there : (fs : List Frame) (ps : List Held) (j i : ℕ) → i < length ps → getD ps i noHeld .at ≡ j → assemblyOf fs ps j ≢ Replayed
+part-there : (fs : List Frame) (ps : List Held) (j i : ℕ) → i < length ps → getD ps i noHeld .at ≡ j
+    → assemblyOf fs ps j ≢ Replayed
 unfolding assemblyOf
 part-there fs [] j i l e q = let z : ⊥ = omega arith in absurd z
 part-there fs (p ∷ ps) j zero l e q = stored-not _ (rw (eq-eqb (p .at) j e) at q)
@@ -180,17 +193,26 @@ part-there fs (p ∷ ps) j (suc i) l e q =
 
 module _ (t : ℕ) (x : Scan) where
   -- without the end state
-  looked-from : (o : Option ℕ) → lastNotAbove t (x .checkpoints) (length (x .checkpoints)) ≡ o → Looked x t (planFrom x o)
+  looked-from : (o : Option ℕ) → lastNotAbove t (x .checkpoints) (length (x .checkpoints)) ≡ o
+      → Looked x t (planFrom x o)
   unfolding planFrom Looked
   looked-from none e = none-above t (x .checkpoints) (length (x .checkpoints)) e
   looked-from (some j) e =
       let f = last-found t (x .checkpoints) (length (x .checkpoints)) j e in
-      record { inside = f .inside; lsn = refl; checkpoint = refl; notAbove = f .notAbove; last = f .last; held = λ i l q. part-there (x .frames) (x .parts) j i l q }
+      record {
+        inside = f .inside;
+        lsn = refl;
+        checkpoint = refl;
+        notAbove = f .notAbove;
+        last = f .last;
+        held = λ i l q. part-there (x .frames) (x .parts) j i l q;
+      }
 
   looked-or : (e : Option EndState) → x .ending ≡ e → (p : Plan) → Looked x t p → Looked x t (planOr t e p)
   unfolding planOr Looked
   looked-or none q p h = h
-  looked-or (some s) q p h = choose (Looked x t) (leb (s .threshold) t) (End s) p (λ b. (q, leb-true (s .threshold) t b)) (λ b. h)
+  looked-or (some s) q p h = choose (Looked x t) (leb (s .threshold) t) (End s) p
+      (λ b. (q, leb-true (s .threshold) t b)) (λ b. h)
 
 pub plan-looks : PlanLooks
 unfolding plan planned planOr
@@ -198,8 +220,10 @@ plan-looks =
     record {
       answers = λ l x t p e.
           subst (Looked (x .scan) t) (accepted→ (firstNo (four l x [])) (planned (x .scan) t) p e .1)
-          (looked-or t (x .scan) (x .scan .ending) refl _ (looked-from t (x .scan) (lastNotAbove t (x .scan .checkpoints) (length (x .scan .checkpoints))) refl));
-      ends = λ l x t e v q h. refuses-nothing .plans l x t v ∙ ap (λ (p : Plan). Accepted p) (rw (q, le-leb (e .threshold) t h) refl);
+          (looked-or t (x .scan) (x .scan .ending) refl _
+          (looked-from t (x .scan) (lastNotAbove t (x .scan .checkpoints) (length (x .scan .checkpoints))) refl));
+      ends = λ l x t e v q h. refuses-nothing .plans l x t v
+          ∙ ap (λ (p : Plan). Accepted p) (rw (q, le-leb (e .threshold) t h) refl);
     }
 
 -- ---- hint
@@ -208,14 +232,16 @@ unfolding largestOf isSome
 largest-found p hs zero i l e = let z : ⊥ = omega arith in absurd z
 largest-found p hs (suc n) i l e =
     test (p n) (λ w. rw w refl)
-    (λ w. rw w (⊎-elim (λ (q : i ≡ n). never (ap p (sym q) ∙ e) w) (λ (q : i < n). largest-found p hs n i q e) (eq-or-lt-of-le (let h : i ≤ n = omega arith in h))))
+    (λ w. rw w (⊎-elim (λ (q : i ≡ n). never (ap p (sym q) ∙ e) w) (λ (q : i < n). largest-found p hs n i q e)
+    (eq-or-lt-of-le (let h : i ≤ n = omega arith in h))))
 
 either-found : {A : Type 0} (a b : Option A) → isSome b ≡ true → isSome (orElse a b) ≡ true
 unfolding orElse isSome
 either-found none b e = e
 either-found (some a) b e = refl
 
-hinted-none : (x : Index) (end playtime : ℕ) (o : Option ℕ) → hintedAt (x .scan .area) (x .hinting .hints) end playtime o ≡ none → isSome o ≡ false
+hinted-none : (x : Index) (end playtime : ℕ) (o : Option ℕ)
+    → hintedAt (x .scan .area) (x .hinting .hints) end playtime o ≡ none → isSome o ≡ false
 unfolding hintedAt isSome
 hinted-none x end playtime none e = refl
 hinted-none x end playtime (some i) e = let z : _≡_ {A = ℕ} 0 1 = cc in let f : ⊥ = omega arith in absurd f
@@ -224,9 +250,11 @@ pub hint-looks : HintLooks
 unfolding hint hintPlace
 hint-looks l x first end playtime i e w =
     let hs = x .hinting .hints in let cs = x .hinting .confirmed in let ch = isChecked (x .fingerprint) in
-    let n = hinted-none x end playtime (hintPlace ch hs cs first) (accepted→ (firstNo (four l x (ask (leb first end) 16 ∷ []))) _ none e .1) in
+    let n = hinted-none x end playtime (hintPlace ch hs cs first)
+    (accepted→ (firstNo (four l x (ask (leb first end) 16 ∷ []))) _ none e .1) in
     test (near first (getD hs i noHint))
-    (λ f. never (either-found _ (largestOf (λ i. near first (getD hs i noHint)) hs (length hs)) (largest-found (λ i. near first (getD hs i noHint)) hs (length hs) i w f)) n)
+    (λ f. never (either-found _ (largestOf (λ i. near first (getD hs i noHint)) hs (length hs))
+    (largest-found (λ i. near first (getD hs i noHint)) hs (length hs) i w f)) n)
     (λ f. f)
 
 -- ---- absorb
@@ -236,12 +264,15 @@ record Joins (x : Index) (r : Recorder) : Type 0 where
   theirs : HeldIs (x .scan .area) (x .scan .interval) (r .budget) (r .first) (r .checkpoints) (r .frames) (r .parts)
   first : r .first ≤ count (x .scan)
 
-absorb-joins : (l : Lengths) (x : Index) (m : Lengths) (r : Recorder) (image : Option ℕ) (ms : List ℕ) → absorbNumber l x m r image ms ≡ 0 → isStopped (r .mode) ≡ false → Joins x r
+absorb-joins : (l : Lengths) (x : Index) (m : Lengths) (r : Recorder) (image : Option ℕ) (ms : List ℕ)
+    → absorbNumber l x m r image ms ≡ 0 → isStopped (r .mode) ≡ false → Joins x r
 unfolding question9 question10
 absorb-joins l x m r image ms e s =
     let q = asked _ refl e in let a = absorb-asked l x m r image ms e in
-    let nine = all→ _ (unstopped r (question9 x r) s (q .1 .1 .1 .1 .1 .0)) in let ten = all→ _ (unstopped r (question10 x r) s (q .1 .1 .1 .1 .1 .1 .0)) in
-    let ea : x .scan .area ≡ r .area = sameArea-eq _ _ (nine .0) in let ei : x .scan .interval ≡ r .interval = eqb-true _ _ (nine .1 .0) in
+    let nine = all→ _ (unstopped r (question9 x r) s (q .1 .1 .1 .1 .1 .0)) in let ten = all→ _
+    (unstopped r (question10 x r) s (q .1 .1 .1 .1 .1 .1 .0)) in
+    let ea : x .scan .area ≡ r .area = sameArea-eq _ _ (nine .0) in let ei : x .scan .interval
+    ≡ r .interval = eqb-true _ _ (nine .1 .0) in
     record {
       own = scan→ (x .scan) (scan-of x (a .0 .2));
       theirs = rw (ea, ei) (recorder→ r (a .1 .2) .held);
@@ -253,11 +284,16 @@ absorb-of x r ms j =
     let y = x .scan in let i = j .first in
     record {
       checkpoints = refl;
-      reaches = omega (arith, length-append (y .checkpoints) (drop (count y - r .first) (r .checkpoints)), length-drop (count y - r .first) (r .checkpoints));
+      reaches = omega (
+        arith,
+        length-append (y .checkpoints) (drop (count y - r .first) (r .checkpoints)),
+        length-drop (count y - r .first) (r .checkpoints),
+      );
       ending = refl;
       parts =
           rw (zero-add (count y)) at
-          (admits (y .area) (y .interval) (y .budget) (r .budget) 0 (r .first) (y .checkpoints) (r .checkpoints) (r .frames) (r .parts) (storedIn y) (j .own .stretch .held) (j .theirs) (omega arith));
+          (admits (y .area) (y .interval) (y .budget) (r .budget) 0 (r .first) (y .checkpoints) (r .checkpoints)
+          (r .frames) (r .parts) (storedIn y) (j .own .stretch .held) (j .theirs) (omega arith));
     }
 
 -- the malformed list of the joined scan
@@ -265,13 +301,15 @@ module _ (x : Index) (r : Recorder) (image : Option ℕ) (ms : List ℕ) where
   abbrev after' : Index
   after' = absorbedIndex x r image ms
 
-  moved-list : frontier (x .scan) < frontier (after' .scan) → after' .scan .malformed ≡ take maxMalformed (below (frontier (after' .scan)) ms)
+  moved-list : frontier (x .scan) < frontier (after' .scan) → after' .scan .malformed
+      ≡ take maxMalformed (below (frontier (after' .scan)) ms)
   moved-list h = rw (lt-ltb (frontier (x .scan)) (frontier (joined (x .scan) r [])) h)
 
   held-list : frontier (after' .scan) ≤ frontier (x .scan) → after' .scan .malformed ≡ x .scan .malformed
   held-list h =
       test (ltb (frontier (x .scan)) (frontier (joined (x .scan) r [])))
-      (λ e. let f : ⊥ = omega (arith, ltb-true (frontier (x .scan)) (frontier (joined (x .scan) r [])) e, h) in absurd f)
+      (λ e. let f : ⊥ = omega (arith, ltb-true (frontier (x .scan)) (frontier (joined (x .scan) r [])) e, h)
+      in absurd f)
       (λ e. rw e refl)
 
 pub absorb-takes : AbsorbTakes

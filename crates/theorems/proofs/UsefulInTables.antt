@@ -39,30 +39,43 @@ unfolding madeOutOf
 load-keeps-in x t a v limit t' q =
     let i = indexIn x t in
     let s = sized-in x t (a .typed) (a .bytes) in
-    let k = load-keeps (roomOf t') i (record { one = v .valid .one; two = v .valid .two; three = q; four = v .valid .four }) s limit in
+    let k = load-keeps (roomOf t') i (record {
+      one = v .valid .one;
+      two = v .valid .two;
+      three = q;
+      four = v .valid .four;
+    }) s limit in
     let w = load-savable (roomOf t') (x .area) (saved i) limit (k .0) (saved-bytes i (sized→ i s)) (k .1) in
-    rw (k .1) (record { numbers = numbersFrom (k .0); answer = refl; list = subst (λ (z : Index). LoadOf limit i z) (sym (stands (k .0) t' w)) (k .2) })
+    rw (k .1) (record {
+      numbers = numbersFrom (k .0);
+      answer = refl;
+      list = subst (λ (z : Index). LoadOf limit i z) (sym (stands (k .0) t' w)) (k .2);
+    })
 
 -- ---- merge
 pub merge-takes-in : MergeTakesIn
 merge-takes-in x t y u z t' a b e =
     let l = merge-left x t y u z t' a b e in
-    subst (λ (w : Index). MergedOf (indexIn x t) (indexIn y u) w) (sym (l .stands)) (merge-takes (roomOf t) (roomOf u) (indexIn x t) (indexIn y u) (l .list) (l .accepted))
+    subst (λ (w : Index). MergedOf (indexIn x t) (indexIn y u) w) (sym (l .stands))
+    (merge-takes (roomOf t) (roomOf u) (indexIn x t) (indexIn y u) (l .list) (l .accepted))
 
 -- ---- absorb
 pub absorb-takes-in : AbsorbTakesIn
 absorb-takes-in x t image given r u a b e m =
     let l = absorb-left x t image given r u a b e in
     subst (λ (y : Index). AbsorbedOf (indexIn x t) (recorderIn r u) (idIn image) (givenIn given) y) (sym (l .list))
-    (absorb-takes (roomOf t) (indexIn x t) (recorderRoom u) (recorderIn r u) (idIn image) (givenIn given) (l .accepted) m)
+    (absorb-takes (roomOf t) (indexIn x t) (recorderRoom u) (recorderIn r u) (idIn image) (givenIn given)
+    (l .accepted) m)
 
 -- ---- save
 pub save-tells-in : SaveTellsIn
 unfolding saveIn saveOut save
 save-tells-in x t old n new e = told-of (kinded (kindsIn x t) (save (roomOf t) (indexIn x t) (length old))) refl e
   where
-    told-of : (r : Answer (List ℕ)) → kinded (kindsIn x t) (save (roomOf t) (indexIn x t) (length old)) ≡ r → saveOut r old ≡ made (told.Length n) new → SaveOf (indexIn x t) old n new
-    told-of (Refused m) q h = let a = ap (λ (o : SaveOut). o .answer) h in let z : _≡_ {A = ℕ} 0 1 = cc in let f : ⊥ = omega arith in absurd f
+    told-of : (r : Answer (List ℕ)) → kinded (kindsIn x t) (save (roomOf t) (indexIn x t) (length old)) ≡ r
+        → saveOut r old ≡ made (told.Length n) new → SaveOf (indexIn x t) old n new
+    told-of (Refused m) q h = let a = ap (λ (o : SaveOut). o .answer) h in let z : _≡_ {A = ℕ} 0 1 = cc
+        in let f : ⊥ = omega arith in absurd f
     told-of (Accepted b) q h =
         let a : told.Length (length b) ≡ told.Length n = ap (λ (o : SaveOut). o .answer) h in
         let l : length b ≡ n = cc in
@@ -82,9 +95,11 @@ pub plan-looks-in : PlanLooksIn
 unfolding planIn endIn
 plan-looks-in =
     record {
-      answers = λ x t f p e. plan-looks .answers (roomOf t) (indexIn x t) f p (kinded→ (kindsIn x t) (plan (roomOf t) (indexIn x t) f) p e .1);
+      answers = λ x t f p e. plan-looks .answers (roomOf t) (indexIn x t) f p
+          (kinded→ (kindsIn x t) (plan (roomOf t) (indexIn x t) f) p e .1);
       ends = λ x t f e v q l.
-          kinds-pass (kindsIn x t) (plan (roomOf t) (indexIn x t) f) (v .kinds) ∙ plan-looks .ends (roomOf t) (indexIn x t) f e (v .valid) (rw q refl) l;
+          kinds-pass (kindsIn x t) (plan (roomOf t) (indexIn x t) f) (v .kinds)
+          ∙ plan-looks .ends (roomOf t) (indexIn x t) f e (v .valid) (rw q refl) l;
     }
 
 pub hint-looks-in : HintLooksIn
@@ -92,4 +107,5 @@ unfolding hintIn
 hint-looks-in x t first end playtime i e l =
     let n : i < length (indexIn x t .hinting .hints) = rw (records-length 8 decodeKept (x .hints) (t .hints)) l in
     hint-looks (roomOf t) (indexIn x t) first end playtime i
-    (named-none (roomOf t) (indexIn x t) first end playtime (kinded→ (kindsIn x t) (namedHint (roomOf t) (indexIn x t) first end playtime) none e .1)) n
+    (named-none (roomOf t) (indexIn x t) first end playtime
+    (kinded→ (kindsIn x t) (namedHint (roomOf t) (indexIn x t) first end playtime) none e .1)) n

@@ -64,17 +64,27 @@ unfolding readHead
 head-reads b = refl
 
 head-back : (h : Head) (r : List ℕ) → FieldsFit headWidths (headWords h) → readHead (wordBytes (headWords h) ++ r) ≡ h
-head-back = front-back headWidths {d = readHead} {e = λ h. wordBytes (headWords h)} headWords headFrom head-reads head-writes (λ h. refl)
+head-back = front-back headWidths {d = readHead} {e = λ h. wordBytes (headWords h)} headWords headFrom head-reads
+    head-writes (λ h. refl)
 
 abbrev countsFrom : List ℕ → Totals
-countsFrom v = record { malformed = getD v 0 0; parts = getD v 1 0; hints = getD v 2 0; known = getD v 3 0; fingerprint = getD v 4 0; confirmed = getD v 5 0 }
+countsFrom v = record {
+  malformed = getD v 0 0;
+  parts = getD v 1 0;
+  hints = getD v 2 0;
+  known = getD v 3 0;
+  fingerprint = getD v 4 0;
+  confirmed = getD v 5 0;
+}
 
 counts-reads : (b : List ℕ) → totalWords (readTotals b) ≡ fieldsAt countWidths b 0
 unfolding readTotals
 counts-reads b = refl
 
-counts-back : (c : Totals) (r : List ℕ) → FieldsFit countWidths (totalWords c) → readTotals (wordBytes (totalWords c) ++ r) ≡ c
-counts-back = front-back countWidths {d = readTotals} {e = λ c. wordBytes (totalWords c)} totalWords countsFrom counts-reads counts-writes (λ c. refl)
+counts-back : (c : Totals) (r : List ℕ) → FieldsFit countWidths (totalWords c)
+    → readTotals (wordBytes (totalWords c) ++ r) ≡ c
+counts-back = front-back countWidths {d = readTotals} {e = λ c. wordBytes (totalWords c)} totalWords countsFrom
+    counts-reads counts-writes (λ c. refl)
 
 -- ---- what a listener sees
 bit-back : (p : Bool) → eqb (bit p) 1 ≡ p
@@ -88,7 +98,8 @@ pub record ListenerFits (v : Listener) : Type 0 where
   pub seen : Each SeenFits (v .checkpoints)
 
 module _ (role : ℕ) (v : Listener) (r : List ℕ) where
-  seen-split : seenBytes role v ++ r ≡ wordBytes (headWords (headOf role v)) ++ (bytesOf encodeSeen (v .checkpoints) ++ r)
+  seen-split : seenBytes role v ++ r ≡ wordBytes (headWords (headOf role v))
+      ++ (bytesOf encodeSeen (v .checkpoints) ++ r)
   unfolding seenBytes
   seen-split = append-assoc (wordBytes (headWords (headOf role v))) (bytesOf encodeSeen (v .checkpoints)) r
 
@@ -97,13 +108,16 @@ module _ (role : ℕ) (v : Listener) (r : List ℕ) where
 
   behind-head : drop 88 (seenBytes role v ++ r) ≡ bytesOf encodeSeen (v .checkpoints) ++ r
   behind-head =
-      ap (drop 88) seen-split ∙ drop-at (wordBytes (headWords (headOf role v))) (bytesOf encodeSeen (v .checkpoints) ++ r) 88 (head-length (headOf role v))
+      ap (drop 88) seen-split ∙ drop-at (wordBytes (headWords (headOf role v)))
+      (bytesOf encodeSeen (v .checkpoints) ++ r) 88 (head-length (headOf role v))
 
-  from-told : Each SeenFits (v .checkpoints) → listenerFrom (headOf role v) (bytesOf encodeSeen (v .checkpoints) ++ r) ≡ v
+  from-told : Each SeenFits (v .checkpoints) → listenerFrom (headOf role v)
+      (bytesOf encodeSeen (v .checkpoints) ++ r) ≡ v
   unfolding listenerFrom headOf
   from-told s = rw (bit-back (v .complete), records-bytes seen-layout r s)
 
-  seen-told : FieldsFit headWidths (headWords (headOf role v)) → Each SeenFits (v .checkpoints) → seenIn (seenBytes role v ++ r) ≡ v
+  seen-told : FieldsFit headWidths (headWords (headOf role v)) → Each SeenFits (v .checkpoints)
+      → seenIn (seenBytes role v ++ r) ≡ v
   unfolding seenIn
   seen-told f s = ap₂ listenerFrom (head-told f) behind-head ∙ from-told s
 
@@ -118,10 +132,13 @@ head-count role v = refl
 listener-told : (v : Listener) → ListenerFits v → readListener (listenerBytes v) ≡ some v
 unfolding readListener listenerBytes
 listener-told v f =
-    let h : readHead (seenBytes listener v) ≡ headOf listener v = rw append-nil at (head-told listener v [] (f .head)) in
+    let h : readHead (seenBytes listener v) ≡ headOf listener v = rw append-nil at
+    (head-told listener v [] (f .head)) in
     let s : seenIn (seenBytes listener v) ≡ v = rw append-nil at (seen-told listener v [] (f .head) (f .seen)) in
-    let n : length (seenBytes listener v) ≡ 88 + readHead (seenBytes listener v) .count * 8 = rw (h, head-count listener v) (seen-length listener v) in
-    let t : all (eqb (readHead (seenBytes listener v) .role) listener ∷ eqb (length (seenBytes listener v)) (88 + readHead (seenBytes listener v) .count * 8) ∷ []) ≡ true =
+    let n : length (seenBytes listener v) ≡ 88 + readHead (seenBytes listener v) .count * 8 = rw
+    (h, head-count listener v) (seen-length listener v) in
+    let t : all (eqb (readHead (seenBytes listener v) .role) listener
+    ∷ eqb (length (seenBytes listener v)) (88 + readHead (seenBytes listener v) .count * 8) ∷ []) ≡ true =
     →all _ (eq-eqb _ _ (ap (λ (h : Head). h .role) h ∙ head-role listener v), (eq-eqb _ _ n, tt)) in
     rw (t, s)
 
@@ -132,7 +149,8 @@ bit-small true = omega arith
 bit-small false = omega arith
 
 module _ (a : Area) (k : ℕ) (l : 1 ≤ k) (f : AreaFacts a) where
-  seen-fits : (j : ℕ) {cs : List Checkpoint} → j + length cs ≤ boundaries a k → Each CheckpointFits cs → Each SeenFits (seenFrom a k j cs)
+  seen-fits : (j : ℕ) {cs : List Checkpoint} → j + length cs ≤ boundaries a k → Each CheckpointFits cs
+      → Each SeenFits (seenFrom a k j cs)
   unfolding seenFrom
   seen-fits j h nothing = nothing
   seen-fits j h (one {x = c} {xs = cs} p ps) =
@@ -162,7 +180,8 @@ module _ (x : Index) (f : Facts x) where
         head' = head-fits workshop (omega arith);
         seen =
             unfold listenerOf in
-            seen-fits (x .scan .area) (x .scan .interval) (f .numbers .low) (f .area) 0 (let c = scan-counts x f in omega arith) (checkpoints-fits x f);
+            seen-fits (x .scan .area) (x .scan .interval) (f .numbers .low) (f .area) 0
+            (let c = scan-counts x f in omega arith) (checkpoints-fits x f);
       }
 
 -- ---- an accepted view
@@ -172,7 +191,8 @@ pub record Viewed (role : ℕ) (l : Lengths) (x : Index) (out : ℕ) (b : List �
   pub fits : viewLength role x ≤ out
   pub is : viewBytes role x ≡ b
 
-viewed : (role : ℕ) (l : Lengths) (x : Index) (out : ℕ) (b : List ℕ) → view role l x out ≡ Accepted b → Viewed role l x out b
+viewed : (role : ℕ) (l : Lengths) (x : Index) (out : ℕ) (b : List ℕ) → view role l x out ≡ Accepted b
+    → Viewed role l x out b
 unfolding view
 viewed role l x out b e =
     let t = accepted→ _ (viewBytes role x) b e in let s = asked _ refl (t .0) in
@@ -197,7 +217,8 @@ workshop-bytes x = refl
 pub listener-tells : ListenerTold
 listener-tells l x out b z e =
     let v = viewed listener l x out b e in
-    ap readListener (sym (v .is) ∙ listener-bytes x) ∙ listener-told (listenerOf x) (listener-fits x (facts-of x z (v .valid)))
+    ap readListener (sym (v .is) ∙ listener-bytes x)
+    ∙ listener-told (listenerOf x) (listener-fits x (facts-of x z (v .valid)))
 
 -- ---- non-interference
 listener-size : (x : Index) → viewLength listener x ≡ 88 + 8 * length (listenerOf x .checkpoints)
@@ -210,7 +231,20 @@ module _ (l m : Lengths) (x y : Index) (v : Valid l x) (w : Valid m y) (e : list
 
   same-view : (out : ℕ) → view listener l x out ≡ view listener m y out
   unfolding view isRole firstNo
-  same-view out = rw (v .one, v .two, v .three, v .four, w .one, w .two, w .three, w .four, same-size, listener-bytes x, listener-bytes y, e)
+  same-view out = rw (
+    v .one,
+    v .two,
+    v .three,
+    v .four,
+    w .one,
+    w .two,
+    w .three,
+    w .four,
+    same-size,
+    listener-bytes x,
+    listener-bytes y,
+    e,
+  )
 
   same-told : viewSize listener l x ≡ viewSize listener m y
   unfolding viewSize isRole firstNo
@@ -225,7 +259,8 @@ abbrev HintShown : Hint → Type 0
 HintShown h = FieldsFit (4 ∷ 4 ∷ []) (h .lsn ∷ h .number ∷ []) × (h .mark < 256)
 
 -- the hints without their marks, and with them again
-hints-told : (hs : List Hint) (r : List ℕ) → Each HintShown hs → records 8 decodeHint (length hs) (bytesOf encodeHint hs ++ r) ≡ unkept hs
+hints-told : (hs : List Hint) (r : List ℕ) → Each HintShown hs
+    → records 8 decodeHint (length hs) (bytesOf encodeHint hs ++ r) ≡ unkept hs
 hints-told hs r f =
     ap (λ (b : List ℕ). records 8 decodeHint (length hs) (b ++ r)) (sym (unkept-bytes hs))
     ∙ ap (λ (n : ℕ). records 8 decodeHint n (bytesOf encodeHint (unkept hs) ++ r)) (sym (unkept-length hs))
@@ -252,7 +287,8 @@ known-back none = refl
 known-back (some v) = refl
 
 -- the bytes behind a section
-behind-section : {A : Type 0} {w : ℕ} {d : List ℕ → A} {e : A → List ℕ} {F : A → Type 0} (l : Layout w d e F) (xs : List A) (r : List ℕ)
+behind-section : {A : Type 0} {w : ℕ} {d : List ℕ → A} {e : A → List ℕ} {F : A → Type 0} (l : Layout w d e F)
+    (xs : List A) (r : List ℕ)
     → drop (length xs * w) (bytesOf e xs ++ r) ≡ r
 behind-section {w = w} {e = e} l xs r = drop-at (bytesOf e xs) r (length xs * w) (bytesOf-length l xs)
 
@@ -286,8 +322,22 @@ module _ (w : Workshop) where
     sections-told : workshopFrom (w .seen) (length (w .behind)) (totalsOf w) s1 ≡ w
     unfolding workshopFrom totalsOf
     sections-told =
-        let last : records 16 decodeConfirmation (length (w .confirmed)) s6 ≡ w .confirmed = rw append-nil at (records-bytes confirmation-layout [] (f .confirmed)) in
-        rw (behind-section behind-layout (w .behind) s2, behind-section lsn-layout (w .malformed) s3, behind-section length-layout (w .parts) s4, behind-section hint-layout (w .hints) s5, drop-at (bytesOf encodeMark (w .hints)) s6 (length (w .hints)) (marks-length (w .hints)), records-bytes behind-layout s2 (f .behind), records-bytes lsn-layout s3 (f .malformed), records-bytes length-layout s4 (f .parts), hints-told (w .hints) s5 (f .hints), marks-told s6 (f .hints), last, known-back (w .fingerprint))
+        let last : records 16 decodeConfirmation (length (w .confirmed)) s6
+        ≡ w .confirmed = rw append-nil at (records-bytes confirmation-layout [] (f .confirmed)) in
+        rw (
+          behind-section behind-layout (w .behind) s2,
+          behind-section lsn-layout (w .malformed) s3,
+          behind-section length-layout (w .parts) s4,
+          behind-section hint-layout (w .hints) s5,
+          drop-at (bytesOf encodeMark (w .hints)) s6 (length (w .hints)) (marks-length (w .hints)),
+          records-bytes behind-layout s2 (f .behind),
+          records-bytes lsn-layout s3 (f .malformed),
+          records-bytes length-layout s4 (f .parts),
+          hints-told (w .hints) s5 (f .hints),
+          marks-told s6 (f .hints),
+          last,
+          known-back (w .fingerprint),
+        )
 
     abbrev all-bytes : List ℕ
     all-bytes = workshopBytes w
@@ -300,14 +350,17 @@ module _ (w : Workshop) where
 
     behind-is : behindSeen all-bytes ≡ s0
     behind-is =
-        ap (λ (n : ℕ). drop (88 + n * 8) all-bytes) count-is ∙ ap (drop (88 + length (w .seen .checkpoints) * 8)) workshop-split
-        ∙ drop-at (seenBytes workshop (w .seen)) s0 (88 + length (w .seen .checkpoints) * 8) (seen-length workshop (w .seen))
+        ap (λ (n : ℕ). drop (88 + n * 8) all-bytes) count-is
+        ∙ ap (drop (88 + length (w .seen .checkpoints) * 8)) workshop-split
+        ∙ drop-at (seenBytes workshop (w .seen)) s0 (88 + length (w .seen .checkpoints) * 8)
+        (seen-length workshop (w .seen))
 
     counts-is : readTotals (behindSeen all-bytes) ≡ totalsOf w
     counts-is = ap readTotals behind-is ∙ counts-back (totalsOf w) s1 (f .counts)
 
     sections-is : drop 48 (behindSeen all-bytes) ≡ s1
-    sections-is = ap (drop 48) behind-is ∙ drop-at (wordBytes (totalWords (totalsOf w))) s1 48 (counts-length (totalsOf w))
+    sections-is = ap (drop 48) behind-is ∙ drop-at (wordBytes (totalWords (totalsOf w))) s1 48
+        (counts-length (totalsOf w))
 
     seen-is : seenIn all-bytes ≡ w .seen
     seen-is = ap seenIn workshop-split ∙ seen-told workshop (w .seen) s0 (f .seen .head') (f .seen .seen)
@@ -316,12 +369,15 @@ module _ (w : Workshop) where
     unfolding readWorkshop
     workshop-told =
         let n = count-is ∙ sym (f .same) in
-        let t : all (eqb (readHead all-bytes .role) workshop ∷ eqb (length all-bytes) (workshopSize (readHead all-bytes .count) (readTotals (behindSeen all-bytes))) ∷ []) ≡ true =
+        let t : all (eqb (readHead all-bytes .role) workshop
+        ∷ eqb (length all-bytes) (workshopSize (readHead all-bytes .count) (readTotals (behindSeen all-bytes))) ∷ [])
+        ≡ true =
         →all _ (
           eq-eqb _ _ (ap (λ (h : Head). h .role) head-is ∙ head-role workshop (w .seen)),
           (eq-eqb _ _ (workshop-length w (f .same) ∙ sym (ap₂ workshopSize count-is counts-is)), tt),
         ) in
-        let v : workshopFrom (seenIn all-bytes) (readHead all-bytes .count) (readTotals (behindSeen all-bytes)) (drop 48 (behindSeen all-bytes)) ≡ w =
+        let v : workshopFrom (seenIn all-bytes) (readHead all-bytes .count) (readTotals (behindSeen all-bytes))
+        (drop 48 (behindSeen all-bytes)) ≡ w =
         (λ i. workshopFrom (seen-is i) (n i) (counts-is i) (sections-is i)) ∙ sections-told in
         rw (t, v)
 
@@ -364,13 +420,15 @@ module _ (x : Index) (f : Facts x) where
 pub workshop-tells : WorkshopTold
 workshop-tells l x out b z e =
     let v = viewed workshop l x out b e in
-    ap readWorkshop (sym (v .is) ∙ workshop-bytes x) ∙ workshop-told (workshopOf x) (workshop-fits x (facts-of x z (v .valid)))
+    ap readWorkshop (sym (v .is) ∙ workshop-bytes x)
+    ∙ workshop-told (workshopOf x) (workshop-fits x (facts-of x z (v .valid)))
 
 -- ---- the first word
 abbrev laterWords : Listener → List ℕ
 laterWords v =
     let h = headOf listener v in
-    h .slot ∷ h .channels ∷ h .keyStart ∷ h .keyEnd ∷ h .sectors ∷ h .start ∷ h .end ∷ h .interval ∷ h .complete ∷ h .count ∷ []
+    h .slot ∷ h .channels ∷ h .keyStart ∷ h .keyEnd ∷ h .sectors ∷ h .start ∷ h .end ∷ h .interval ∷ h .complete
+    ∷ h .count ∷ []
 
 abbrev behindRole : Listener → List ℕ
 behindRole v = wordBytes (laterWords v) ++ bytesOf encodeSeen (v .checkpoints)
@@ -386,16 +444,19 @@ role-told : (role : ℕ) (v : Listener) (r : List ℕ) → role ≤ 2 → decode
 role-told role v r h =
     ap (λ (b : List ℕ). decode (take 8 (b ++ r))) (role-split role v)
     ∙ ap (λ (b : List ℕ). decode (take 8 b)) (append-assoc (encode 8 role) (behindRole v) r)
-    ∙ ap decode (take-at (encode 8 role) (behindRole v ++ r) 8 (encode-length 8 role)) ∙ decode-encode 8 role (omega arith)
+    ∙ ap decode (take-at (encode 8 role) (behindRole v ++ r) 8 (encode-length 8 role))
+    ∙ decode-encode 8 role (omega arith)
 
 pub workshop-adds : WorkshopAdds
 unfolding listenerBytes workshopOf
 workshop-adds x =
     let v = listenerOf x in
     let w = workshopOf x in
-    let l : length (seenBytes workshop v) ≡ length (seenBytes listener v) = seen-length workshop v ∙ sym (seen-length listener v) in
+    let l : length (seenBytes workshop v) ≡ length (seenBytes listener v) = seen-length workshop v
+    ∙ sym (seen-length listener v) in
     ap (λ (b : List ℕ). drop 8 (take (length (seenBytes listener v)) b)) (workshop-split w)
-    ∙ ap (drop 8) (take-at (seenBytes workshop v) (s0 w) (length (seenBytes listener v)) l) ∙ behind-role workshop v ∙ sym (behind-role listener v)
+    ∙ ap (drop 8) (take-at (seenBytes workshop v) (s0 w) (length (seenBytes listener v)) l) ∙ behind-role workshop v
+    ∙ sym (behind-role listener v)
 
 -- ---- equal views
 listener-role : (x : Index) → decode (take 8 (listenerBytes (listenerOf x))) ≡ listener
@@ -403,16 +464,21 @@ unfolding listenerBytes
 listener-role x = rw append-nil at (role-told listener (listenerOf x) [] (omega arith))
 
 workshop-role : (x : Index) → decode (take 8 (workshopBytes (workshopOf x))) ≡ workshop
-workshop-role x = ap (λ (b : List ℕ). decode (take 8 b)) (workshop-split (workshopOf x)) ∙ role-told workshop (workshopOf x .seen) (s0 (workshopOf x)) (omega arith)
+workshop-role x = ap (λ (b : List ℕ). decode (take 8 b)) (workshop-split (workshopOf x))
+    ∙ role-told workshop (workshopOf x .seen) (s0 (workshopOf x)) (omega arith)
 
 pub views-tell : ViewsTell
 views-tell =
     record {
-      listeners = λ l m x y out out' b z z' e e'. some-eq (sym (listener-tells l x out b z e) ∙ listener-tells m y out' b z' e');
-      workshops = λ l m x y out out' b z z' e e'. some-eq (sym (workshop-tells l x out b z e) ∙ workshop-tells m y out' b z' e');
+      listeners = λ l m x y out out' b z z' e e'. some-eq
+          (sym (listener-tells l x out b z e) ∙ listener-tells m y out' b z' e');
+      workshops = λ l m x y out out' b z z' e e'. some-eq
+          (sym (workshop-tells l x out b z e) ∙ workshop-tells m y out' b z' e');
       apart = λ l m x y out out' b c e e' q.
-          let p : decode (take 8 b) ≡ 1 = ap (λ (b : List ℕ). decode (take 8 b)) (sym (viewed listener l x out b e .is) ∙ listener-bytes x) ∙ listener-role x in
-          let p' : decode (take 8 c) ≡ 2 = ap (λ (b : List ℕ). decode (take 8 b)) (sym (viewed workshop m y out' c e' .is) ∙ workshop-bytes y) ∙ workshop-role y in
+          let p : decode (take 8 b) ≡ 1 = ap (λ (b : List ℕ). decode (take 8 b))
+          (sym (viewed listener l x out b e .is) ∙ listener-bytes x) ∙ listener-role x in
+          let p' : decode (take 8 c) ≡ 2 = ap (λ (b : List ℕ). decode (take 8 b))
+          (sym (viewed workshop m y out' c e' .is) ∙ workshop-bytes y) ∙ workshop-role y in
           let r : _≡_ {A = ℕ} 1 2 = sym p ∙ ap (λ (b : List ℕ). decode (take 8 b)) q ∙ p' in omega arith;
     }
 
@@ -443,7 +509,8 @@ first-few m (q ∷ qs) h = choose (λ n. n ≤ m) (q .ok) (firstNo qs) (q .numbe
 refused-eq : {A : Type 0} (n k : ℕ) (a : A) → after n (Accepted a) ≡ Refused k → n ≡ k
 unfolding after
 refused-eq n k a e =
-    test (eqb n 0) (λ t. let w : Accepted a ≡ Refused k = rw t at e in let z : _≡_ {A = ℕ} 0 1 = cc in let f : ⊥ = omega arith in absurd f)
+    test (eqb n 0) (λ t. let w : Accepted a ≡ Refused k = rw t at e in let z : _≡_ {A = ℕ} 0 1 = cc
+    in let f : ⊥ = omega arith in absurd f)
     (λ t. let w : Refused n ≡ Refused k = rw t at e in cc)
 
 pub view-number : ViewNumber
@@ -455,5 +522,6 @@ view-number =
       refusal = λ role l x out n e.
           unfold view in
           let q = refused-eq _ n (viewBytes role x) e in
-          let m = first-few 54 (ask (isRole role) 52 ∷ four l x (ask (leb (viewLength role x) out) 40 ∷ [])) (omega arith) in omega arith;
+          let m = first-few 54 (ask (isRole role) 52 ∷ four l x (ask (leb (viewLength role x) out) 40 ∷ []))
+          (omega arith) in omega arith;
     }

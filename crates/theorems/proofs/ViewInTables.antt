@@ -37,19 +37,25 @@ listener-role : isRole listener ≡ true
 unfolding isRole
 listener-role = refl
 
-leaves : (role : ℕ) (x : AreaIndex) (t : Tables) (out : List ℕ) → ValidIn x t → isRole role ≡ true → viewLength role (indexIn x t) ≤ length out
-    → (viewIn role x t out .answer ≡ viewed.Length (viewLength role (indexIn x t))) × (viewIn role x t out .out ≡ over (viewBytes role (indexIn x t)) out)
+leaves : (role : ℕ) (x : AreaIndex) (t : Tables) (out : List ℕ) → ValidIn x t → isRole role ≡ true
+    → viewLength role (indexIn x t) ≤ length out
+    → (viewIn role x t out .answer ≡ viewed.Length (viewLength role (indexIn x t)))
+    × (viewIn role x t out .out ≡ over (viewBytes role (indexIn x t)) out)
 unfolding viewOut
 leaves role x t out v r h =
     let e : viewIn role x t out ≡ viewOut (Accepted (viewBytes role (indexIn x t))) out =
-    plain role x t (v .kinds) r out ∙ ap (λ (b : Answer (List ℕ)). viewOut b out) (refuses-nothing .views role (roomOf t) (indexIn x t) (length out) (v .valid) r h) in
-    (ap (λ (o : ViewOut). o .answer) e ∙ ap viewed.Length (view-length role (indexIn x t)), ap (λ (o : ViewOut). o .out) e)
+    plain role x t (v .kinds) r out ∙ ap (λ (b : Answer (List ℕ)). viewOut b out)
+    (refuses-nothing .views role (roomOf t) (indexIn x t) (length out) (v .valid) r h) in (
+      ap (λ (o : ViewOut). o .answer) e ∙ ap viewed.Length (view-length role (indexIn x t)),
+      ap (λ (o : ViewOut). o .out) e,
+    )
 
 pub view-leaves : ViewLeaves
 view-leaves =
     record {
       bytes = leaves;
-      told = λ role x t v r. plain-size role x t (v .kinds) r ∙ refuses-nothing .lengthsOfViews role (roomOf t) (indexIn x t) (v .valid) r;
+      told = λ role x t v r. plain-size role x t (v .kinds) r
+          ∙ refuses-nothing .lengthsOfViews role (roomOf t) (indexIn x t) (v .valid) r;
     }
 
 -- ---- non-interference
@@ -58,10 +64,12 @@ listener-sees-in-tables =
     record {
       same = λ x y t u out v w e.
           plain listener x t (v .kinds) listener-role out
-          ∙ ap (λ (b : Answer (List ℕ)). viewOut b out) (listener-sees .same (roomOf t) (roomOf u) (indexIn x t) (indexIn y u) (length out) (v .valid) (w .valid) e)
+          ∙ ap (λ (b : Answer (List ℕ)). viewOut b out)
+          (listener-sees .same (roomOf t) (roomOf u) (indexIn x t) (indexIn y u) (length out) (v .valid) (w .valid) e)
           ∙ sym (plain listener y u (w .kinds) listener-role out);
       size = λ x y t u v w e.
-          plain-size listener x t (v .kinds) listener-role ∙ listener-sees .size (roomOf t) (roomOf u) (indexIn x t) (indexIn y u) (v .valid) (w .valid) e
+          plain-size listener x t (v .kinds) listener-role
+          ∙ listener-sees .size (roomOf t) (roomOf u) (indexIn x t) (indexIn y u) (v .valid) (w .valid) e
           ∙ sym (plain-size listener y u (w .kinds) listener-role);
     }
 
@@ -69,8 +77,10 @@ pub listener-sees-in-c : ListenerSeesInC
 unfolding viewCall viewLengthCall inHead
 listener-sees-in-c =
     record {
-      same = λ head other t u out h g v w e. rw (h, g, listener-role) (ap viewInto (listener-sees-in-tables .same (headIndex head) (headIndex other) t u out v w e));
-      size = λ head other t u h g v w e. rw (h, g, listener-role) (ap lengthNumber (listener-sees-in-tables .size (headIndex head) (headIndex other) t u v w e));
+      same = λ head other t u out h g v w e. rw (h, g, listener-role)
+          (ap viewInto (listener-sees-in-tables .same (headIndex head) (headIndex other) t u out v w e));
+      size = λ head other t u h g v w e. rw (h, g, listener-role)
+          (ap lengthNumber (listener-sees-in-tables .size (headIndex head) (headIndex other) t u v w e));
     }
 
 -- ---- roles

@@ -24,7 +24,8 @@ use Rattle.theorems.specs.TableRun.{LentIn}
 -- is nothing named but, at most, the image id?
 unfoldable pub noneButImage : Brings → Bool
 noneButImage b =
-    all (not (b .checkpoints) ∷ not (b .ending) ∷ not (b .parts) ∷ not (b .malformed) ∷ not (b .hints) ∷ not (b .confirmed) ∷ not (b .fingerprint) ∷ [])
+    all (not (b .checkpoints) ∷ not (b .ending) ∷ not (b .parts) ∷ not (b .malformed) ∷ not (b .hints)
+    ∷ not (b .confirmed) ∷ not (b .fingerprint) ∷ [])
 
 unfoldable pub noneNamed : Brings → Bool
 noneNamed b = all (noneButImage b ∷ not (b .image) ∷ [])
@@ -33,7 +34,8 @@ noneNamed b = all (noneButImage b ∷ not (b .image) ∷ [])
 abbrev pub NothingNamed : Type 0
 NothingNamed =
     (l m : Lengths) (own other : Index) (b : Brings) → brings l own m other ≡ Accepted b
-    → (noneNamed b ≡ true → merge l own m other ≡ Accepted own) × (merge l own m other ≡ Accepted own → noneNamed b ≡ true)
+    → (noneNamed b ≡ true → merge l own m other ≡ Accepted own)
+    × (merge l own m other ≡ Accepted own → noneNamed b ≡ true)
 
 -- and where nothing is named but the image id, the own list answers every frame as the merged one does, and is saved as the same bytes
 pub record SameAnswers (l : Lengths) (own x : Index) : Type 0 where
@@ -45,15 +47,18 @@ pub record SameAnswers (l : Lengths) (own x : Index) : Type 0 where
 
 abbrev pub OnlyImageNamed : Type 0
 OnlyImageNamed =
-    (l m : Lengths) (own other x : Index) (b : Brings) → brings l own m other ≡ Accepted b → noneButImage b ≡ true → merge l own m other ≡ Accepted x
+    (l m : Lengths) (own other x : Index) (b : Brings) → brings l own m other ≡ Accepted b → noneButImage b ≡ true
+    → merge l own m other ≡ Accepted x
     → SameAnswers l own x
 
 -- ---- the calls over lent tables: adds names b, and merge leaves the numbers z and the tables t'
 -- nothing is named exactly where the tables then hold the own list as it was
 abbrev pub NothingNamedInTables : Type 0
 NothingNamedInTables =
-    (x : AreaIndex) (t : Tables) (y : AreaIndex) (u : Tables) (b : Brings) (z : AreaIndex) (t' : Tables) → LentIn x t → LentIn y u
-    → addsIn x t y u ≡ Accepted b → mergeIn x t y u ≡ madeOut (made.Index z) t' → (noneNamed b ≡ true) ↔ (indexIn z t' ≡ indexIn x t)
+    (x : AreaIndex) (t : Tables) (y : AreaIndex) (u : Tables) (b : Brings) (z : AreaIndex) (t' : Tables) → LentIn x t
+    → LentIn y u
+    → addsIn x t y u ≡ Accepted b → mergeIn x t y u ≡ madeOut (made.Index z) t'
+    → (noneNamed b ≡ true) ↔ (indexIn z t' ≡ indexIn x t)
 
 -- the own tables answer as those after the merge do: plan and hint for every frame, the bytes of every part of the store, and the file
 pub record SameAnswersInTables (x : AreaIndex) (t : Tables) (z : AreaIndex) (t' : Tables) : Type 0 where
@@ -65,5 +70,7 @@ pub record SameAnswersInTables (x : AreaIndex) (t : Tables) (z : AreaIndex) (t' 
 -- where nothing is named but the image id, which no file holds, deleting the other list loses nothing
 abbrev pub OnlyImageNamedInTables : Type 0
 OnlyImageNamedInTables =
-    (x : AreaIndex) (t : Tables) (y : AreaIndex) (u : Tables) (b : Brings) (z : AreaIndex) (t' : Tables) → LentIn x t → LentIn y u
-    → addsIn x t y u ≡ Accepted b → mergeIn x t y u ≡ madeOut (made.Index z) t' → noneButImage b ≡ true → SameAnswersInTables x t z t'
+    (x : AreaIndex) (t : Tables) (y : AreaIndex) (u : Tables) (b : Brings) (z : AreaIndex) (t' : Tables) → LentIn x t
+    → LentIn y u
+    → addsIn x t y u ≡ Accepted b → mergeIn x t y u ≡ madeOut (made.Index z) t' → noneButImage b ≡ true
+    → SameAnswersInTables x t z t'

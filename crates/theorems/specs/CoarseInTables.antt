@@ -23,12 +23,16 @@ pub record CoarseLeft (x : AreaIndex) (t : Tables) (k : ℕ) (u : Tables) (y : A
 -- so it is after every accepted call
 abbrev pub CoarseLeaves : Type 0
 CoarseLeaves =
-    (x : AreaIndex) (t : Tables) (k : ℕ) (u : Tables) (y : AreaIndex) (u' : Tables) → LentIn x t → coarseIn x t k u ≡ madeOut (made.Index y) u'
+    (x : AreaIndex) (t : Tables) (k : ℕ) (u : Tables) (y : AreaIndex) (u' : Tables) → LentIn x t → coarseIn x t k u
+    ≡ madeOut (made.Index y) u'
     → CoarseLeft x t k u y u'
 
 -- and a list cut from one reading, whose malformed list rises, is accepted in tables that are long enough, for every multiple of its interval
 abbrev pub CoarseAccepts : Type 0
 CoarseAccepts =
-    (R : Reading) (end : ℕ) → rising ownLsn anyLsn 0 end (R .malformed) ≡ true → (x : AreaIndex) (t : Tables) (k : ℕ) (u : Tables) → Cut R (indexIn x t)
-    → kindsIn x t ≡ true → question3 (roomOf t) (indexIn x t) ≡ true → question47 k (indexIn x t) ≡ true → question3 (roomOf u) (coarser k (indexIn x t)) ≡ true
-    → coarseIn x t k u ≡ madeOut (made.Index (numbersFrom (coarser k (indexIn x t)))) (tablesFrom (coarser k (indexIn x t)) u)
+    (R : Reading) (end : ℕ) → rising ownLsn anyLsn 0 end (R .malformed) ≡ true
+    → (x : AreaIndex) (t : Tables) (k : ℕ) (u : Tables) → Cut R (indexIn x t)
+    → kindsIn x t ≡ true → question3 (roomOf t) (indexIn x t) ≡ true → question47 k (indexIn x t) ≡ true
+    → question3 (roomOf u) (coarser k (indexIn x t)) ≡ true
+    → coarseIn x t k u ≡ madeOut (made.Index (numbersFrom (coarser k (indexIn x t))))
+    (tablesFrom (coarser k (indexIn x t)) u)

@@ -20,9 +20,11 @@ use Rattle.theorems.specs.Terms.{SameRead, AllCut, afterCalls, storedIn}
 pub record Outcome (R : Reading) (p : ℕ → Place) (s : State) (i : ℕ) : Type 0 where
   -- as many checkpoints as the largest of those that went into it
   pub atLeast : (w : ℕ) → List·Memᴰ w (s .went i) → count (p w .list .scan) ≤ count (s .now i .list .scan)
-  pub largest : (w : ℕ) × List·Memᴰ w (s .went i) × Furthest p (s .went i) w × (count (s .now i .list .scan) ≡ count (p w .list .scan))
+  pub largest : (w : ℕ) × List·Memᴰ w (s .went i) × Furthest p (s .went i) w
+      × (count (s .now i .list .scan) ≡ count (p w .list .scan))
   -- what the furthest of them has read
-  pub furthest : (w : ℕ) → List·Memᴰ w (s .went i) → Furthest p (s .went i) w → SameRead (s .now i .list .scan) (p w .list .scan)
+  pub furthest : (w : ℕ) → List·Memᴰ w (s .went i) → Furthest p (s .went i) w
+      → SameRead (s .now i .list .scan) (p w .list .scan)
   -- the list is itself cut from the reading: each held part is the reading's
   pub cut : Cut R (s .now i .list)
   -- in the tables that it had at first
@@ -34,12 +36,14 @@ pub record Outcome (R : Reading) (p : ℕ → Place) (s : State) (i : ℕ) : Typ
 
 -- every place, after any calls
 abbrev pub Outcomes : Type 0
-Outcomes = (R : Reading) (p : ℕ → Place) → AllCut R p → (calls : List Call) (i : ℕ) → Outcome R p (afterCalls R p calls) i
+Outcomes = (R : Reading) (p : ℕ → Place) → AllCut R p → (calls : List Call) (i : ℕ)
+    → Outcome R p (afterCalls R p calls) i
 
 -- ---- the held parts are those that merge, the part rule and loading leave
 -- of a merge that no question refuses: y holds what own does and, of a further list's parts, those that the part rule admits; of any other list none
 pub record MergedParts (own other y : Scan) : Type 0 where
-  pub taken : further own other ≡ true → Admits (own .budget) (other .frames) (count own) (other .parts) (storedIn own) (storedIn y)
+  pub taken : further own other ≡ true → Admits (own .budget) (other .frames) (count own) (other .parts)
+      (storedIn own) (storedIn y)
   pub kept : further own other ≡ false → storedIn y ≡ storedIn own
 
 -- of a load: the first frames of x that together fit the lowered budget, and their parts
@@ -53,7 +57,8 @@ KeepsParts s s' k = storedIn (s' .now k .list .scan) ≡ storedIn (s .now k .lis
 
 -- a merge into place i from place j
 pub record MergeLeaves (s s' : State) (i j : ℕ) : Type 0 where
-  pub accepted : mergeRefusal (s .now i) (s .now j) ≡ 0 → MergedParts (s .now i .list .scan) (s .now j .list .scan) (s' .now i .list .scan)
+  pub accepted : mergeRefusal (s .now i) (s .now j) ≡ 0
+      → MergedParts (s .now i .list .scan) (s .now j .list .scan) (s' .now i .list .scan)
   pub refused : mergeRefusal (s .now i) (s .now j) ≢ 0 → KeepsParts s s' i
   pub others : (k : ℕ) → eqb k i ≡ false → KeepsParts s s' k
 
@@ -75,7 +80,8 @@ PartsLeft s (loadCall limit) s' = JustLeaves limit s s' (s .just)
 -- after any calls, whichever call comes next
 abbrev pub PartsByRule : Type 0
 PartsByRule =
-    (R : Reading) (p : ℕ → Place) → AllCut R p → (calls : List Call) (c : Call) → PartsLeft (afterCalls R p calls) c (step (R .area) c (afterCalls R p calls))
+    (R : Reading) (p : ℕ → Place) → AllCut R p → (calls : List Call) (c : Call)
+    → PartsLeft (afterCalls R p calls) c (step (R .area) c (afterCalls R p calls))
 
 -- parts for one checkpoint in the results of two runs over one reading agree byte for byte
 abbrev pub PartsAgree : Type 0

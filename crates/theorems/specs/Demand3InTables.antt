@@ -33,7 +33,8 @@ OutcomesInTables =
 abbrev pub PartsByRuleInTables : Type 0
 PartsByRuleInTables =
     (R : Reading) (p : ℕ → TablePlace) → AllCutIn R p → (calls : List TableCall) (c : TableCall)
-    → PartsLeft (stateIn (afterTableCalls R p calls)) (callOf c) (stateIn (tableStep (R .area) c (afterTableCalls R p calls)))
+    → PartsLeft (stateIn (afterTableCalls R p calls)) (callOf c)
+    (stateIn (tableStep (R .area) c (afterTableCalls R p calls)))
 
 -- a place, in whose store its bytes lie, holds the part h for checkpoint number j
 pub record HoldsPart (p : TablePlace) (j : ℕ) (h : HeldPart) : Type 0 where
@@ -54,14 +55,16 @@ pub record SamePart (p q : TablePlace) (h k : HeldPart) : Type 0 where
 -- parts that are held for one checkpoint in the results of two runs over one reading agree byte for byte
 abbrev pub PartsAgreeInTables : Type 0
 PartsAgreeInTables =
-    (R : Reading) (p q : ℕ → TablePlace) → AllCutIn R p → AllCutIn R q → (cs ds : List TableCall) (i j at : ℕ) (h k : HeldPart)
+    (R : Reading) (p q : ℕ → TablePlace) → AllCutIn R p → AllCutIn R q
+    → (cs ds : List TableCall) (i j at : ℕ) (h k : HeldPart)
     → HoldsPart (afterTableCalls R p cs .now i) at h → HoldsPart (afterTableCalls R q ds .now j) at k
     → SamePart (afterTableCalls R p cs .now i) (afterTableCalls R q ds .now j) h k
 
 -- a part that plan answers with a checkpoint, in any place, is the one held for it
 abbrev pub PlansHeldPart : Type 0
 PlansHeldPart =
-    (p : TablePlace) (t : ℕ) (r : Resume) (h : HeldPart) → planIn (p .numbers) (p .tables) t ≡ Accepted (At r) → r .assembly ≡ Stored h
+    (p : TablePlace) (t : ℕ) (r : Resume) (h : HeldPart) → planIn (p .numbers) (p .tables) t ≡ Accepted (At r)
+    → r .assembly ≡ Stored h
     → HoldsPart p (r .number) h
 
 -- ---- merges that are accepted
@@ -70,13 +73,15 @@ abbrev pub MergeAcceptedInTables : Type 0
 MergeAcceptedInTables =
     (R : Reading) (p : ℕ → TablePlace) → AllCutIn R p → (calls : List TableCall) (i j : ℕ)
     → let own = afterTableCalls R p calls .now i in let other = afterTableCalls R p calls .now j in
-    question3 (placeIn own .room) (placeIn own .list) ≡ true → question3 (placeIn other .room) (placeIn other .list) ≡ true
+    question3 (placeIn own .room) (placeIn own .list) ≡ true → question3 (placeIn other .room) (placeIn other .list)
+    ≡ true
     → question42 (placeIn own .list) (placeIn other .list) ≡ true → isAccepted (merging own other .answer) ≡ true
 
 -- where the tables of all places were long enough at first, and no two image ids or fingerprints differed, no merge is ever refused
 abbrev pub NoneRefusedInTables : Type 0
 NoneRefusedInTables =
-    (R : Reading) (p : ℕ → TablePlace) → AllCutIn R p → ((i : ℕ) → question3 (placeIn (p i) .room) (placeIn (p i) .list) ≡ true)
+    (R : Reading) (p : ℕ → TablePlace) → AllCutIn R p
+    → ((i : ℕ) → question3 (placeIn (p i) .room) (placeIn (p i) .list) ≡ true)
     → ((i j : ℕ) → question42 (placeIn (p i) .list) (placeIn (p j) .list) ≡ true) → (calls : List TableCall) (i j : ℕ)
     → isAccepted (merging (afterTableCalls R p calls .now i) (afterTableCalls R p calls .now j) .answer) ≡ true
 
@@ -92,7 +97,8 @@ pub record NotBack (x : AreaIndex) (t : Tables) (z : AreaIndex) (t' : Tables) (f
 -- no accepted merge moves a jump's start backwards, whichever frame f is sought
 abbrev pub JumpNotBackInTables : Type 0
 JumpNotBackInTables =
-    (x : AreaIndex) (t : Tables) (y : AreaIndex) (u : Tables) (z : AreaIndex) (t' : Tables) (f : ℕ) → LentIn x t → LentIn y u
+    (x : AreaIndex) (t : Tables) (y : AreaIndex) (u : Tables) (z : AreaIndex) (t' : Tables) (f : ℕ) → LentIn x t
+    → LentIn y u
     → mergeIn x t y u ≡ madeOut (made.Index z) t' → NotBack x t z t' f
 
 -- ---- demand 3

@@ -22,14 +22,17 @@ use Rattle.theorems.specs.Demand1InC.{long}
 
 -- lists that pass 1 to 4 in their tables, of different slots, whose entries fit four bytes, are saved into every output that is long enough, whichever is given first: the number is the file's length
 pub record DiscSaveAcceptsInC : Type 0 where
-  pub both : (head other : List ℕ) (t u : Tables) (old : List ℕ) → isIndex head ≡ true → isIndex other ≡ true → ValidIn (headIndex head) t → ValidIn (headIndex other) u
+  pub both : (head other : List ℕ) (t u : Tables) (old : List ℕ) → isIndex head ≡ true → isIndex other ≡ true
+      → ValidIn (headIndex head) t → ValidIn (headIndex other) u
       → headIndex head .area .key .slot ≡ 0 → headIndex other .area .key .slot ≡ 1
       → let i = indexIn (headIndex head) t in let j = indexIn (headIndex other) u in let b = discBytes (i ∷ j ∷ []) in
       28 + length (saved i) ≤ max32 → length (saved j) ≤ max32 → 28 + length (saved i) + length (saved j) ≤ length old
-      → (discSaveBothCall head other t u old ≡ called (length b) (over b old)) × (discSaveBothCall other head u t old ≡ called (length b) (over b old))
+      → (discSaveBothCall head other t u old ≡ called (length b) (over b old))
+      × (discSaveBothCall other head u t old ≡ called (length b) (over b old))
   pub one : (head : List ℕ) (t : Tables) (old : List ℕ) → isIndex head ≡ true → ValidIn (headIndex head) t
       → let i = indexIn (headIndex head) t in let b = discBytes (i ∷ []) in
-      length (saved i) ≤ max32 → 16 + length (saved i) ≤ length old → discSaveCall head t old ≡ called (length b) (over b old)
+      length (saved i) ≤ max32 → 16 + length (saved i) ≤ length old → discSaveCall head t old
+      ≡ called (length b) (over b old)
 
 -- a load answered 0 and 1, 1, and the heads and tables of both slots then hold these lists
 pub record HoldsBothInC (answer : List ℕ) (o : CalledDisc) (x y : Index) : Type 0 where
@@ -56,13 +59,19 @@ pub record HoldsSecondInC (answer head : List ℕ) (t : Tables) (o : CalledDisc)
 
 -- a disc file whose table is right and whose bodies load is loaded, all lists
 pub record DiscLoadAcceptsInC : Type 0 where
-  pub both : (head other answer : List ℕ) (a0 a1 : Area) (b : List ℕ) (limit : ℕ) (t u : Tables) (c d : List ℕ) (x y : Index) → long (head ∷ other ∷ answer ∷ []) ≡ true
+  pub both : (head other answer : List ℕ) (a0 a1 : Area) (b : List ℕ) (limit : ℕ) (t u : Tables) (c d : List ℕ)
+      (x y : Index) → long (head ∷ other ∷ answer ∷ []) ≡ true
       → Bytes b → slotArea 0 a0 ≡ true → slotArea 1 a1 ≡ true → contentsOk b ≡ true
-      → bodyIn b 0 ≡ some c → load (roomOf t) a0 c limit ≡ Accepted x → bodyIn b 1 ≡ some d → load (roomOf u) a1 d limit ≡ Accepted y
+      → bodyIn b 0 ≡ some c → load (roomOf t) a0 c limit ≡ Accepted x → bodyIn b 1 ≡ some d
+      → load (roomOf u) a1 d limit ≡ Accepted y
       → HoldsBothInC answer (discLoadCall head other a0 a1 b limit answer t u) x y
-  pub first : (head other answer : List ℕ) (a0 a1 : Area) (b : List ℕ) (limit : ℕ) (t u : Tables) (c : List ℕ) (x : Index) → long (head ∷ other ∷ answer ∷ []) ≡ true
+  pub first : (head other answer : List ℕ) (a0 a1 : Area) (b : List ℕ) (limit : ℕ) (t u : Tables) (c : List ℕ)
+      (x : Index) → long (head ∷ other ∷ answer ∷ []) ≡ true
       → Bytes b → slotArea 0 a0 ≡ true → slotArea 1 a1 ≡ true → contentsOk b ≡ true
-      → bodyIn b 0 ≡ some c → load (roomOf t) a0 c limit ≡ Accepted x → bodyIn b 1 ≡ none → HoldsFirstInC answer other u (discLoadCall head other a0 a1 b limit answer t u) x
-  pub second : (head other answer : List ℕ) (a0 a1 : Area) (b : List ℕ) (limit : ℕ) (t u : Tables) (d : List ℕ) (y : Index) → long (head ∷ other ∷ answer ∷ []) ≡ true
+      → bodyIn b 0 ≡ some c → load (roomOf t) a0 c limit ≡ Accepted x → bodyIn b 1 ≡ none
+      → HoldsFirstInC answer other u (discLoadCall head other a0 a1 b limit answer t u) x
+  pub second : (head other answer : List ℕ) (a0 a1 : Area) (b : List ℕ) (limit : ℕ) (t u : Tables) (d : List ℕ)
+      (y : Index) → long (head ∷ other ∷ answer ∷ []) ≡ true
       → Bytes b → slotArea 0 a0 ≡ true → slotArea 1 a1 ≡ true → contentsOk b ≡ true
-      → bodyIn b 0 ≡ none → bodyIn b 1 ≡ some d → load (roomOf u) a1 d limit ≡ Accepted y → HoldsSecondInC answer head t (discLoadCall head other a0 a1 b limit answer t u) y
+      → bodyIn b 0 ≡ none → bodyIn b 1 ≡ some d → load (roomOf u) a1 d limit ≡ Accepted y
+      → HoldsSecondInC answer head t (discLoadCall head other a0 a1 b limit answer t u) y

@@ -25,11 +25,13 @@ DiscTold s n = (s ≡ saved.Refused n → (1 ≤ n) × (n ≤ 54)) × (s ≡ sav
 
 pub record DiscSaveNumber : Type 0 where
   pub one : (x : AreaIndex) (t : Tables) (out : List ℕ) (n : ℕ) → DiscTold (saveOneIn x t out .answer) n
-  pub both : (x : AreaIndex) (t : Tables) (y : AreaIndex) (u : Tables) (out : List ℕ) (n : ℕ) → DiscTold (saveBothIn x t y u out .answer) n
+  pub both : (x : AreaIndex) (t : Tables) (y : AreaIndex) (u : Tables) (out : List ℕ) (n : ℕ)
+      → DiscTold (saveBothIn x t y u out .answer) n
 
 -- in an output that is at least as long as the number told, saving answers that number: the length, or the refusal
 pub record DiscLengthTold : Type 0 where
-  pub one : (x : AreaIndex) (t : Tables) (out : List ℕ) → oneLength x t ≤ length out → savedNumber (saveOneIn x t out .answer) ≡ oneLength x t
+  pub one : (x : AreaIndex) (t : Tables) (out : List ℕ) → oneLength x t ≤ length out
+      → savedNumber (saveOneIn x t out .answer) ≡ oneLength x t
   pub both : (x : AreaIndex) (t : Tables) (y : AreaIndex) (u : Tables) (out : List ℕ) → bothLength x t y u ≤ length out
       → savedNumber (saveBothIn x t y u out .answer) ≡ bothLength x t y u
 
@@ -46,9 +48,11 @@ pub record LoadsInTables (a0 a1 : Area) (b : List ℕ) (limit : ℕ) (t u : Tabl
 
 pub record DiscSizesTold : Type 0 where
   -- in tables of at least the sizes told, loading never answers 3, nor any other number
-  pub fits : (a0 a1 : Area) (b : List ℕ) (limit : ℕ) (t u : Tables) (d : DiscSizes) → discSizes a0 a1 b limit ≡ Accepted d
+  pub fits : (a0 a1 : Area) (b : List ℕ) (limit : ℕ) (t u : Tables) (d : DiscSizes) → discSizes a0 a1 b limit
+      ≡ Accepted d
       → hasSlot (d .slot0) t ≡ true → hasSlot (d .slot1) u ≡ true → LoadsInTables a0 a1 b limit t u
   -- where no sizes are told, loading refuses with the same number, if the tables of slot 0 have the sizes of its body
   pub refused : (a0 a1 : Area) (b : List ℕ) (limit n : ℕ) (t u : Tables) → discSizes a0 a1 b limit ≡ Refused n
-      → ((s : Option TableSizes) → bodySizes a0 limit (bodyAt b (entryOf 0 (entriesIn b))) ≡ Accepted s → hasSlot s t ≡ true)
+      → ((s : Option TableSizes) → bodySizes a0 limit (bodyAt b (entryOf 0 (entriesIn b))) ≡ Accepted s → hasSlot s t
+      ≡ true)
       → loadDisc (roomOf t) (roomOf u) a0 a1 b limit ≡ Refused n

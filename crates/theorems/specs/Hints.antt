@@ -68,15 +68,23 @@ ThinAmong = (most : ℕ) (hs : List Hint) (h : Hint) → Among (thin most hs) h 
 -- thinning passes over kept hints, where at most as many are kept as are to be left
 abbrev pub ThinPasses : Type 0
 ThinPasses =
-    (most : ℕ) (hs : List Hint) (h : Hint) → each hintOk hs ≡ true → keptCount hs ≤ most → isKept h ≡ true → Among hs h → Among (thin most hs) h
+    (most : ℕ) (hs : List Hint) (h : Hint) → each hintOk hs ≡ true → keptCount hs ≤ most → isKept h ≡ true
+    → Among hs h → Among (thin most hs) h
 
 -- after an accepted add_hints or merge the kept LSNs are those of before, and after keep_hint the given one too
 pub record MarksStay : Type 0 where
-  pub added : (l : Lengths) (x y : Index) (list : List Hint) → unkept list ≡ list → addHints l x list ≡ Accepted y → keptLsns (y .hinting .hints) ≡ keptLsns (x .hinting .hints)
-  pub merged : (l m : Lengths) (own other y : Index) → merge l own m other ≡ Accepted y → keptLsns (y .hinting .hints) ≡ keptLsns (own .hinting .hints)
+  pub added : (l : Lengths) (x y : Index) (list : List Hint) → unkept list ≡ list → addHints l x list ≡ Accepted y
+      → keptLsns (y .hinting .hints) ≡ keptLsns (x .hinting .hints)
+  pub merged : (l m : Lengths) (own other y : Index) → merge l own m other ≡ Accepted y
+      → keptLsns (y .hinting .hints) ≡ keptLsns (own .hinting .hints)
   -- keep_hint marks the hint of that LSN, and no other; LSNs and numbers stay
-  pub marked : (l : Lengths) (x y : Index) (lsn : ℕ) → keepHint l x lsn ≡ Accepted y → One (λ h. (h .lsn ≡ lsn) × (isKept h ≡ true)) (y .hinting .hints)
-  pub others : (l : Lengths) (x y : Index) (lsn i : ℕ) → keepHint l x lsn ≡ Accepted y → (getD (x .hinting .hints) i noHint .lsn ≡ lsn → ⊥) → getD (y .hinting .hints) i noHint ≡ getD (x .hinting .hints) i noHint
-  pub same : (l : Lengths) (x y : Index) (lsn : ℕ) → keepHint l x lsn ≡ Accepted y → unkept (y .hinting .hints) ≡ unkept (x .hinting .hints)
+  pub marked : (l : Lengths) (x y : Index) (lsn : ℕ) → keepHint l x lsn ≡ Accepted y
+      → One (λ h. (h .lsn ≡ lsn) × (isKept h ≡ true)) (y .hinting .hints)
+  pub others : (l : Lengths) (x y : Index) (lsn i : ℕ) → keepHint l x lsn ≡ Accepted y
+      → (getD (x .hinting .hints) i noHint .lsn ≡ lsn → ⊥) → getD (y .hinting .hints) i noHint
+      ≡ getD (x .hinting .hints) i noHint
+  pub same : (l : Lengths) (x y : Index) (lsn : ℕ) → keepHint l x lsn ≡ Accepted y → unkept (y .hinting .hints)
+      ≡ unkept (x .hinting .hints)
   -- marking a kept hint again changes nothing
-  pub again : (l : Lengths) (x y : Index) (lsn : ℕ) → keepHint l x lsn ≡ Accepted y → One (λ h. (h .lsn ≡ lsn) × (isKept h ≡ true)) (x .hinting .hints) → y ≡ x
+  pub again : (l : Lengths) (x y : Index) (lsn : ℕ) → keepHint l x lsn ≡ Accepted y
+      → One (λ h. (h .lsn ≡ lsn) × (isKept h ≡ true)) (x .hinting .hints) → y ≡ x

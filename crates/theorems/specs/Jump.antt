@@ -8,4 +8,5 @@ use Rattle.rules.specs.Plan.{jump}
 
 -- no accepted merge moves a jump's start backwards, whichever frame t is sought
 abbrev pub JumpNotBack : Type 0
-JumpNotBack = (l m : Lengths) (own other y : Index) (t : ℕ) → merge l own m other ≡ Accepted y → jump (own .scan) t ≤ jump (y .scan) t
+JumpNotBack = (l m : Lengths) (own other y : Index) (t : ℕ) → merge l own m other ≡ Accepted y
+    → jump (own .scan) t ≤ jump (y .scan) t

@@ -46,7 +46,8 @@ pub record SamePart (fs : List Frame) (k : HeldPart) (gs : List Frame) (h : Held
   pub kind : k .kind ≡ h .kind
   pub number : k .number ≡ h .number
   pub remaining : k .remaining ≡ h .remaining
-  pub bytes : (u v : List ℕ) → bytesAt (storeOf fs ++ u) (k .offset) (k .len) ≡ bytesAt (storeOf gs ++ v) (h .offset) (h .len)
+  pub bytes : (u v : List ℕ) → bytesAt (storeOf fs ++ u) (k .offset) (k .len)
+      ≡ bytesAt (storeOf gs ++ v) (h .offset) (h .len)
 
 -- the own list does all that the other does
 pub record Serves (own other : Index) : Type 0 where
@@ -59,18 +60,21 @@ pub record Serves (own other : Index) : Type 0 where
   -- for each checkpoint that the other has a part for, it has one with the same bytes, number, kind and remaining
   pub parts : (j : ℕ) (c : Content) → Holds (storedIn (other .scan)) j c → Holds (storedIn (own .scan)) j c
   -- and where both plan one checkpoint and the other names a part, it names the same, byte for byte
-  pub plans : (t : ℕ) (r s : Resume) (h : HeldPart) → planned (other .scan) t ≡ At r → planned (own .scan) t ≡ At s → s .number ≡ r .number → r .assembly ≡ Stored h
+  pub plans : (t : ℕ) (r s : Resume) (h : HeldPart) → planned (other .scan) t ≡ At r → planned (own .scan) t ≡ At s
+      → s .number ≡ r .number → r .assembly ≡ Stored h
       → (k : HeldPart) × (s .assembly ≡ Stored k) × SamePart (own .scan .frames) k (other .scan .frames) h
   -- every hint is one of its own, kept or not, and every confirmation, or a better one
   pub hints : (h : Hint) → Among (other .hinting .hints) h → Stands (own .hinting .hints) h
-  pub confirmed : (i : ℕ) → i < length (other .hinting .confirmed) → Confirms (own .hinting .confirmed) (getD (other .hinting .confirmed) i noConfirmation)
+  pub confirmed : (i : ℕ) → i < length (other .hinting .confirmed)
+      → Confirms (own .hinting .confirmed) (getD (other .hinting .confirmed) i noConfirmation)
   -- it states the other's fingerprint
   pub fingerprint : (v : ℕ) → stated (other .fingerprint) ≡ some v → stated (own .fingerprint) ≡ some v
 
 -- where nothing is lacking but image id and room
 abbrev pub NothingLacking : Type 0
 NothingLacking =
-    (l m : Lengths) (own other : Index) (x : Lacks) → lacks l own m other ≡ Accepted x → holdsAll x ≡ true → Serves own other
+    (l m : Lengths) (own other : Index) (x : Lacks) → lacks l own m other ≡ Accepted x → holdsAll x ≡ true
+    → Serves own other
 
 -- every list holds all that it holds itself
 abbrev pub LacksSelf : Type 0
@@ -79,7 +83,8 @@ LacksSelf = (x : Index) → holdsAll (lacking x x) ≡ true
 -- all lists below a kept one may go at once; image ids, which no file holds, must not differ
 abbrev pub LacksTrans : Type 0
 LacksTrans =
-    (l m n : Lengths) (a b c : Index) (x y : Lacks) → lacks l a m b ≡ Accepted x → holdsAll x ≡ true → lacks m b n c ≡ Accepted y → holdsAll y ≡ true
+    (l m n : Lengths) (a b c : Index) (x y : Lacks) → lacks l a m b ≡ Accepted x → holdsAll x ≡ true → lacks m b n c
+    ≡ Accepted y → holdsAll y ≡ true
     → agree eqb (a .image) (c .image) ≡ true
     → (z : Lacks) × (lacks l a n c ≡ Accepted z) × (holdsAll z ≡ true)
 
@@ -87,12 +92,18 @@ LacksTrans =
 abbrev pub LacksAdds : Type 0
 LacksAdds =
     (l m : Lengths) (own other : Index) (x : Lacks) → lacks l own m other ≡ Accepted x → holdsAll x ≡ true
-    → merge l own m other ≡ Accepted (record { scan = own .scan; hinting = own .hinting; fingerprint = own .fingerprint; image = orElse (own .image) (other .image) })
+    → merge l own m other ≡ Accepted (record {
+      scan = own .scan;
+      hinting = own .hinting;
+      fingerprint = own .fingerprint;
+      image = orElse (own .image) (other .image);
+    })
 
 -- and adds names nothing but the image id
 abbrev pub LacksBrings : Type 0
 LacksBrings =
-    (l m : Lengths) (own other : Index) (x : Lacks) (b : Brings) → lacks l own m other ≡ Accepted x → holdsAll x ≡ true → brings l own m other ≡ Accepted b
+    (l m : Lengths) (own other : Index) (x : Lacks) (b : Brings) → lacks l own m other ≡ Accepted x → holdsAll x
+    ≡ true → brings l own m other ≡ Accepted b
     → noneButImage b ≡ true
 
 -- a count is 0 exactly where for each thing of the other list one of the own stands for it
@@ -116,7 +127,8 @@ pub record HintServes (own other : Index) (first : ℕ) (a b : Hinted) : Type 0 
 -- where nothing is lacking but image id and room, and the own fingerprint is checked if the other's is
 abbrev pub LacksHint : Type 0
 LacksHint =
-    (l m : Lengths) (own other : Index) (x : Lacks) → lacks l own m other ≡ Accepted x → holdsAll x ≡ true → (isChecked (other .fingerprint) ≡ true → isChecked (own .fingerprint) ≡ true)
+    (l m : Lengths) (own other : Index) (x : Lacks) → lacks l own m other ≡ Accepted x → holdsAll x ≡ true
+    → (isChecked (other .fingerprint) ≡ true → isChecked (own .fingerprint) ≡ true)
     → (first end playtime : ℕ) (b : Hinted) → hint m other first end playtime ≡ Accepted (some b)
     → (a : Hinted) × (hint l own first end playtime ≡ Accepted (some a)) × HintServes own other first a b
 
@@ -144,7 +156,8 @@ MergeLacks = (l m : Lengths) (own other y : Index) → merge l own m other ≡ A
 -- of two lists cut from one reading, whose malformed LSNs rise, it lacks no malformed LSN
 abbrev pub MergeMalformed : Type 0
 MergeMalformed =
-    (R : Reading) (l m : Lengths) (own other y : Index) → Rises ownLsn 0 (R .malformed) → Cut R own → Cut R other → merge l own m other ≡ Accepted y
+    (R : Reading) (l m : Lengths) (own other y : Index) → Rises ownLsn 0 (R .malformed) → Cut R own → Cut R other
+    → merge l own m other ≡ Accepted y
     → (lacking y own .malformed ≡ 0) × (lacking y other .malformed ≡ 0)
 
 -- ---- and which of them
@@ -172,29 +185,35 @@ pub record OtherDigest (cs : List Confirmation) (d : Confirmation) : Type 0 wher
 -- is the part q of the other list, which comes after xs, admitted by the part rule?
 abbrev pub admitted : Index → Index → List Held → Held → Bool
 admitted own other xs q =
-    stores (own .scan .budget) (addParts (own .scan .budget) (other .scan .frames) (count (own .scan)) xs (storedIn (own .scan))) (piece (other .scan .frames) q)
+    stores (own .scan .budget) (addParts (own .scan .budget) (other .scan .frames) (count (own .scan)) xs
+    (storedIn (own .scan))) (piece (other .scan .frames) q)
 
 pub record MergeLeaves (own other y : Index) : Type 0 where
   -- of the own list: hints whose LSN the other has with another number, or that are thinned; confirmations of which the other list has another digest, or
   -- that are pushed out
   pub hints :
       (h : Hint) → Among (own .hinting .hints) h
-      → Among (y .hinting .hints) h ⊎ (One (λ x. (x .lsn ≡ h .lsn) × (x .number ≡ h .number → ⊥)) (other .hinting .hints) ⊎ Thinned own other y)
+      → Among (y .hinting .hints) h ⊎ (One (λ x. (x .lsn ≡ h .lsn) × (x .number ≡ h .number → ⊥))
+      (other .hinting .hints) ⊎ Thinned own other y)
   pub confirmed :
       (i : ℕ) → i < length (own .hinting .confirmed)
       → Confirms (y .hinting .confirmed) (getD (own .hinting .confirmed) i noConfirmation)
-      ⊎ (OtherDigest (other .hinting .confirmed) (getD (own .hinting .confirmed) i noConfirmation) ⊎ PushedOut own y (getD (own .hinting .confirmed) i noConfirmation .lsn))
+      ⊎ (OtherDigest (other .hinting .confirmed) (getD (own .hinting .confirmed) i noConfirmation) ⊎ PushedOut own y
+      (getD (own .hinting .confirmed) i noConfirmation .lsn))
   -- of the other: parts for checkpoints that the own list has, or that the part rule does not admit
   pub parts' :
       (xs ys : List Held) (q : Held) → other .scan .parts ≡ xs ++ (q ∷ ys)
-      → Holds (storedIn (y .scan)) (q .at) (contentOf (other .scan .frames) q) ⊎ ((q .at < count (own .scan)) ⊎ (admitted own other xs q ≡ false))
+      → Holds (storedIn (y .scan)) (q .at) (contentOf (other .scan .frames) q) ⊎
+      ((q .at < count (own .scan)) ⊎ (admitted own other xs q ≡ false))
   -- hints where M is 0, or that are thinned; their marks are not taken
-  pub hints' : (h : Hint) → Among (other .hinting .hints) h → Stands (y .hinting .hints) h ⊎ ((own .hinting .most ≡ 0) ⊎ Thinned own other y)
+  pub hints' : (h : Hint) → Among (other .hinting .hints) h
+      → Stands (y .hinting .hints) h ⊎ ((own .hinting .most ≡ 0) ⊎ Thinned own other y)
   -- confirmations, all of them where the own fingerprint is unchecked or M is 0, else those that are pushed out
   pub confirmed' :
       (i : ℕ) → i < length (other .hinting .confirmed)
       → Confirms (y .hinting .confirmed) (getD (other .hinting .confirmed) i noConfirmation)
-      ⊎ ((keepsNothing (isChecked (own .fingerprint)) (own .hinting .most) ≡ true) ⊎ PushedOut own y (getD (other .hinting .confirmed) i noConfirmation .lsn))
+      ⊎ ((keepsNothing (isChecked (own .fingerprint)) (own .hinting .most) ≡ true) ⊎ PushedOut own y
+      (getD (other .hinting .confirmed) i noConfirmation .lsn))
 
 abbrev pub MergeLeft : Type 0
 MergeLeft = (l m : Lengths) (own other y : Index) → merge l own m other ≡ Accepted y → MergeLeaves own other y

@@ -22,15 +22,18 @@ pub record Told (head other b : List ℕ) (t u : Tables) : Type 0 where
 
 -- an answer of 0 is no refusal, and tells what is lacking
 abbrev pub LacksTold : Type 0
-LacksTold = (head other answer b : List ℕ) (t u : Tables) → lacksCall head other answer t u ≡ called 0 b → Told head other b t u
+LacksTold = (head other answer b : List ℕ) (t u : Tables) → lacksCall head other answer t u ≡ called 0 b
+    → Told head other b t u
 
 -- seek_lacks_nothing: the first seven words are 0
 unfoldable pub lacksNothing : List ℕ → Bool
 lacksNothing ws =
-    all (eqb (getD ws 0 0) 0 ∷ eqb (getD ws 1 0) 0 ∷ eqb (getD ws 2 0) 0 ∷ eqb (getD ws 3 0) 0 ∷ eqb (getD ws 4 0) 0 ∷ eqb (getD ws 5 0) 0 ∷ eqb (getD ws 6 0) 0 ∷ [])
+    all (eqb (getD ws 0 0) 0 ∷ eqb (getD ws 1 0) 0 ∷ eqb (getD ws 2 0) 0 ∷ eqb (getD ws 3 0) 0 ∷ eqb (getD ws 4 0) 0
+    ∷ eqb (getD ws 5 0) 0 ∷ eqb (getD ws 6 0) 0 ∷ [])
 
 -- then the own list does all that the other does
 abbrev pub NothingLackingInC : Type 0
 NothingLackingInC =
-    (head other answer b : List ℕ) (t u : Tables) → lacksCall head other answer t u ≡ called 0 b → lacksNothing (wordsIn 24 b) ≡ true
+    (head other answer b : List ℕ) (t u : Tables) → lacksCall head other answer t u ≡ called 0 b
+    → lacksNothing (wordsIn 24 b) ≡ true
     → ServesIn (headIndex head) t (headIndex other) u

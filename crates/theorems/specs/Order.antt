@@ -36,14 +36,17 @@ pub record Together (p : ℕ → Place) (a : Area) (k most : ℕ) : Type 0 where
   -- checkpoints and end states agree
   pub agreeing : (i j : ℕ) → question43 (p i .list) (p j .list) ≡ true
   -- all without a fingerprint, or all with the same one, checked
-  pub fingerprint : ((i : ℕ) → p i .list .fingerprint ≡ Unknown) ⊎ ((v : ℕ) × ((i : ℕ) → p i .list .fingerprint ≡ Checked v))
+  pub fingerprint : ((i : ℕ) → p i .list .fingerprint ≡ Unknown) ⊎
+      ((v : ℕ) × ((i : ℕ) → p i .list .fingerprint ≡ Checked v))
   -- no differing image ids
   pub images : (i j : ℕ) → agree eqb (p i .list .image) (p j .list .image) ≡ true
   -- no LSN under two frame numbers or two digests
   pub numbers :
-      (i j : ℕ) (h g : Hint) → List·Memᴰ h (hintsAt (p i)) → List·Memᴰ g (hintsAt (p j)) → h .lsn ≡ g .lsn → h .number ≡ g .number
+      (i j : ℕ) (h g : Hint) → List·Memᴰ h (hintsAt (p i)) → List·Memᴰ g (hintsAt (p j)) → h .lsn ≡ g .lsn
+      → h .number ≡ g .number
   pub digests :
-      (i j : ℕ) (c d : Confirmation) → List·Memᴰ c (confirmedAt (p i)) → List·Memᴰ d (confirmedAt (p j)) → c .lsn ≡ d .lsn → c .digest ≡ d .digest
+      (i j : ℕ) (c d : Confirmation) → List·Memᴰ c (confirmedAt (p i)) → List·Memᴰ d (confirmedAt (p j)) → c .lsn
+      ≡ d .lsn → c .digest ≡ d .digest
   -- all hints together, and all confirmed LSNs together, are within the limit: a list of at most so many numbers has their LSNs
   pub hintLsns : List ℕ
   pub hintsFit : length hintLsns ≤ most
@@ -69,20 +72,23 @@ pub record Lowest (p : ℕ → Place) (ws : List ℕ) (c : Confirmation) : Type 
   pub list : ℕ
   pub went : List·Memᴰ list ws
   pub is : List·Memᴰ c (confirmedAt (p list))
-  pub lowest : (w : ℕ) (d : Confirmation) → List·Memᴰ w ws → List·Memᴰ d (confirmedAt (p w)) → d .lsn ≡ c .lsn → c .threshold ≤ d .threshold
+  pub lowest : (w : ℕ) (d : Confirmation) → List·Memᴰ w ws → List·Memᴰ d (confirmedAt (p w)) → d .lsn ≡ c .lsn
+      → c .threshold ≤ d .threshold
 
 -- what place i holds in a state s
 pub record Gathered (p : ℕ → Place) (s : State) (i : ℕ) : Type 0 where
   -- no merge into it is refused
   pub accepted : (j : ℕ) → mergeRefusal (s .now i) (s .now j) ≡ 0
   -- exactly the hints of all lists that went into it
-  pub hints : (h : Hint) → List·Memᴰ h (hintsAt (s .now i)) ↔ ((w : ℕ) × List·Memᴰ w (s .went i) × List·Memᴰ h (hintsAt (p w)))
+  pub hints : (h : Hint) → List·Memᴰ h (hintsAt (s .now i)) ↔
+      ((w : ℕ) × List·Memᴰ w (s .went i) × List·Memᴰ h (hintsAt (p w)))
   -- exactly their confirmed LSNs, each with its digest and lowest threshold
   pub confirmed : (c : Confirmation) → List·Memᴰ c (confirmedAt (s .now i)) ↔ Lowest p (s .went i) c
 
 abbrev pub HintsGathered : Type 0
 HintsGathered =
-    (p : ℕ → Place) (a : Area) (k most : ℕ) → Together p a k most → (ms : List Merge) (i : ℕ) → Gathered p (afterMerges a p ms) i
+    (p : ℕ → Place) (a : Area) (k most : ℕ) → Together p a k most → (ms : List Merge) (i : ℕ)
+    → Gathered p (afterMerges a p ms) i
 
 -- two places into which the same lists went, in any two sequences of merges, hold the same hints and confirmations
 abbrev pub SameLists : List ℕ → List ℕ → Type 0

@@ -22,5 +22,6 @@ pub record LentPlace (p : TablePlace) : Type 0 where
 
 abbrev pub HintsGatheredInTables : Type 0
 HintsGatheredInTables =
-    (p : ℕ → TablePlace) (a : Area) (k most : ℕ) → ((i : ℕ) → LentPlace (p i)) → Together (λ i. placeIn (p i)) a k most → (ms : List Merge) (i : ℕ)
+    (p : ℕ → TablePlace) (a : Area) (k most : ℕ) → ((i : ℕ) → LentPlace (p i))
+    → Together (λ i. placeIn (p i)) a k most → (ms : List Merge) (i : ℕ)
     → Gathered (λ n. placeIn (p n)) (stateIn (afterTableMerges a p ms)) i

@@ -35,7 +35,8 @@ SaveNumber = (x : AreaIndex) (t : Tables) (out : List ℕ) (n : ℕ) → Told (s
 
 -- the length that is told before saving is the number that saving answers, where the output is that long
 abbrev pub LengthIsSaved : Type 0
-LengthIsSaved = (x : AreaIndex) (t : Tables) (out : List ℕ) → fileLength x t ≤ length out → savedNumber (saveIn x t out .answer) ≡ fileLength x t
+LengthIsSaved = (x : AreaIndex) (t : Tables) (out : List ℕ) → fileLength x t ≤ length out
+    → savedNumber (saveIn x t out .answer) ≡ fileLength x t
 
 -- ---- the tables of a list
 -- question 3 passes exactly where every table has at least the sizes
@@ -44,24 +45,28 @@ RoomIsSizes = (x : Index) (t : Tables) → question3 (roomOf t) x ≡ hasSizes (
 
 -- loading without question 3
 unfoldable pub loadWithout3 : Area → List ℕ → ℕ → Answer Index
-loadWithout3 a b limit = after (firstNo (ask (areaOk a) 1 ∷ [])) (bind (fromBytes a b) (λ x. Accepted (limited limit x)))
+loadWithout3 a b limit = after (firstNo (ask (areaOk a) 1 ∷ []))
+    (bind (fromBytes a b) (λ x. Accepted (limited limit x)))
 
 -- in tables of the sizes of a file, loading it never answers 3
 abbrev pub LoadFits : Type 0
 LoadFits =
-    (a : Area) (b : List ℕ) (limit : ℕ) (t : Tables) (s : TableSizes) → fileSizes a b limit ≡ Accepted s → hasSizes s t ≡ true
+    (a : Area) (b : List ℕ) (limit : ℕ) (t : Tables) (s : TableSizes) → fileSizes a b limit ≡ Accepted s
+    → hasSizes s t ≡ true
     → load (roomOf t) a b limit ≡ loadWithout3 a b limit
 
 -- where no sizes are told, loading refuses with the same number, whatever the tables
 abbrev pub LoadRefused : Type 0
 LoadRefused =
-    (a : Area) (b : List ℕ) (limit n : ℕ) (t : Tables) → fileSizes a b limit ≡ Refused n → load (roomOf t) a b limit ≡ Refused n
+    (a : Area) (b : List ℕ) (limit n : ℕ) (t : Tables) → fileSizes a b limit ≡ Refused n → load (roomOf t) a b limit
+    ≡ Refused n
 
 -- ---- recorders
 -- has each of the four tables at least the bytes that a list's has?
 unfoldable pub hasFour : TableSizes → RecorderTables → Bool
 hasFour s t =
-    all (leb (s .checkpoints) (length (t .checkpoints)) ∷ leb (s .frames) (length (t .frames)) ∷ leb (s .store) (length (t .store))
+    all (leb (s .checkpoints) (length (t .checkpoints)) ∷ leb (s .frames) (length (t .frames))
+    ∷ leb (s .store) (length (t .store))
     ∷ leb (s .parts) (length (t .parts)) ∷ [])
 
 -- question 3 of a recorder passes exactly where its tables have the sizes of a list's, whatever M
@@ -86,4 +91,5 @@ pub record FileAreaIsLoadings : Type 0 where
   -- the area that it gives is one that 26 accepts
   pub accepted : (b : List ℕ) (a : Area) → fileArea b ≡ Accepted a → fromBytes a b ≢ Refused 26
   -- every area under which the file loads has its key
-  pub loads : (a : Area) (b : List ℕ) (x : Index) → fromBytes a b ≡ Accepted x → (c : Area) × (fileArea b ≡ Accepted c) × (sameKey (c .key) (a .key) ≡ true)
+  pub loads : (a : Area) (b : List ℕ) (x : Index) → fromBytes a b ≡ Accepted x → (c : Area)
+      × (fileArea b ≡ Accepted c) × (sameKey (c .key) (a .key) ≡ true)

@@ -16,6 +16,7 @@ use Rattle.theorems.specs.Terms.{Ample}
 -- "4 do they hold what loading would accept": a list whose kept marks are within the quarter passes 4 exactly when its saved bytes load as the same list
 abbrev pub Question4IsLoading : Type 0
 Question4IsLoading =
-    (l : Lengths) (limit : ℕ) (x : Index) → question1 x ≡ true → question2 x ≡ true → question3 l x ≡ true → sized x ≡ true → Ample limit x
+    (l : Lengths) (limit : ℕ) (x : Index) → question1 x ≡ true → question2 x ≡ true → question3 l x ≡ true → sized x
+    ≡ true → Ample limit x
     → marksOk (x .hinting .most) (x .hinting .hints) ≡ true
     → (question4 x ≡ true) ↔ (load l (x .scan .area) (saved x) limit ≡ Accepted (stripped x))

@@ -30,8 +30,10 @@ pub record HoldsList (o : MadeOut) (x : Index) : Type 0 where
 -- a saved list loads as itself, image id and checked mark apart: k bytes of out are the file, the limit is large enough, and t' has room
 abbrev pub SavedLoadsIn : Type 0
 SavedLoadsIn =
-    (x : AreaIndex) (t : Tables) (old : List ℕ) (k : ℕ) (new : List ℕ) (limit : ℕ) (t' : Tables) → Typed x → TableBytes t
-    → saveIn x t old ≡ saving.made (Length k) new → x .budget ≤ limit → 16 * x .most ≤ limit → question3 (roomOf t') (indexIn x t) ≡ true
+    (x : AreaIndex) (t : Tables) (old : List ℕ) (k : ℕ) (new : List ℕ) (limit : ℕ) (t' : Tables) → Typed x
+    → TableBytes t
+    → saveIn x t old ≡ saving.made (Length k) new → x .budget ≤ limit → 16 * x .most ≤ limit
+    → question3 (roomOf t') (indexIn x t) ≡ true
     → HoldsList (loadIn (x .area) (take k new) limit t') (stripped (indexIn x t))
 
 -- an accepted file b saves as its own bytes: the limit is large enough for the file's list x, and the output is as long as the file
@@ -39,4 +41,5 @@ abbrev pub LoadedSavesIn : Type 0
 LoadedSavesIn =
     (a : Area) (b : List ℕ) (limit : ℕ) (t : Tables) (x : Index) (y : AreaIndex) (t' : Tables) (old : List ℕ) → Bytes b
     → fromBytes a b ≡ Accepted x → x .scan .budget ≤ limit → 16 * x .hinting .most ≤ limit
-    → loadIn a b limit t ≡ madeOut (made.Index y) t' → length b ≤ length old → saveIn y t' old ≡ saving.made (Length (length b)) (over b old)
+    → loadIn a b limit t ≡ madeOut (made.Index y) t' → length b ≤ length old → saveIn y t' old
+    ≡ saving.made (Length (length b)) (over b old)

@@ -42,8 +42,10 @@ abbrev pub ValidAfter : List ShelfRecord → After → Type 0
 ValidAfter t y = (shelfOk (y .shelf) (presentRecords (y .shelf) (y .table)) ≡ true) × (length (y .table) ≡ length t)
 
 pub record ShelfValid : Type 0 where
-  pub entered : (x : Shelf) (t : List ShelfRecord) (a : Area) (len : ℕ) (y : After) → enter x t a len ≡ Accepted y → ValidAfter t y
-  pub jumped : (x : Shelf) (t : List ShelfRecord) (a : Area) (y : After) → jump x t a ≡ Accepted (some y) → ValidAfter t y
+  pub entered : (x : Shelf) (t : List ShelfRecord) (a : Area) (len : ℕ) (y : After) → enter x t a len ≡ Accepted y
+      → ValidAfter t y
+  pub jumped : (x : Shelf) (t : List ShelfRecord) (a : Area) (y : After) → jump x t a ≡ Accepted (some y)
+      → ValidAfter t y
 
 -- ---- entering a list
 -- with the last dropped record r back, 64 are present or the sum exceeds the limit
@@ -55,7 +57,8 @@ pub record LastBack (x : Shelf) (a : Area) (len : ℕ) (rs stay gone : List Shel
   pub among : List·Memᴰ (getD back at noRecord) gone
   pub other : areaOf (getD back at noRecord) ≢ a
   -- it is the last: the others that were dropped are older
-  pub last : (g : ShelfRecord) → List·Memᴰ g gone → areaOf g ≢ a → (g ≡ getD back at noRecord) ⊎ Older rs g (getD back at noRecord)
+  pub last : (g : ShelfRecord) → List·Memᴰ g gone → areaOf g ≢ a
+      → (g ≡ getD back at noRecord) ⊎ Older rs g (getD back at noRecord)
   pub tooMany : (64 ≤ length back) ⊎ (x .limit < sum back + len)
 
 pub record Entering (x : Shelf) (t : List ShelfRecord) (a : Area) (len : ℕ) (y : After) : Type 0 where
@@ -73,7 +76,8 @@ pub record Entering (x : Shelf) (t : List ShelfRecord) (a : Area) (len : ℕ) (y
   pub needed : ((g : ShelfRecord) → List·Memᴰ g gone → areaOf g ≡ a) ⊎ LastBack x a len (presentRecords x t) stay gone
 
 abbrev pub Entered : Type 0
-Entered = (x : Shelf) (t : List ShelfRecord) (a : Area) (len : ℕ) (y : After) → enter x t a len ≡ Accepted y → Entering x t a len y
+Entered = (x : Shelf) (t : List ShelfRecord) (a : Area) (len : ℕ) (y : After) → enter x t a len ≡ Accepted y
+    → Entering x t a len y
 
 -- ---- a jump: the record of the area has the number that the count now has, in its place; the others stay
 pub record Jumping (x : Shelf) (t : List ShelfRecord) (a : Area) (y : After) : Type 0 where
@@ -89,8 +93,11 @@ Jumped = (x : Shelf) (t : List ShelfRecord) (a : Area) (y : After) → jump x t 
 
 -- ---- what is accepted
 pub record ShelfAccepts : Type 0 where
-  pub enters : (x : Shelf) (t : List ShelfRecord) (a : Area) (len : ℕ) → Asked x t a → len ≤ x .limit → (y : After) × (enter x t a len ≡ Accepted y)
-  pub jumps : (x : Shelf) (t : List ShelfRecord) (a : Area) → Asked x t a → (i : ℕ) → i < x .present → areaOf (getD t i noRecord) ≡ a
+  pub enters : (x : Shelf) (t : List ShelfRecord) (a : Area) (len : ℕ) → Asked x t a → len ≤ x .limit → (y : After)
+      × (enter x t a len ≡ Accepted y)
+  pub jumps : (x : Shelf) (t : List ShelfRecord) (a : Area) → Asked x t a → (i : ℕ) → i < x .present
+      → areaOf (getD t i noRecord) ≡ a
       → (y : After) × (jump x t a ≡ Accepted (some y))
-  pub absent : (x : Shelf) (t : List ShelfRecord) (a : Area) → Asked x t a → ((i : ℕ) → i < x .present → areaOf (getD t i noRecord) ≢ a)
+  pub absent : (x : Shelf) (t : List ShelfRecord) (a : Area) → Asked x t a
+      → ((i : ℕ) → i < x .present → areaOf (getD t i noRecord) ≢ a)
       → jump x t a ≡ Accepted none

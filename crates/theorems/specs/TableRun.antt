@@ -66,7 +66,8 @@ unfoldable pub loadingInto : Area → ℕ → TableState → Option Saved → Ta
 loadingInto a limit s none = s
 loadingInto a limit s (some b) =
     record {
-      now = replace (s .now) (b .place) (placed (s .now (b .place)) (loadIn a (b .bytes) limit (s .now (b .place) .tables)));
+      now = replace (s .now) (b .place) (placed (s .now (b .place))
+          (loadIn a (b .bytes) limit (s .now (b .place) .tables)));
       went = s .went;
       just = none;
     }
@@ -75,7 +76,8 @@ unfoldable pub tableStep : Area → TableCall → TableState → TableState
 tableStep a (mergeTables i j) s =
     record {
       now = replace (s .now) i (placed (s .now i) (merging (s .now i) (s .now j)));
-      went = replace (s .went) i (cond (isAccepted (merging (s .now i) (s .now j) .answer)) (s .went i ++ s .went j) (s .went i));
+      went = replace (s .went) i (cond (isAccepted (merging (s .now i) (s .now j) .answer)) (s .went i ++ s .went j)
+          (s .went i));
       just = none;
     }
 tableStep a (saveTables i out) s =

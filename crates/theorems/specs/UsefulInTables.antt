@@ -93,8 +93,10 @@ use Rattle.theorems.specs.View.{ViewLeaves}
 -- where the questions are answered yes
 pub record RefusesNothingIn : Type 0 where
   pub made : (t : Tables) (a : Area) (k budget spacing most : ℕ) → let x = emptyIndex a k budget spacing most in
-      question1 x ≡ true → question2 x ≡ true → question3 (roomOf t) x ≡ true → newIn t a k budget spacing most ≡ Accepted (numbersFrom x)
-  pub fingerprints : (x : AreaIndex) (t : Tables) (v : ℕ) → ValidIn x t → agree eqb (stated (x .fingerprint)) (some v) ≡ true
+      question1 x ≡ true → question2 x ≡ true → question3 (roomOf t) x ≡ true → newIn t a k budget spacing most
+      ≡ Accepted (numbersFrom x)
+  pub fingerprints : (x : AreaIndex) (t : Tables) (v : ℕ) → ValidIn x t
+      → agree eqb (stated (x .fingerprint)) (some v) ≡ true
       → boundIn x t v ≡ Accepted (numbersFrom (bound (indexIn x t) v))
   -- a complete index gives a stopped recorder
   pub recorders : (x : AreaIndex) (t : Tables) (from : ℕ) → ValidIn x t
@@ -113,78 +115,121 @@ pub record RefusesNothingIn : Type 0 where
   pub hintRecorders : (x : AreaIndex) (t : Tables) → ValidIn x t → x .spacing ≢ 0 → x .most ≢ 0
       → createdIn x t ≡ createdAs.Recorder (record { spacing = x .spacing; last = Never; tail = Empty; count = 0 })
   -- spacing or M of 0: no hint recorder
-  pub noHintRecorder : (x : AreaIndex) (t : Tables) → ValidIn x t → (eqb (x .spacing) 0 || eqb (x .most) 0) ≡ true → createdIn x t ≡ createdAs.Nothing
+  pub noHintRecorder : (x : AreaIndex) (t : Tables) → ValidIn x t → (eqb (x .spacing) 0 || eqb (x .most) 0) ≡ true
+      → createdIn x t ≡ createdAs.Nothing
   pub addsHints : (x : AreaIndex) (t : Tables) (list : List ℕ) → ValidIn x t → question13 (hintsOf list) ≡ true
       → let i = indexIn x t in let y = withHinting i (withHints (x .area) (i .hinting) (hintsOf list)) in
-      addHintsIn x t list ≡ madeOut (madeAs.Index (numbersFrom y)) (tablesCleared (touched (x .most) (x .hints) list) y t)
-  pub keepsHints : (x : AreaIndex) (t : Tables) (lsn : ℕ) → ValidIn x t → let i = indexIn x t in question53 (i .hinting) lsn ≡ true
-      → let y = withHinting i (withMark (i .hinting) lsn) in keepHintIn x t lsn ≡ madeOut (madeAs.Index (numbersFrom y)) (tablesFrom y t)
-  pub confirms : (x : AreaIndex) (t : Tables) (c : Confirmation) → ValidIn x t → question14 (x .area) c ≡ true → isChecked (x .fingerprint) ≡ true → x .most ≢ 0
-      → let i = indexIn x t in let y = withHinting i (withConfirmed (i .hinting) (keep true (x .most) (i .hinting .confirmed) c)) in
+      addHintsIn x t list ≡ madeOut (madeAs.Index (numbersFrom y))
+      (tablesCleared (touched (x .most) (x .hints) list) y t)
+  pub keepsHints : (x : AreaIndex) (t : Tables) (lsn : ℕ) → ValidIn x t
+      → let i = indexIn x t in question53 (i .hinting) lsn ≡ true
+      → let y = withHinting i (withMark (i .hinting) lsn) in keepHintIn x t lsn
+      ≡ madeOut (madeAs.Index (numbersFrom y)) (tablesFrom y t)
+  pub confirms : (x : AreaIndex) (t : Tables) (c : Confirmation) → ValidIn x t → question14 (x .area) c ≡ true
+      → isChecked (x .fingerprint) ≡ true → x .most ≢ 0
+      → let i = indexIn x t in let y = withHinting i
+      (withConfirmed (i .hinting) (keep true (x .most) (i .hinting .confirmed) c)) in
       keepIn x t c ≡ keeping.keptOut (keptAs.Index (numbersFrom y)) (tablesFrom y t)
   -- nothing is kept, and that is the answer
-  pub keepsNone : (x : AreaIndex) (t : Tables) (c : Confirmation) → ValidIn x t → question14 (x .area) c ≡ true → keepsNothing (isChecked (x .fingerprint)) (x .most) ≡ true
+  pub keepsNone : (x : AreaIndex) (t : Tables) (c : Confirmation) → ValidIn x t → question14 (x .area) c ≡ true
+      → keepsNothing (isChecked (x .fingerprint)) (x .most) ≡ true
       → keepIn x t c ≡ keeping.keptOut keptAs.Nothing t
-  pub hints : (x : AreaIndex) (t : Tables) (first end playtime : ℕ) → ValidIn x t → first ≤ end → numberOf (hintIn x t first end playtime) ≡ 0
+  pub hints : (x : AreaIndex) (t : Tables) (first end playtime : ℕ) → ValidIn x t → first ≤ end
+      → numberOf (hintIn x t first end playtime) ≡ 0
   pub plans : (x : AreaIndex) (t : Tables) (f : ℕ) → ValidIn x t → (p : Plan) × (planIn x t f ≡ Accepted p)
   pub saves : (x : AreaIndex) (t : Tables) (old : List ℕ) → ValidIn x t → savedLength (indexIn x t) ≤ length old
       → saving.saveIn x t old ≡ saving.made (Length (length (saved (indexIn x t)))) (over (saved (indexIn x t)) old)
-  pub merges : (x : AreaIndex) (t : Tables) (y : AreaIndex) (u : Tables) → ValidIn x t → ValidIn y u → let i = indexIn x t in let j = indexIn y u in
-      question41 i j ≡ true → question42 i j ≡ true → question43 i j ≡ true → isAccepted (mergeIn x t y u .answer) ≡ true
-  pub adds : (x : AreaIndex) (t : Tables) (y : AreaIndex) (u : Tables) → ValidIn x t → ValidIn y u → let i = indexIn x t in let j = indexIn y u in
-      question41 i j ≡ true → question42 i j ≡ true → question43 i j ≡ true → addsIn x t y u ≡ Accepted (bringsOf i (merged i j))
-  pub lacks : (x : AreaIndex) (t : Tables) (y : AreaIndex) (u : Tables) → ValidIn x t → ValidIn y u → let i = indexIn x t in let j = indexIn y u in
+  pub merges : (x : AreaIndex) (t : Tables) (y : AreaIndex) (u : Tables) → ValidIn x t → ValidIn y u
+      → let i = indexIn x t in let j = indexIn y u in
+      question41 i j ≡ true → question42 i j ≡ true → question43 i j ≡ true → isAccepted (mergeIn x t y u .answer)
+      ≡ true
+  pub adds : (x : AreaIndex) (t : Tables) (y : AreaIndex) (u : Tables) → ValidIn x t → ValidIn y u
+      → let i = indexIn x t in let j = indexIn y u in
+      question41 i j ≡ true → question42 i j ≡ true → question43 i j ≡ true → addsIn x t y u
+      ≡ Accepted (bringsOf i (merged i j))
+  pub lacks : (x : AreaIndex) (t : Tables) (y : AreaIndex) (u : Tables) → ValidIn x t → ValidIn y u
+      → let i = indexIn x t in let j = indexIn y u in
       question41 i j ≡ true → question42 i j ≡ true → question43 i j ≡ true → lacksIn x t y u ≡ Accepted (lacking i j)
-  pub loads : (a : Area) (b : List ℕ) (limit : ℕ) (t : Tables) (x : Index) → areaOk a ≡ true → fromBytes a b ≡ Accepted x → question3 (roomOf t) (limited limit x) ≡ true
+  pub loads : (a : Area) (b : List ℕ) (limit : ℕ) (t : Tables) (x : Index) → areaOk a ≡ true → fromBytes a b
+      ≡ Accepted x → question3 (roomOf t) (limited limit x) ≡ true
       → isAccepted (loadIn a b limit t .answer) ≡ true
   -- reading a disc
-  pub records : (r : Recorder) (u : RecorderTables) (lsn threshold malformed : ℕ) (f : UnderAssembly) (b sector : List ℕ) → ValidRecorderIn r u
+  pub records : (r : Recorder) (u : RecorderTables) (lsn threshold malformed : ℕ) (f : UnderAssembly)
+      (b sector : List ℕ) → ValidRecorderIn r u
       → let v = recorderIn r u in let a = assemblingIn f b in
       question5 v lsn sector ≡ true → question6 v threshold malformed ≡ true → question7 v lsn a ≡ true
       → let w = recorded v lsn threshold malformed a sector in
-      recordIn r u lsn threshold malformed f b sector ≡ recorderOut (recordedAs.Recorder (recorderFrom w)) (recorderOver w u)
+      recordIn r u lsn threshold malformed f b sector
+      ≡ recorderOut (recordedAs.Recorder (recorderFrom w)) (recorderOver w u)
   pub finishes : (r : Recorder) (u : RecorderTables) (e : EndState) → ValidRecorderIn r u → let v = recorderIn r u in
-      isRunning (r .mode) ≡ true → nextNumber v ≡ boundaries (r .area) (r .interval) → endOk (r .area) (lastCheckpoint (v .checkpoints)) e ≡ true
+      isRunning (r .mode) ≡ true → nextNumber v ≡ boundaries (r .area) (r .interval)
+      → endOk (r .area) (lastCheckpoint (v .checkpoints)) e ≡ true
       → finishedIn r u e ≡ recordedAs.Recorder (recorderFrom (withMode v (Finished e)))
-  pub absorbs : (x : AreaIndex) (t : Tables) (image : ImageId) (given : List ℕ) (r : Recorder) (u : RecorderTables) → ValidIn x t → ValidRecorderIn r u
-      → isStopped (r .mode) ≡ false → let i = indexIn x t in let v = recorderIn r u in let id = idIn image in let ms = givenIn given in
-      question8 i id ≡ true → question9 i v ≡ true → question10 i v ≡ true → question11 i v ≡ true → question12 i v id ms ≡ true
+  pub absorbs : (x : AreaIndex) (t : Tables) (image : ImageId) (given : List ℕ) (r : Recorder) (u : RecorderTables)
+      → ValidIn x t → ValidRecorderIn r u
+      → isStopped (r .mode) ≡ false → let i = indexIn x t in let v = recorderIn r u in let id = idIn image
+      in let ms = givenIn given in
+      question8 i id ≡ true → question9 i v ≡ true → question10 i v ≡ true → question11 i v ≡ true
+      → question12 i v id ms ≡ true
       → let y = absorbedIndex i v id ms in
-      absorbIn x t image given r u ≡ absorbing.absorbedOut (absorbed 0 (numbersFrom y) (recorderFrom (emptied v))) (tablesFrom y t)
+      absorbIn x t image given r u ≡ absorbing.absorbedOut (absorbed 0 (numbersFrom y) (recorderFrom (emptied v)))
+      (tablesFrom y t)
   -- a stopped recorder brings nothing and is no refusal after 4
-  pub stopped : (x : AreaIndex) (t : Tables) (image : ImageId) (given : List ℕ) (r : Recorder) (u : RecorderTables) → ValidIn x t → TableBytes t → ValidRecorderIn r u
+  pub stopped : (x : AreaIndex) (t : Tables) (image : ImageId) (given : List ℕ) (r : Recorder) (u : RecorderTables)
+      → ValidIn x t → TableBytes t → ValidRecorderIn r u
       → isStopped (r .mode) ≡ true → absorbIn x t image given r u ≡ absorbing.absorbedOut (absorbed 0 x r) t
-  pub sees : (r : HintRecorder) (t : List ℕ) (lsn : ℕ) (sector : List ℕ) → ValidHintRecorderIn r t → (n : ℕ) → seeIn r t lsn sector .answer ≢ sawAs.Refused n
+  pub sees : (r : HintRecorder) (t : List ℕ) (lsn : ℕ) (sector : List ℕ) → ValidHintRecorderIn r t → (n : ℕ)
+      → seeIn r t lsn sector .answer ≢ sawAs.Refused n
   -- what the rules accept is put into the table
-  pub seen : (r : HintRecorder) (t : List ℕ) (lsn : ℕ) (sector : List ℕ) (s : rules.SeenSector) → see (length t / 8) (hintRecorderIn r t) lsn sector ≡ Accepted s
+  pub seen : (r : HintRecorder) (t : List ℕ) (lsn : ℕ) (sector : List ℕ) (s : rules.SeenSector)
+      → see (length t / 8) (hintRecorderIn r t) lsn sector ≡ Accepted s
       → seeIn r t lsn sector
-      ≡ hinting.sawOut (sawAs.Sector (record { first = s .first; recorder = hintRecorderFrom (s .recorder) })) (over (bytesOf encodeHint (s .recorder .list)) t)
-  pub flushes : (r : HintRecorder) (t : List ℕ) → ValidHintRecorderIn r t → let v = hintRecorderIn r t in let hs = flushedList (v .tail) (v .list) in
+      ≡ hinting.sawOut (sawAs.Sector (record { first = s .first; recorder = hintRecorderFrom (s .recorder) }))
+      (over (bytesOf encodeHint (s .recorder .list)) t)
+  pub flushes : (r : HintRecorder) (t : List ℕ) → ValidHintRecorderIn r t
+      → let v = hintRecorderIn r t in let hs = flushedList (v .tail) (v .list) in
       flushIn r t
-      ≡ hinting.seenOut (seenAs.Recorder (hintRecorderFrom (record { spacing = v .spacing; last = v .last; tail = none; list = hs }))) (over (bytesOf encodeHint hs) t)
+      ≡ hinting.seenOut (seenAs.Recorder (hintRecorderFrom
+      (record { spacing = v .spacing; last = v .last; tail = none; list = hs }))) (over (bytesOf encodeHint hs) t)
   pub takes : (r : HintRecorder) (t : List ℕ) → ValidHintRecorderIn r t → let v = hintRecorderIn r t in
       takeIn r t
-      ≡ takenAs.List (record { count = length (v .list); recorder = hintRecorderFrom (record { spacing = v .spacing; last = v .last; tail = v .tail; list = [] }) })
+      ≡ takenAs.List (record {
+        count = length (v .list);
+        recorder = hintRecorderFrom (record { spacing = v .spacing; last = v .last; tail = v .tail; list = [] });
+      })
   -- numbers, lengths and what a file says
-  pub frontiers : (x : AreaIndex) → areaOk (x .area) ≡ true → frontierIn x ≡ Accepted (frontierOf (x .area) (x .interval) (x .checkpoints) (endIn (x .ending)))
+  pub frontiers : (x : AreaIndex) → areaOk (x .area) ≡ true → frontierIn x
+      ≡ Accepted (frontierOf (x .area) (x .interval) (x .checkpoints) (endIn (x .ending)))
   pub boundary : (x : AreaIndex) (j : ℕ) → areaOk (x .area) ≡ true → numbersOk (x .interval) (x .budget) ≡ true
-      → checkpointLsn x j ≡ cond (ltb j (boundaries (x .area) (x .interval))) (boundaryAs.Lsn (lsnOf (x .area) (x .interval) j)) boundaryAs.Nothing
-  pub due : (r : Recorder) → areaOk (r .area) ≡ true → numbersOk (r .interval) (r .budget) ≡ true → let j = r .first + r .checkpoints in
-      dueAt r ≡ cond (isRunning (r .mode) && ltb j (boundaries (r .area) (r .interval))) (boundaryAs.Lsn (lsnOf (r .area) (r .interval) j)) boundaryAs.Nothing
-  pub sizes : (a : Area) (k budget most : ℕ) → areaOk a ≡ true → numbersOk k budget ≡ true → newSizes a k budget most ≡ Accepted (sizesOf a k budget (min most maxHints))
-  pub sizesOfFile : (a : Area) (b : List ℕ) (limit : ℕ) (x : Index) → areaOk a ≡ true → fromBytes a b ≡ Accepted x → fileSizes a b limit ≡ Accepted (sizesFor (limited limit x))
+      → checkpointLsn x j ≡ cond (ltb j (boundaries (x .area) (x .interval)))
+      (boundaryAs.Lsn (lsnOf (x .area) (x .interval) j)) boundaryAs.Nothing
+  pub due : (r : Recorder) → areaOk (r .area) ≡ true → numbersOk (r .interval) (r .budget) ≡ true
+      → let j = r .first + r .checkpoints in
+      dueAt r ≡ cond (isRunning (r .mode) && ltb j (boundaries (r .area) (r .interval)))
+      (boundaryAs.Lsn (lsnOf (r .area) (r .interval) j)) boundaryAs.Nothing
+  pub sizes : (a : Area) (k budget most : ℕ) → areaOk a ≡ true → numbersOk k budget ≡ true → newSizes a k budget most
+      ≡ Accepted (sizesOf a k budget (min most maxHints))
+  pub sizesOfFile : (a : Area) (b : List ℕ) (limit : ℕ) (x : Index) → areaOk a ≡ true → fromBytes a b ≡ Accepted x
+      → fileSizes a b limit ≡ Accepted (sizesFor (limited limit x))
   pub lengths : (x : AreaIndex) (t : Tables) → ValidIn x t → fileLength x t ≡ length (saved (indexIn x t))
-  pub areaOfFile : (b : List ℕ) → beforeSum (fileNumber b) ≡ 0 → fileArea b ≡ Accepted (rangeOf (keyOf (readHeader (bodyIn b))))
+  pub areaOfFile : (b : List ℕ) → beforeSum (fileNumber b) ≡ 0 → fileArea b
+      ≡ Accepted (rangeOf (keyOf (readHeader (bodyIn b))))
   -- change request 1
-  pub mergesAll : (x : AreaIndex) (t : Tables) (ls b : List ℕ) (limit : ℕ) (u : Tables) (ys : List Index) → ValidIn x t → question44 (lengthsIn ls) ≡ true
-      → loadFiles (roomOf u) (x .area) (lengthsIn ls) b limit ≡ Accepted ys → let i = indexIn x t in pairsNumber (i ∷ ys) ≡ 0
+  pub mergesAll : (x : AreaIndex) (t : Tables) (ls b : List ℕ) (limit : ℕ) (u : Tables) (ys : List Index)
+      → ValidIn x t → question44 (lengthsIn ls) ≡ true
+      → loadFiles (roomOf u) (x .area) (lengthsIn ls) b limit ≡ Accepted ys
+      → let i = indexIn x t in pairsNumber (i ∷ ys) ≡ 0
       → mergeAllIn x t ls b limit u ≡ madeOut (madeAs.Index (numbersFrom (mergeEach i ys))) (mergedTables i ys t)
   -- change request 2
-  pub rows : (b : List ℕ) (s e : ℕ) (x : Index) → rangeOk s e ≡ true → fromBytes (areaIn b s e) b ≡ Accepted x → rowOf b s e ≡ Accepted (rowFrom x)
-  pub rowsOfLines : (l : Line) (b : List ℕ) (r : Row) → length b ≤ maxFile → rowOf b (l .start) (l .end) ≡ Accepted r → lineRow (some l) (some b) ≡ Accepted r
+  pub rows : (b : List ℕ) (s e : ℕ) (x : Index) → rangeOk s e ≡ true → fromBytes (areaIn b s e) b ≡ Accepted x
+      → rowOf b s e ≡ Accepted (rowFrom x)
+  pub rowsOfLines : (l : Line) (b : List ℕ) (r : Row) → length b ≤ maxFile → rowOf b (l .start) (l .end) ≡ Accepted r
+      → lineRow (some l) (some b) ≡ Accepted r
   -- change request 6; the tables are the coarser list's
-  pub coarsens : (x : AreaIndex) (t : Tables) (k : ℕ) (u : Tables) → ValidIn x t → let i = indexIn x t in let y = coarser k i in
-      question47 k i ≡ true → question48 k i ≡ true → question3 (roomOf u) y ≡ true → coarseIn x t k u ≡ madeOut (madeAs.Index (numbersFrom y)) (tablesFrom y u)
+  pub coarsens : (x : AreaIndex) (t : Tables) (k : ℕ) (u : Tables) → ValidIn x t
+      → let i = indexIn x t in let y = coarser k i in
+      question47 k i ≡ true → question48 k i ≡ true → question3 (roomOf u) y ≡ true → coarseIn x t k u
+      ≡ madeOut (madeAs.Index (numbersFrom y)) (tablesFrom y u)
   -- change request 8
   pub folds : (w k s : ℕ) → question49 w k ≡ true → fold w k s ≡ foldedAs.Sum (folded k s)
   -- change requests 9 and 10
@@ -193,12 +238,16 @@ pub record RefusesNothingIn : Type 0 where
   -- change request 14
   pub savesDisc : DiscSaveAcceptsIn
   pub loadsDisc : DiscLoadAcceptsIn
-  pub contents : (b : List ℕ) → contentsOk b ≡ true → contentsIn b ≡ Lists (placeFrom (entryOf 0 (entriesIn b))) (placeFrom (entryOf 1 (entriesIn b)))
-  pub sizesOfDisc : (a0 a1 : Area) (b : List ℕ) (limit : ℕ) (s r : Option TableSizes) → slotArea 0 a0 ≡ true → slotArea 1 a1 ≡ true → contentsOk b ≡ true
+  pub contents : (b : List ℕ) → contentsOk b ≡ true → contentsIn b
+      ≡ Lists (placeFrom (entryOf 0 (entriesIn b))) (placeFrom (entryOf 1 (entriesIn b)))
+  pub sizesOfDisc : (a0 a1 : Area) (b : List ℕ) (limit : ℕ) (s r : Option TableSizes) → slotArea 0 a0 ≡ true
+      → slotArea 1 a1 ≡ true → contentsOk b ≡ true
       → bodySizes a0 limit (disc.bodyIn b 0) ≡ Accepted s → bodySizes a1 limit (disc.bodyIn b 1) ≡ Accepted r
       → discSizes a0 a1 b limit ≡ Accepted (record { slot0 = s; slot1 = r })
-  pub lengthOne : (x : AreaIndex) (t : Tables) → ValidIn x t → let n = length (saved (indexIn x t)) in n ≤ max32 → oneLength x t ≡ 16 + n
-  pub lengthBoth : (x y : AreaIndex) (t u : Tables) → ValidIn x t → ValidIn y u → x .area .key .slot ≡ 0 → y .area .key .slot ≡ 1
+  pub lengthOne : (x : AreaIndex) (t : Tables) → ValidIn x t → let n = length (saved (indexIn x t)) in n ≤ max32
+      → oneLength x t ≡ 16 + n
+  pub lengthBoth : (x y : AreaIndex) (t u : Tables) → ValidIn x t → ValidIn y u → x .area .key .slot ≡ 0
+      → y .area .key .slot ≡ 1
       → let m = length (saved (indexIn x t)) in let n = length (saved (indexIn y u)) in
       28 + m ≤ max32 → n ≤ max32 → (bothLength x t y u ≡ 28 + m + n) × (bothLength y u x t ≡ 28 + m + n)
 
@@ -212,20 +261,23 @@ pub record LoadOfIn (limit : ℕ) (x : Index) (o : MadeOut) : Type 0 where
 -- of what was saved, in tables t' that have room for it
 abbrev pub LoadKeepsIn : Type 0
 LoadKeepsIn =
-    (x : AreaIndex) (t : Tables) → LentIn x t → ValidIn x t → (limit : ℕ) (t' : Tables) → question3 (roomOf t') (indexIn x t) ≡ true
+    (x : AreaIndex) (t : Tables) → LentIn x t → ValidIn x t → (limit : ℕ) (t' : Tables)
+    → question3 (roomOf t') (indexIn x t) ≡ true
     → LoadOfIn limit (indexIn x t) (loadIn (x .area) (saved (indexIn x t)) limit t')
 
 -- ---- merge hands back the first list untouched
 abbrev pub MergeTakesIn : Type 0
 MergeTakesIn =
-    (x : AreaIndex) (t : Tables) (y : AreaIndex) (u : Tables) (z : AreaIndex) (t' : Tables) → LentIn x t → LentIn y u → mergeIn x t y u ≡ madeOut (madeAs.Index z) t'
+    (x : AreaIndex) (t : Tables) (y : AreaIndex) (u : Tables) (z : AreaIndex) (t' : Tables) → LentIn x t → LentIn y u
+    → mergeIn x t y u ≡ madeOut (madeAs.Index z) t'
     → MergedOf (indexIn x t) (indexIn y u) (indexIn z t')
 
 -- ---- absorbs one recorder, then only empties the others
 -- of numbers and tables of their types
 abbrev pub AbsorbTakesIn : Type 0
 AbsorbTakesIn =
-    (x : AreaIndex) (t : Tables) (image : ImageId) (given : List ℕ) (r : Recorder) (u : RecorderTables) → LentIn x t → RecorderBytes u
+    (x : AreaIndex) (t : Tables) (image : ImageId) (given : List ℕ) (r : Recorder) (u : RecorderTables) → LentIn x t
+    → RecorderBytes u
     → let o = absorbIn x t image given r u in
     o .answer .number ≡ 0 → isStopped (r .mode) ≡ false
     → AbsorbedOf (indexIn x t) (recorderIn r u) (idIn image) (givenIn given) (indexIn (o .answer .index) (o .tables))
@@ -239,15 +291,19 @@ pub record SaveOf (x : Index) (old : List ℕ) (n : ℕ) (new : List ℕ) : Type
   pub bytes : new ≡ over (saved x) old
 
 abbrev pub SaveTellsIn : Type 0
-SaveTellsIn = (x : AreaIndex) (t : Tables) (old : List ℕ) (n : ℕ) (new : List ℕ) → saving.saveIn x t old ≡ saving.made (Length n) new → SaveOf (indexIn x t) old n new
+SaveTellsIn = (x : AreaIndex) (t : Tables) (old : List ℕ) (n : ℕ) (new : List ℕ) → saving.saveIn x t old
+    ≡ saving.made (Length n) new → SaveOf (indexIn x t) old n new
 
 -- ---- plan says Start, hint none, without looking
 pub record PlanLooksIn : Type 0 where
-  pub answers : (x : AreaIndex) (t : Tables) (f : ℕ) (p : Plan) → planIn x t f ≡ Accepted p → Looked (indexIn x t .scan) f p
+  pub answers : (x : AreaIndex) (t : Tables) (f : ℕ) (p : Plan) → planIn x t f ≡ Accepted p
+      → Looked (indexIn x t .scan) f p
   -- at or past the end of a complete list it says so
-  pub ends : (x : AreaIndex) (t : Tables) (f : ℕ) (e : EndState) → ValidIn x t → x .ending ≡ Closed e → e .threshold ≤ f → planIn x t f ≡ Accepted (End e)
+  pub ends : (x : AreaIndex) (t : Tables) (f : ℕ) (e : EndState) → ValidIn x t → x .ending ≡ Closed e
+      → e .threshold ≤ f → planIn x t f ≡ Accepted (End e)
 
 abbrev pub HintLooksIn : Type 0
 HintLooksIn =
-    (x : AreaIndex) (t : Tables) (first end playtime i : ℕ) → hintIn x t first end playtime ≡ Accepted none → i < x .hints
+    (x : AreaIndex) (t : Tables) (first end playtime i : ℕ) → hintIn x t first end playtime ≡ Accepted none
+    → i < x .hints
     → near first (getD (indexIn x t .hinting .hints) i noHint) ≡ false

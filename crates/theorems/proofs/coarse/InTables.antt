@@ -31,7 +31,12 @@ module _ (x : AreaIndex) (t : Tables) (k : ℕ) (u : Tables) where
       let wide = coarser k fine in
       let q = asked→ _ (Accepted wide) wide refl e .0 in
       let v = coarse-valid (roomOf t) (roomOf u) fine wide k e .valid in
-      let s : Savable wide = record { one = v .one; two = v .two; four = v .four; sizes = coarser-sized k fine (sized-in x t (a .typed) (a .bytes)) } in
+      let s : Savable wide = record {
+        one = v .one;
+        two = v .two;
+        four = v .four;
+        sizes = coarser-sized k fine (sized-in x t (a .typed) (a .bytes));
+      } in
       let h = stands wide u s in
       let m = room-from wide u (within wide u (facts wide s) (v .three)) in
       record {
@@ -45,7 +50,8 @@ module _ (x : AreaIndex) (t : Tables) (k : ℕ) (u : Tables) where
         room = m;
       }
 
-  pub leaves : (y : AreaIndex) (u' : Tables) → LentIn x t → coarseIn x t k u ≡ madeOut (made.Index y) u' → CoarseLeft x t k u y u'
+  pub leaves : (y : AreaIndex) (u' : Tables) → LentIn x t → coarseIn x t k u ≡ madeOut (made.Index y) u'
+      → CoarseLeft x t k u y u'
   unfolding coarse
   leaves y u' a e =
       let r = out→ (λ z. tablesFrom z u) u x y u' (after (refusal x t) (coarse (roomOf t) fine k (roomOf u))) e in
@@ -53,7 +59,8 @@ module _ (x : AreaIndex) (t : Tables) (k : ℕ) (u : Tables) where
       let w : coarser k fine ≡ r .0 = asked-is (r .0) (p .1) in
       let l = put-left a (p .0) (p .1 ∙ ap Accepted (sym w)) in
       subst (λ (v : AreaIndex). CoarseLeft x t k u v u') (ap numbersFrom w ∙ r .2)
-      (subst (λ (v : Tables). CoarseLeft x t k u (numbersFrom (coarser k fine)) v) (ap (λ (z : Index). tablesFrom z u) w ∙ r .3) l)
+      (subst (λ (v : Tables). CoarseLeft x t k u (numbersFrom (coarser k fine)) v)
+      (ap (λ (z : Index). tablesFrom z u) w ∙ r .3) l)
     where
       asked-is : (v : Index) → coarse (roomOf t) fine k (roomOf u) ≡ Accepted v → coarser k fine ≡ v
       asked-is v e = accepted-eq (coarser k fine) v (after→ _ (Accepted (coarser k fine)) v e .1)

@@ -48,7 +48,8 @@ disc-save-accepts-in-c =
     }
 
 -- the numbers of a list that loads fit their words
-pub load-fits : (l : Lengths) (a : Area) (c : List ℕ) (limit : ℕ) (x : Index) → Bytes c → load l a c limit ≡ Accepted x → IndexFits (numbersFrom x)
+pub load-fits : (l : Lengths) (a : Area) (c : List ℕ) (limit : ℕ) (x : Index) → Bytes c → load l a c limit
+    ≡ Accepted x → IndexFits (numbersFrom x)
 unfolding limited knownSized
 load-fits l a c limit x g e =
     let w = load→ l a c limit x e in
@@ -57,15 +58,18 @@ load-fits l a c limit x g e =
     list-fits x (load-savable l a c limit x g e) k
 
 -- the head that a load writes is read as the list's numbers
-pub head-back : (l : Lengths) (a : Area) (c : List ℕ) (limit : ℕ) (x : Index) (head : List ℕ) → Bytes c → load l a c limit ≡ Accepted x
+pub head-back : (l : Lengths) (a : Area) (c : List ℕ) (limit : ℕ) (x : Index) (head : List ℕ) → Bytes c
+    → load l a c limit ≡ Accepted x
     → headIndex (over (blockOf (indexWords (numbersFrom x))) head) ≡ numbersFrom x
 unfolding headIndex
 head-back l a c limit x head g e = index-back (numbersFrom x) head (load-fits l a c limit x g e)
 
-list-back : (l : Lengths) (a : Area) (c : List ℕ) (limit : ℕ) (x : Index) (head : List ℕ) (t : Tables) → Bytes c → load l a c limit ≡ Accepted x
+list-back : (l : Lengths) (a : Area) (c : List ℕ) (limit : ℕ) (x : Index) (head : List ℕ) (t : Tables) → Bytes c
+    → load l a c limit ≡ Accepted x
     → indexIn (headIndex (over (blockOf (indexWords (numbersFrom x))) head)) (tablesFrom x t) ≡ x
 list-back l a c limit x head t g e =
-    ap (λ (n : AreaIndex). indexIn n (tablesFrom x t)) (head-back l a c limit x head g e) ∙ stands x t (load-savable l a c limit x g e)
+    ap (λ (n : AreaIndex). indexIn n (tablesFrom x t)) (head-back l a c limit x head g e)
+    ∙ stands x t (load-savable l a c limit x g e)
 
 pub disc-load-accepts-in-c : DiscLoadAcceptsInC
 unfolding discLoadCall inBlock inHead loadDiscIn discOutOf listedFrom tablesWith loadedInto listedInto

@@ -47,15 +47,24 @@ pub record Saves (p : Four) (xs : List Index) (out : ℕ) (b : List ℕ) : Type 
 saves : (p : Four) (xs : List Index) (out : ℕ) (b : List ℕ) → saveLists p xs out ≡ Accepted b → Saves p xs out b
 unfolding saveLists
 saves p xs out b e =
-    let r = asked→ (askFour p (ask (entriesOk 0 (contentsOf xs)) 54 ∷ ask (leb (discLength xs) out) 40 ∷ [])) (Accepted (discBytes xs)) b refl e in
+    let r = asked→ (askFour p (ask (entriesOk 0 (contentsOf xs)) 54 ∷ ask (leb (discLength xs) out) 40 ∷ []))
+    (Accepted (discBytes xs)) b refl e in
     let q = r .0 in
-    record { one = q .0; two = q .1 .0; three = q .1 .1 .0; four = q .1 .1 .1 .0; rising = q .1 .1 .1 .1 .0; is = accepted-eq (discBytes xs) b (r .1) }
+    record {
+      one = q .0;
+      two = q .1 .0;
+      three = q .1 .1 .0;
+      four = q .1 .1 .1 .0;
+      rising = q .1 .1 .1 .1 .0;
+      is = accepted-eq (discBytes xs) b (r .1);
+    }
 
 pub savable : (l : Lengths) (x : Index) → Valid l x → sized x ≡ true → Savable x
 savable l x v z = record { one = v .one; two = v .two; four = v .four; sizes = z }
 
 -- both lists of an accepted save
-module _ (l : Lengths) (x : Index) (m : Lengths) (y : Index) (out : ℕ) (b : List ℕ) (e : saveBoth l x m y out ≡ Accepted b) where
+module _ (l : Lengths) (x : Index) (m : Lengths) (y : Index) (out : ℕ) (b : List ℕ)
+    (e : saveBoth l x m y out ≡ Accepted b) where
   both-saves : Saves (both (fourOf l x) (fourOf m y)) (bySlot x y) out b
   unfolding saveBoth
   both-saves = saves (both (fourOf l x) (fourOf m y)) (bySlot x y) out b e
@@ -94,25 +103,31 @@ length-saved x x' e = savedLength-is x .0 ∙ ap length e ∙ sym (savedLength-i
 -- the answer for two lists, by what it is made of
 abbrev answerOf : Four → ℕ → ℕ → ℕ → ℕ → ℕ → List ℕ → List ℕ → Answer (List ℕ)
 answerOf p out s t m n u v =
-    after (firstNo (askFour p (ask (entriesOk 0 (entry s 28 m ∷ entry t (28 + m) n ∷ [])) 54 ∷ ask (leb (28 + (m + (n + 0))) out) 40 ∷ [])))
+    after (firstNo (askFour p (ask (entriesOk 0 (entry s 28 m ∷ entry t (28 + m) n ∷ [])) 54
+    ∷ ask (leb (28 + (m + (n + 0))) out) 40 ∷ [])))
     (Accepted (encode 4 2 ++ (bytesOf encodeEntry (entry s 28 m ∷ entry t (28 + m) n ∷ []) ++ (u ++ (v ++ [])))))
 
-answer-is : (p : Four) (out : ℕ) (x y : Index) → saveLists p (x ∷ y ∷ []) out ≡ answerOf p out (slotOf x) (slotOf y) (savedLength x) (savedLength y) (saved x) (saved y)
+answer-is : (p : Four) (out : ℕ) (x y : Index) → saveLists p (x ∷ y ∷ []) out
+    ≡ answerOf p out (slotOf x) (slotOf y) (savedLength x) (savedLength y) (saved x) (saved y)
 unfolding saveLists discBytes discLength bodiesLength entriesFrom bytesOf
 answer-is p out x y = refl
 
 module _ (p : Four) (out : ℕ) where
-  same-lists : (x y x' y' : Index) → slotOf x ≡ slotOf x' → slotOf y ≡ slotOf y' → saved x ≡ saved x' → saved y ≡ saved y'
+  same-lists : (x y x' y' : Index) → slotOf x ≡ slotOf x' → slotOf y ≡ slotOf y' → saved x ≡ saved x' → saved y
+      ≡ saved y'
       → saveLists p (x ∷ y ∷ []) out ≡ saveLists p (x' ∷ y' ∷ []) out
   same-lists x y x' y' s t e f =
-      answer-is p out x y ∙ (λ i. answerOf p out (s i) (t i) (length-saved x x' e i) (length-saved y y' f i) (e i) (f i)) ∙ sym (answer-is p out x' y')
+      answer-is p out x y ∙ (λ i. answerOf p out (s i) (t i) (length-saved x x' e i) (length-saved y y' f i) (e i)
+      (f i)) ∙ sym (answer-is p out x' y')
 
-  same-order : (x y x' y' : Index) → slotOf x ≡ slotOf x' → slotOf y ≡ slotOf y' → saved x ≡ saved x' → saved y ≡ saved y'
+  same-order : (x y x' y' : Index) → slotOf x ≡ slotOf x' → slotOf y ≡ slotOf y' → saved x ≡ saved x' → saved y
+      ≡ saved y'
       → saveLists p (bySlot x y) out ≡ saveLists p (bySlot x' y') out
   unfolding bySlot
   same-order x y x' y' s t e f =
       let o : ltb (slotOf x) (slotOf y) ≡ ltb (slotOf x') (slotOf y') = rw (s, t) in
-      test (ltb (slotOf x) (slotOf y)) (λ h. rw (h, sym o ∙ h) (same-lists x y x' y' s t e f)) (λ h. rw (h, sym o ∙ h) (same-lists y x y' x' t s f e))
+      test (ltb (slotOf x) (slotOf y)) (λ h. rw (h, sym o ∙ h) (same-lists x y x' y' s t e f))
+      (λ h. rw (h, sym o ∙ h) (same-lists y x y' x' t s f e))
 
 -- lists that pass 1 to 4
 abbrev passed : Four
@@ -120,13 +135,20 @@ passed = record { one = true; two = true; three = true; four = true }
 
 both-passed : (l m : Lengths) (x y : Index) → Valid l x → Valid m y → both (fourOf l x) (fourOf m y) ≡ passed
 both-passed l m x y v w =
-    λ i. record { one = each-of (v .one) (w .one) i; two = each-of (v .two) (w .two) i; three = each-of (v .three) (w .three) i; four = each-of (v .four) (w .four) i }
+    λ i. record {
+      one = each-of (v .one) (w .one) i;
+      two = each-of (v .two) (w .two) i;
+      three = each-of (v .three) (w .three) i;
+      four = each-of (v .four) (w .four) i;
+    }
 
 same-slot : (x x' : Index) → Savable x → Savable x' → saved x ≡ saved x' → slotOf x ≡ slotOf x'
 same-slot x x' s s' e = slot-saved x s ∙ ap (λ (c : List ℕ). readHeader c .slot) e ∙ sym (slot-saved x' s')
 
-module _ (l m l' m' : Lengths) (x y x' y' : Index) (out : ℕ) (v : Valid l x) (w : Valid m y) (v' : Valid l' x') (w' : Valid m' y') where
-  same-answer : sized x ≡ true → sized y ≡ true → sized x' ≡ true → sized y' ≡ true → saved x ≡ saved x' → saved y ≡ saved y'
+module _ (l m l' m' : Lengths) (x y x' y' : Index) (out : ℕ) (v : Valid l x) (w : Valid m y) (v' : Valid l' x')
+    (w' : Valid m' y') where
+  same-answer : sized x ≡ true → sized y ≡ true → sized x' ≡ true → sized y' ≡ true → saved x ≡ saved x' → saved y
+      ≡ saved y'
       → saveBoth l x m y out ≡ saveBoth l' x' m' y' out
   unfolding saveBoth
   same-answer z c z' c' e f =
@@ -150,7 +172,8 @@ broken-bits true true true true q q' r r' = refl
 pub equal-slots : (x y : Index) → slotOf x ≡ slotOf y → entriesOk 0 (contentsOf (x ∷ y ∷ [])) ≡ false
 equal-slots x y e =
     test (entriesOk 0 (contentsOf (x ∷ y ∷ [])))
-    (λ h. let f = first→ 0 28 x (y ∷ []) h in let g = first→ (slotOf x + 1) (28 + savedLength x) y [] (f .rest) in let z : ⊥ = omega (arith, g .slot, e) in absurd z)
+    (λ h. let f = first→ 0 28 x (y ∷ []) h in let g = first→ (slotOf x + 1) (28 + savedLength x) y [] (f .rest)
+    in let z : ⊥ = omega (arith, g .slot, e) in absurd z)
     (λ h. h)
 
 pub and-comm : (a b : Bool) → (a && b) ≡ (b && a)
@@ -161,13 +184,20 @@ and-comm false false = refl
 
 both-swap : (p q : Four) → both p q ≡ both q p
 both-swap p q =
-    λ i. record { one = and-comm (p .one) (q .one) i; two = and-comm (p .two) (q .two) i; three = and-comm (p .three) (q .three) i; four = and-comm (p .four) (q .four) i }
+    λ i. record {
+      one = and-comm (p .one) (q .one) i;
+      two = and-comm (p .two) (q .two) i;
+      three = and-comm (p .three) (q .three) i;
+      four = and-comm (p .four) (q .four) i;
+    }
 
-broken : (p : Four) (xs ys : List Index) (out : ℕ) → entriesOk 0 (contentsOf xs) ≡ false → entriesOk 0 (contentsOf ys) ≡ false → saveLists p xs out ≡ saveLists p ys out
+broken : (p : Four) (xs ys : List Index) (out : ℕ) → entriesOk 0 (contentsOf xs) ≡ false
+    → entriesOk 0 (contentsOf ys) ≡ false → saveLists p xs out ≡ saveLists p ys out
 unfolding saveLists
 broken p xs ys out h k =
     rw (h, k)
-    (broken-bits (p .one) (p .two) (p .three) (p .four) (leb (discLength xs) out) (leb (discLength ys) out) (Accepted (discBytes xs)) (Accepted (discBytes ys)))
+    (broken-bits (p .one) (p .two) (p .three) (p .four) (leb (discLength xs) out) (leb (discLength ys) out)
+    (Accepted (discBytes xs)) (Accepted (discBytes ys)))
 
 slots-apart : (x y : Index) → slotOf x < slotOf y → bySlot x y ≡ bySlot y x
 unfolding bySlot
@@ -185,7 +215,8 @@ swap l m x y out =
     ap (λ (r : Four). saveLists r (bySlot x y) out) (both-swap p q)
     ∙ order (slotOf x) (slotOf y) (λ h. ap (λ (xs : List Index). saveLists (both q p) xs out) (slots-apart x y h))
     (λ h. ap (λ (xs : List Index). saveLists (both q p) xs out) (sym (slots-apart y x h)))
-    (λ h. ap (λ (xs : List Index). saveLists (both q p) xs out) (slots-same x y h) ∙ broken (both q p) (y ∷ x ∷ []) (x ∷ y ∷ []) out (equal-slots y x (sym h)) (equal-slots x y h)
+    (λ h. ap (λ (xs : List Index). saveLists (both q p) xs out) (slots-same x y h)
+    ∙ broken (both q p) (y ∷ x ∷ []) (x ∷ y ∷ []) out (equal-slots y x (sym h)) (equal-slots x y h)
     ∙ ap (λ (xs : List Index). saveLists (both q p) xs out) (sym (slots-same y x (sym h))))
 
 pub one-disc-file : OneDiscFile
@@ -193,19 +224,23 @@ one-disc-file =
     record {
       same = same-answer;
       bytes = λ l m l' m' x y x' y' out out' b b' z c z' c' e f s t.
-          let q = same-answer l m l' m' x y x' y' out (first-valid l x m y out b s) (second-valid l x m y out b s) (first-valid l' x' m' y' out' b' t) (second-valid l' x' m' y' out' b' t) z c z' c' e f in
+          let q = same-answer l m l' m' x y x' y' out (first-valid l x m y out b s) (second-valid l x m y out b s)
+          (first-valid l' x' m' y' out' b' t) (second-valid l' x' m' y' out' b' t) z c z' c' e f in
           sym (both-saves l' x' m' y' out b (sym q ∙ s) .is) ∙ both-saves l' x' m' y' out' b' t .is;
       swapped = swap;
     }
 
 -- ---- what is saved loads
-loads-file : (l m : Lengths) (a0 a1 : Area) (limit : ℕ) (xs : List Index) (o0 o1 : Option Index) → Fit xs → slotArea 0 a0 ≡ true → slotArea 1 a1 ≡ true
+loads-file : (l m : Lengths) (a0 a1 : Area) (limit : ℕ) (xs : List Index) (o0 o1 : Option Index) → Fit xs
+    → slotArea 0 a0 ≡ true → slotArea 1 a1 ≡ true
     → loadBody l a0 limit (savedOf 0 xs) ≡ Accepted o0 → loadBody m a1 limit (savedOf 1 xs) ≡ Accepted o1
     → loadDisc l m a0 a1 (discBytes xs) limit ≡ Accepted (disc o0 o1)
 unfolding loadDisc loadBodies
 loads-file l m a0 a1 limit xs o0 o1 f p q h k =
-    →asked (ask (slotArea 0 a0 && slotArea 1 a1) 1 ∷ ask (contentsOk (discBytes xs)) 54 ∷ []) (each-of p q, (table-ok xs f, tt))
-    (→bind _ (ap (loadBody l a0 limit) (body-is xs f 0) ∙ h) (→bind _ (ap (loadBody m a1 limit) (body-is xs f 1) ∙ k) refl))
+    →asked (ask (slotArea 0 a0 && slotArea 1 a1) 1 ∷ ask (contentsOk (discBytes xs)) 54 ∷ [])
+    (each-of p q, (table-ok xs f, tt))
+    (→bind _ (ap (loadBody l a0 limit) (body-is xs f 0) ∙ h)
+    (→bind _ (ap (loadBody m a1 limit) (body-is xs f 1) ∙ k) refl))
 
 body-loads : (l : Lengths) (limit : ℕ) (x : Index) → Savable x → question3 l (limited limit x) ≡ true
     → loadBody l (x .scan .area) limit (some (saved x)) ≡ Accepted (some (limited limit x))
@@ -229,12 +264,19 @@ both-load l m l' m' x y out limit b z w p q e g h =
     let lt : slotOf x < slotOf y = omega arith in
     let xs = x ∷ y ∷ [] in
     let order : bySlot x y ≡ xs = rw (lt-ltb (slotOf x) (slotOf y) lt) in
-    let f : Fit xs = record { few = omega arith; some' = omega arith; slots = one {x = x} (omega arith) (one {x = y} (omega arith) nothing); rising = rw order at (s .rising) } in
+    let f : Fit xs = record {
+      few = omega arith;
+      some' = omega arith;
+      slots = one {x = x} (omega arith) (one {x = y} (omega arith) nothing);
+      rising = rw order at (s .rising);
+    } in
     let t0 : savedOf 0 xs ≡ some (saved x) = rw (eq-eqb (slotOf x) 0 p) in
     let t1 : savedOf 1 xs ≡ some (saved y) = rw (p, eq-eqb (slotOf y) 1 q) refl in
     ap (λ (c : List ℕ). loadDisc l' m' (x .scan .area) (y .scan .area) c limit) (sym (ap discBytes (sym order) ∙ s .is))
-    ∙ loads-file l' m' (x .scan .area) (y .scan .area) limit xs (some (limited limit x)) (some (limited limit y)) f (own-area 0 x (v .one) p) (own-area 1 y (u .one) q)
-    (ap (loadBody l' (x .scan .area) limit) t0 ∙ body-loads l' limit x v g) (ap (loadBody m' (y .scan .area) limit) t1 ∙ body-loads m' limit y u h)
+    ∙ loads-file l' m' (x .scan .area) (y .scan .area) limit xs (some (limited limit x)) (some (limited limit y)) f
+    (own-area 0 x (v .one) p) (own-area 1 y (u .one) q)
+    (ap (loadBody l' (x .scan .area) limit) t0 ∙ body-loads l' limit x v g)
+    (ap (loadBody m' (y .scan .area) limit) t1 ∙ body-loads m' limit y u h)
 
 -- one list alone
 module _ (l : Lengths) (x : Index) (out : ℕ) (b : List ℕ) (e : saveOne l x out ≡ Accepted b) where
@@ -246,7 +288,12 @@ module _ (l : Lengths) (x : Index) (out : ℕ) (b : List ℕ) (e : saveOne l x o
   one-valid = let s = one-saves in record { one = s .one; two = s .two; three = s .three; four = s .four }
 
   one-fit : slotOf x ≤ 1 → Fit (x ∷ [])
-  one-fit h = record { few = omega arith; some' = omega arith; slots = one {x = x} h nothing; rising = one-saves .rising }
+  one-fit h = record {
+    few = omega arith;
+    some' = omega arith;
+    slots = one {x = x} h nothing;
+    rising = one-saves .rising;
+  }
 
 pub one-loads : OneLoads
 unfolding savedOf
@@ -258,23 +305,28 @@ one-loads =
           let t0 : savedOf 0 (x ∷ []) ≡ some (saved x) = rw (eq-eqb (slotOf x) 0 p) in
           let t1 : savedOf 1 (x ∷ []) ≡ none = rw p refl in
           ap (λ (c : List ℕ). loadDisc l' m' (x .scan .area) a c limit) (sym (one-saves l x out b e .is))
-          ∙ loads-file l' m' (x .scan .area) a limit (x ∷ []) (some (limited limit x)) none f (own-area 0 x (v .one) p) k
-          (ap (loadBody l' (x .scan .area) limit) t0 ∙ body-loads l' limit x v g) (ap (loadBody m' a limit) t1 ∙ no-body m' a limit);
+          ∙ loads-file l' m' (x .scan .area) a limit (x ∷ []) (some (limited limit x)) none f
+          (own-area 0 x (v .one) p) k
+          (ap (loadBody l' (x .scan .area) limit) t0 ∙ body-loads l' limit x v g)
+          (ap (loadBody m' a limit) t1 ∙ no-body m' a limit);
       second = λ l l' m' y a out limit b z p k e g.
           let v = savable l y (one-valid l y out b e) z in
           let f = one-fit l y out b e (omega arith) in
           let t0 : savedOf 0 (y ∷ []) ≡ none = rw p refl in
           let t1 : savedOf 1 (y ∷ []) ≡ some (saved y) = rw (eq-eqb (slotOf y) 1 p) in
           ap (λ (c : List ℕ). loadDisc l' m' a (y .scan .area) c limit) (sym (one-saves l y out b e .is))
-          ∙ loads-file l' m' a (y .scan .area) limit (y ∷ []) none (some (limited limit y)) f k (own-area 1 y (v .one) p)
-          (ap (loadBody l' a limit) t0 ∙ no-body l' a limit) (ap (loadBody m' (y .scan .area) limit) t1 ∙ body-loads m' limit y v g);
+          ∙ loads-file l' m' a (y .scan .area) limit (y ∷ []) none (some (limited limit y)) f k
+          (own-area 1 y (v .one) p)
+          (ap (loadBody l' a limit) t0 ∙ no-body l' a limit)
+          (ap (loadBody m' (y .scan .area) limit) t1 ∙ body-loads m' limit y v g);
     }
 
 -- under a limit that drops nothing
 whole : (limit : ℕ) (l : Lengths) (x : Index) → Valid l x → Ample limit x → limited limit x ≡ stripped x
 whole limit l x v a = large-limit limit x (v .four) (a .budget) (a .hints)
 
-whole-room : (limit : ℕ) (l l' : Lengths) (x : Index) → Valid l x → Ample limit x → question3 l' x ≡ true → question3 l' (limited limit x) ≡ true
+whole-room : (limit : ℕ) (l l' : Lengths) (x : Index) → Valid l x → Ample limit x → question3 l' x ≡ true
+    → question3 l' (limited limit x) ≡ true
 unfolding question3
 whole-room limit l l' x v a r = ap (question3 l') (whole limit l x v a) ∙ r
 
@@ -288,10 +340,12 @@ disc-loads =
           ∙ (λ i. Accepted (disc (some (whole limit l x v a i)) (some (whole limit m y u c i))));
       first = λ l l' m' x o out limit b z p k e g a.
           let v = one-valid l x out b e in
-          one-loads .first l l' m' x o out limit b z p k e (whole-room limit l l' x v a g) ∙ (λ i. Accepted (disc (some (whole limit l x v a i)) none));
+          one-loads .first l l' m' x o out limit b z p k e (whole-room limit l l' x v a g)
+          ∙ (λ i. Accepted (disc (some (whole limit l x v a i)) none));
       second = λ l l' m' y o out limit b z p k e g a.
           let v = one-valid l y out b e in
-          one-loads .second l l' m' y o out limit b z p k e (whole-room limit l m' y v a g) ∙ (λ i. Accepted (disc none (some (whole limit l y v a i))));
+          one-loads .second l l' m' y o out limit b z p k e (whole-room limit l m' y v a g)
+          ∙ (λ i. Accepted (disc none (some (whole limit l y v a i))));
     }
 
 -- ---- the bodies of a saved disc file
@@ -311,7 +365,8 @@ other-slot k x xs h = rw (ne-eqb (slotOf x) k (λ z. h (sym z)))
 module _ (x y : Index) (h : entriesOk 0 (contentsOf (x ∷ y ∷ [])) ≡ true) where
   apart : slotOf x < slotOf y
   apart =
-      let f = first→ 0 28 x (y ∷ []) h in let g = first→ (slotOf x + 1) (28 + savedLength x) y [] (f .rest) in omega (arith, g .slot)
+      let f = first→ 0 28 x (y ∷ []) h in let g = first→ (slotOf x + 1) (28 + savedLength x) y [] (f .rest) in omega
+      (arith, g .slot)
 
   second-slot : savedOf (slotOf y) (x ∷ y ∷ []) ≡ some (saved y)
   second-slot = let l = apart in other-slot (slotOf y) x (y ∷ []) (λ z. omega arith) ∙ own-slot y []
@@ -323,14 +378,26 @@ by-slots x y r =
     test (ltb (slotOf x) (slotOf y)) (λ h. rw h (own-slot x (y ∷ []), second-slot x y (rw h at r)))
     (λ h. rw h (second-slot y x (rw h at r), own-slot y (x ∷ [])))
 
-by-slots-fit : (x y : Index) → slotOf x ≤ 1 → slotOf y ≤ 1 → entriesOk 0 (contentsOf (bySlot x y)) ≡ true → Fit (bySlot x y)
+by-slots-fit : (x y : Index) → slotOf x ≤ 1 → slotOf y ≤ 1 → entriesOk 0 (contentsOf (bySlot x y)) ≡ true
+    → Fit (bySlot x y)
 unfolding bySlot
 by-slots-fit x y p q r =
     test (ltb (slotOf x) (slotOf y))
-    (λ h. rw h (record { few = omega arith; some' = omega arith; slots = one {x = x} p (one {x = y} q nothing); rising = rw h at r }))
-    (λ h. rw h (record { few = omega arith; some' = omega arith; slots = one {x = y} q (one {x = x} p nothing); rising = rw h at r }))
+    (λ h. rw h (record {
+      few = omega arith;
+      some' = omega arith;
+      slots = one {x = x} p (one {x = y} q nothing);
+      rising = rw h at r;
+    }))
+    (λ h. rw h (record {
+      few = omega arith;
+      some' = omega arith;
+      slots = one {x = y} q (one {x = x} p nothing);
+      rising = rw h at r;
+    }))
 
-list-file : (l : Lengths) (x : Index) (xs : List Index) (b : List ℕ) → Valid l x → Fit xs → discBytes xs ≡ b → savedOf (slotOf x) xs ≡ some (saved x)
+list-file : (l : Lengths) (x : Index) (xs : List Index) (b : List ℕ) → Valid l x → Fit xs → discBytes xs ≡ b
+    → savedOf (slotOf x) xs ≡ some (saved x)
     → ListFile l x (bodyIn b (slotOf x))
 list-file l x xs b v f e h =
     record {
@@ -351,7 +418,8 @@ saved-bodies =
           (list-file l x (bySlot x y) b v f (s .is) (k .0), list-file m y (bySlot x y) b w f (s .is) (k .1));
       one = λ l x out b e.
           let v = one-valid l x out b e in
-          list-file l x (x ∷ []) b v (one-fit l x out b e (slot-of x (v .one))) (one-saves l x out b e .is) (own-slot x []);
+          list-file l x (x ∷ []) b v (one-fit l x out b e (slot-of x (v .one))) (one-saves l x out b e .is)
+          (own-slot x []);
       other = λ l x out b k e h.
           let f = one-fit l x out b e (slot-of x (one-valid l x out b e .one)) in
           rw (← one-saves l x out b e .is) (body-is (x ∷ []) f k ∙ other-slot k x [] h);
@@ -366,7 +434,8 @@ pub record Opened (l m : Lengths) (a0 a1 : Area) (b : List ℕ) (limit : ℕ) (d
   pub body0 : loadBody l a0 limit (rules.bodyAt b (entryOf 0 (entriesIn b))) ≡ Accepted (d .slot0)
   pub body1 : loadBody m a1 limit (rules.bodyAt b (entryOf 1 (entriesIn b))) ≡ Accepted (d .slot1)
 
-pub opened : (l m : Lengths) (a0 a1 : Area) (b : List ℕ) (limit : ℕ) (d : Disc) → loadDisc l m a0 a1 b limit ≡ Accepted d → Opened l m a0 a1 b limit d
+pub opened : (l m : Lengths) (a0 a1 : Area) (b : List ℕ) (limit : ℕ) (d : Disc) → loadDisc l m a0 a1 b limit
+    ≡ Accepted d → Opened l m a0 a1 b limit d
 unfolding loadDisc loadBodies
 opened l m a0 a1 b limit d e =
     let r = asked→ (ask (slotArea 0 a0 && slotArea 1 a1) 1 ∷ ask (contentsOk b) 54 ∷ []) _ d refl e in
@@ -381,14 +450,16 @@ opened l m a0 a1 b limit d e =
       body1 = rw (← w) (v .first);
     }
 
-body-of : (l : Lengths) (a : Area) (limit : ℕ) (c : List ℕ) (o : Option Index) (t : Option (List ℕ)) → t ≡ some c → loadBody l a limit t ≡ Accepted o → Loads l a c limit o
+body-of : (l : Lengths) (a : Area) (limit : ℕ) (c : List ℕ) (o : Option Index) (t : Option (List ℕ)) → t ≡ some c
+    → loadBody l a limit t ≡ Accepted o → Loads l a c limit o
 unfolding loadBody
 body-of l a limit c o t e h =
     let k : bind (load l a c limit) (λ x. Accepted (some x)) ≡ Accepted o = rw e at h in
     let u = bind→ (load l a c limit) (λ x. Accepted (some x)) o k in
     record { list = u .value; loads = u .first; is = sym (accepted-eq (some (u .value)) o (u .second)) }
 
-no-list : (l : Lengths) (a : Area) (limit : ℕ) (o : Option Index) (t : Option (List ℕ)) → t ≡ none → loadBody l a limit t ≡ Accepted o → o ≡ none
+no-list : (l : Lengths) (a : Area) (limit : ℕ) (o : Option Index) (t : Option (List ℕ)) → t ≡ none
+    → loadBody l a limit t ≡ Accepted o → o ≡ none
 no-list l a limit o t e h = sym (accepted-eq none o (sym (ap (loadBody l a limit) e ∙ no-body l a limit) ∙ h))
 
 pub bodies-load : BodiesLoad

@@ -43,39 +43,57 @@ kinds-passed false r f e = let z : _≡_ {A = ℕ} 0 1 = cc in let y : ⊥ = ome
 
 -- what an accepted load leaves
 module _ (a0 a1 : Area) (b : List ℕ) (limit : ℕ) (t u : Tables) where
-  pub holds-both : (x y : Index) → Savable x → Savable y → loadDisc (roomOf t) (roomOf u) a0 a1 b limit ≡ Accepted (disc (some x) (some y))
+  pub holds-both : (x y : Index) → Savable x → Savable y → loadDisc (roomOf t) (roomOf u) a0 a1 b limit
+      ≡ Accepted (disc (some x) (some y))
       → HoldsBoth (loadDiscIn a0 a1 b limit t u) x y
   unfolding loadDiscIn discOutOf listedFrom tablesWith
   holds-both x y v w e =
-      rw e (record { first = numbersFrom x; second = numbersFrom y; answer = refl; list0 = stands x t v; list1 = stands y u w })
+      rw e (record {
+        first = numbersFrom x;
+        second = numbersFrom y;
+        answer = refl;
+        list0 = stands x t v;
+        list1 = stands y u w;
+      })
 
-  pub holds-first : (x : Index) → Savable x → loadDisc (roomOf t) (roomOf u) a0 a1 b limit ≡ Accepted (disc (some x) none) → HoldsFirst (loadDiscIn a0 a1 b limit t u) x u
+  pub holds-first : (x : Index) → Savable x → loadDisc (roomOf t) (roomOf u) a0 a1 b limit
+      ≡ Accepted (disc (some x) none) → HoldsFirst (loadDiscIn a0 a1 b limit t u) x u
   unfolding loadDiscIn discOutOf listedFrom tablesWith
   holds-first x v e = rw e (record { first = numbersFrom x; answer = refl; list0 = stands x t v; slot1 = refl })
 
-  pub holds-second : (y : Index) → Savable y → loadDisc (roomOf t) (roomOf u) a0 a1 b limit ≡ Accepted (disc none (some y)) → HoldsSecond (loadDiscIn a0 a1 b limit t u) t y
+  pub holds-second : (y : Index) → Savable y → loadDisc (roomOf t) (roomOf u) a0 a1 b limit
+      ≡ Accepted (disc none (some y)) → HoldsSecond (loadDiscIn a0 a1 b limit t u) t y
   unfolding loadDiscIn discOutOf listedFrom tablesWith
   holds-second y w e = rw e (record { second = numbersFrom y; answer = refl; slot0 = refl; list1 = stands y u w })
 
 pub swap-in : (x y : AreaIndex) (t u : Tables) (old : List ℕ) → saveBothIn x t y u old ≡ saveBothIn y u x t old
 unfolding saveBothIn
 swap-in x y t u old =
-    rw (and-comm (kindsIn x t) (kindsIn y u), one-disc-file .swapped (roomOf t) (roomOf u) (indexIn x t) (indexIn y u) (length old))
+    rw (
+      and-comm (kindsIn x t) (kindsIn y u),
+      one-disc-file .swapped (roomOf t) (roomOf u) (indexIn x t)
+          (indexIn y u) (length old),
+    )
 
 -- what was saved can be saved as a file holds it
-pub both-savable : (x y : AreaIndex) (t u : Tables) (old : List ℕ) (k : ℕ) (new : List ℕ) → Typed x → Typed y → TableBytes t → TableBytes u → saveBothIn x t y u old ≡ made (Length k) new
+pub both-savable : (x y : AreaIndex) (t u : Tables) (old : List ℕ) (k : ℕ) (new : List ℕ) → Typed x → Typed y
+    → TableBytes t → TableBytes u → saveBothIn x t y u old ≡ made (Length k) new
     → Savable (stripped (indexIn x t)) × Savable (stripped (indexIn y u))
 unfolding saveBothIn
 both-savable x y t u old k new hx hy bt bu e =
     let i = indexIn x t in
     let j = indexIn y u in
     let w = wrote _ old k new e in
-    let r = kinds-passed (kindsIn x t && kindsIn y u) (saveBoth (roomOf t) i (roomOf u) j (length old)) (w .file) (w .accepted) in (
-      as-saved i (savable (roomOf t) i (first-valid (roomOf t) i (roomOf u) j (length old) (w .file) r) (sized-in x t hx bt)),
-      as-saved j (savable (roomOf u) j (second-valid (roomOf t) i (roomOf u) j (length old) (w .file) r) (sized-in y u hy bu)),
+    let r = kinds-passed (kindsIn x t && kindsIn y u) (saveBoth (roomOf t) i (roomOf u) j (length old)) (w .file)
+    (w .accepted) in (
+      as-saved i (savable (roomOf t) i (first-valid (roomOf t) i (roomOf u) j (length old) (w .file) r)
+          (sized-in x t hx bt)),
+      as-saved j (savable (roomOf u) j (second-valid (roomOf t) i (roomOf u) j (length old) (w .file) r)
+          (sized-in y u hy bu)),
     )
 
-pub one-savable : (x : AreaIndex) (t : Tables) (old : List ℕ) (k : ℕ) (new : List ℕ) → Typed x → TableBytes t → saveOneIn x t old ≡ made (Length k) new → Savable (stripped (indexIn x t))
+pub one-savable : (x : AreaIndex) (t : Tables) (old : List ℕ) (k : ℕ) (new : List ℕ) → Typed x → TableBytes t
+    → saveOneIn x t old ≡ made (Length k) new → Savable (stripped (indexIn x t))
 unfolding saveOneIn
 one-savable x t old k new hx bt e =
     let i = indexIn x t in
@@ -91,26 +109,31 @@ saved-disc-loads-in =
           let i = indexIn x t in
           let j = indexIn y u in
           let w = wrote _ old k new e in
-          let r = kinds-passed (kindsIn x t && kindsIn y u) (saveBoth (roomOf t) i (roomOf u) j (length old)) (w .file) (w .accepted) in
+          let r = kinds-passed (kindsIn x t && kindsIn y u) (saveBoth (roomOf t) i (roomOf u) j (length old))
+          (w .file) (w .accepted) in
           let zx = sized-in x t hx bt in
           let zy = sized-in y u hy bu in
           let v = both-savable x y t u old k new hx hy bt bu e in
-          let d = disc-loads .both (roomOf t) (roomOf u) (roomOf t') (roomOf u') i j (length old) limit (w .file) zx zy p q r g h a c in
-          rw (w .bytes) (holds-both (x .area) (y .area) (w .file) limit t' u' (stripped i) (stripped j) (v .0) (v .1) d);
+          let d = disc-loads .both (roomOf t) (roomOf u) (roomOf t') (roomOf u') i j (length old) limit (w .file) zx
+          zy p q r g h a c in
+          rw (w .bytes) (holds-both (x .area) (y .area) (w .file) limit t' u' (stripped i) (stripped j) (v .0) (v .1)
+          d);
       first = λ x t o old k new limit t' u' hx bt p q e g a.
           let i = indexIn x t in
           let w = wrote _ old k new e in
           let r = kinds-passed (kindsIn x t) (saveOne (roomOf t) i (length old)) (w .file) (w .accepted) in
           let z = sized-in x t hx bt in
           let d = disc-loads .first (roomOf t) (roomOf t') (roomOf u') i o (length old) limit (w .file) z p q r g a in
-          rw (w .bytes) (holds-first (x .area) o (w .file) limit t' u' (stripped i) (one-savable x t old k new hx bt e) d);
+          rw (w .bytes) (holds-first (x .area) o (w .file) limit t' u' (stripped i)
+          (one-savable x t old k new hx bt e) d);
       second = λ y u o old k new limit t' u' hy bu p q e g a.
           let j = indexIn y u in
           let w = wrote _ old k new e in
           let r = kinds-passed (kindsIn y u) (saveOne (roomOf u) j (length old)) (w .file) (w .accepted) in
           let z = sized-in y u hy bu in
           let d = disc-loads .second (roomOf u) (roomOf t') (roomOf u') j o (length old) limit (w .file) z p q r g a in
-          rw (w .bytes) (holds-second o (y .area) (w .file) limit t' u' (stripped j) (one-savable y u old k new hy bu e) d);
+          rw (w .bytes) (holds-second o (y .area) (w .file) limit t' u' (stripped j)
+          (one-savable y u old k new hy bu e) d);
       swapped = swap-in;
     }
 
@@ -124,7 +147,8 @@ pub record Placed (t u : Tables) (r : Answer Disc) (p q : Listed) (t' u' : Table
   pub tables0 : tablesWith (lists .slot0) t ≡ t'
   pub tables1 : tablesWith (lists .slot1) u ≡ u'
 
-pub placed : (t u : Tables) (r : Answer Disc) (p q : Listed) (t' u' : Tables) → discOutOf t u r ≡ discOut (loaded.Lists p q) t' u' → Placed t u r p q t' u'
+pub placed : (t u : Tables) (r : Answer Disc) (p q : Listed) (t' u' : Tables) → discOutOf t u r
+    ≡ discOut (loaded.Lists p q) t' u' → Placed t u r p q t' u'
 unfolding discOutOf
 placed t u (Refused n) p q t' u' e =
     let a = ap (λ (o : DiscOut). o .answer) e in
@@ -132,8 +156,16 @@ placed t u (Refused n) p q t' u' e =
     let f : ⊥ = omega arith in
     absurd f
 placed t u (Accepted d) p q t' u' e =
-    let a : loaded.Lists (listedFrom (d .slot0)) (listedFrom (d .slot1)) ≡ loaded.Lists p q = ap (λ (o : DiscOut). o .answer) e in
-    record { lists = d; accepted = refl; answer0 = cc; answer1 = cc; tables0 = ap (λ (o : DiscOut). o .slot0) e; tables1 = ap (λ (o : DiscOut). o .slot1) e }
+    let a : loaded.Lists (listedFrom (d .slot0)) (listedFrom (d .slot1))
+    ≡ loaded.Lists p q = ap (λ (o : DiscOut). o .answer) e in
+    record {
+      lists = d;
+      accepted = refl;
+      answer0 = cc;
+      answer1 = cc;
+      tables0 = ap (λ (o : DiscOut). o .slot0) e;
+      tables1 = ap (λ (o : DiscOut). o .slot1) e;
+    }
 
 -- in one slot
 pub record InSlot (t : Tables) (o : Option Index) (x : AreaIndex) (t' : Tables) : Type 0 where
@@ -142,7 +174,8 @@ pub record InSlot (t : Tables) (o : Option Index) (x : AreaIndex) (t' : Tables) 
   pub numbers : numbersFrom list ≡ x
   pub tables : tablesFrom list t ≡ t'
 
-pub in-slot : (t : Tables) (o : Option Index) (x : AreaIndex) (t' : Tables) → listedFrom o ≡ listed.Index x → tablesWith o t ≡ t' → InSlot t o x t'
+pub in-slot : (t : Tables) (o : Option Index) (x : AreaIndex) (t' : Tables) → listedFrom o ≡ listed.Index x
+    → tablesWith o t ≡ t' → InSlot t o x t'
 unfolding listedFrom tablesWith
 in-slot t none x t' e h = let z : _≡_ {A = ℕ} 0 1 = cc in let f : ⊥ = omega arith in absurd f
 in-slot t (some y) x t' e h = record { list = y; is = refl; numbers = cc; tables = h }
@@ -153,28 +186,36 @@ empty-slot none e = refl
 empty-slot (some y) e = let z : _≡_ {A = ℕ} 0 1 = cc in let f : ⊥ = omega arith in absurd f
 
 -- the lists of an accepted disc file may be saved
-module _ (l m : Lengths) (a0 a1 : Area) (b : List ℕ) (limit : ℕ) (d : Disc) (g : Bytes b) (w : WholeDisc a0 a1 b limit) (e : loadDisc l m a0 a1 b limit ≡ Accepted d) where
+module _ (l m : Lengths) (a0 a1 : Area) (b : List ℕ) (limit : ℕ) (d : Disc) (g : Bytes b)
+    (w : WholeDisc a0 a1 b limit) (e : loadDisc l m a0 a1 b limit ≡ Accepted d) where
   savable0 : (x : Index) → d .slot0 ≡ some x → Savable x
   savable0 x i =
       let o = opened l m a0 a1 b limit d e in
-      list-kept l a0 b limit x g (entryOf 0 (entriesIn b)) (w .0) (named l a0 b limit (entryOf 0 (entriesIn b)) x (o .body0 ∙ ap (λ (z : Option Index). Accepted z) i)) .savable
+      list-kept l a0 b limit x g (entryOf 0 (entriesIn b)) (w .0)
+      (named l a0 b limit (entryOf 0 (entriesIn b)) x (o .body0 ∙ ap (λ (z : Option Index). Accepted z) i))
+      .savable
 
   savable1 : (y : Index) → d .slot1 ≡ some y → Savable y
   savable1 y i =
       let o = opened l m a0 a1 b limit d e in
-      list-kept m a1 b limit y g (entryOf 1 (entriesIn b)) (w .1) (named m a1 b limit (entryOf 1 (entriesIn b)) y (o .body1 ∙ ap (λ (z : Option Index). Accepted z) i)) .savable
+      list-kept m a1 b limit y g (entryOf 1 (entriesIn b)) (w .1)
+      (named m a1 b limit (entryOf 1 (entriesIn b)) y (o .body1 ∙ ap (λ (z : Option Index). Accepted z) i))
+      .savable
 
 -- lists in their tables, saved
-one-saves-in : (x : Index) (t : Tables) (old b : List ℕ) → Savable x → question3 (roomOf t) x ≡ true → saveOne (roomOf t) x (length old) ≡ Accepted b
+one-saves-in : (x : Index) (t : Tables) (old b : List ℕ) → Savable x → question3 (roomOf t) x ≡ true
+    → saveOne (roomOf t) x (length old) ≡ Accepted b
     → saveOneIn (numbersFrom x) (tablesFrom x t) old ≡ made (Length (length b)) (over b old)
 unfolding saveOneIn saveOut kinded
 one-saves-in x t old b v r e =
     let w = within x t (facts x v) r in
     rw (stands x t v, room-from x t w, kinds-from x t v, e)
 
-both-save-in : (x y : Index) (t u : Tables) (old b : List ℕ) → Savable x → Savable y → question3 (roomOf t) x ≡ true → question3 (roomOf u) y ≡ true
+both-save-in : (x y : Index) (t u : Tables) (old b : List ℕ) → Savable x → Savable y → question3 (roomOf t) x ≡ true
+    → question3 (roomOf u) y ≡ true
     → saveBoth (roomOf t) x (roomOf u) y (length old) ≡ Accepted b
-    → saveBothIn (numbersFrom x) (tablesFrom x t) (numbersFrom y) (tablesFrom y u) old ≡ made (Length (length b)) (over b old)
+    → saveBothIn (numbersFrom x) (tablesFrom x t) (numbersFrom y) (tablesFrom y u) old
+    ≡ made (Length (length b)) (over b old)
 unfolding saveBothIn saveOut kinded
 both-save-in x y t u old b v z r s e =
     let w = within x t (facts x v) r in
@@ -189,27 +230,35 @@ loaded-disc-saves-in =
           let p = placed t u (loadDisc (roomOf t) (roomOf u) a0 a1 b limit) (listed.Index x) (listed.Index y) t' u' e in
           let i = in-slot t (p .lists .slot0) x t' (p .answer0) (p .tables0) in
           let j = in-slot u (p .lists .slot1) y u' (p .answer1) (p .tables1) in
-          let d : loadDisc (roomOf t) (roomOf u) a0 a1 b limit ≡ Accepted (disc (some (i .list)) (some (j .list))) = p .accepted ∙ (λ k. Accepted (disc (i .is k) (j .is k))) in
+          let d : loadDisc (roomOf t) (roomOf u) a0 a1 b limit
+          ≡ Accepted (disc (some (i .list)) (some (j .list))) = p .accepted
+          ∙ (λ k. Accepted (disc (i .is k) (j .is k))) in
           let s = disc-saves .both (roomOf t) (roomOf u) a0 a1 b limit (length old) (i .list) (j .list) g w d n in
           let v = first-valid (roomOf t) (i .list) (roomOf u) (j .list) (length old) b s in
           let z = second-valid (roomOf t) (i .list) (roomOf u) (j .list) (length old) b s in
           sym (λ k. saveBothIn (i .numbers k) (i .tables k) (j .numbers k) (j .tables k) old)
-          ∙ both-save-in (i .list) (j .list) t u old b (savable0 (roomOf t) (roomOf u) a0 a1 b limit (p .lists) g w (p .accepted) (i .list) (i .is))
-          (savable1 (roomOf t) (roomOf u) a0 a1 b limit (p .lists) g w (p .accepted) (j .list) (j .is)) (v .three) (z .three) s;
+          ∙ both-save-in (i .list) (j .list) t u old b
+          (savable0 (roomOf t) (roomOf u) a0 a1 b limit (p .lists) g w (p .accepted) (i .list) (i .is))
+          (savable1 (roomOf t) (roomOf u) a0 a1 b limit (p .lists) g w (p .accepted) (j .list) (j .is)) (v .three)
+          (z .three) s;
       first = λ a0 a1 b limit t u x t' u' old g w e n.
           let p = placed t u (loadDisc (roomOf t) (roomOf u) a0 a1 b limit) (listed.Index x) listed.Absent t' u' e in
           let i = in-slot t (p .lists .slot0) x t' (p .answer0) (p .tables0) in
           let j = empty-slot (p .lists .slot1) (p .answer1) in
-          let d : loadDisc (roomOf t) (roomOf u) a0 a1 b limit ≡ Accepted (disc (some (i .list)) none) = p .accepted ∙ (λ k. Accepted (disc (i .is k) (j k))) in
+          let d : loadDisc (roomOf t) (roomOf u) a0 a1 b limit ≡ Accepted (disc (some (i .list)) none) = p .accepted
+          ∙ (λ k. Accepted (disc (i .is k) (j k))) in
           let s = disc-saves .first (roomOf t) (roomOf u) a0 a1 b limit (length old) (i .list) g w d n in
           sym (λ k. saveOneIn (i .numbers k) (i .tables k) old)
-          ∙ one-saves-in (i .list) t old b (savable0 (roomOf t) (roomOf u) a0 a1 b limit (p .lists) g w (p .accepted) (i .list) (i .is)) (one-valid (roomOf t) (i .list) (length old) b s .three) s;
+          ∙ one-saves-in (i .list) t old b (savable0 (roomOf t) (roomOf u) a0 a1 b limit (p .lists) g w (p .accepted)
+          (i .list) (i .is)) (one-valid (roomOf t) (i .list) (length old) b s .three) s;
       second = λ a0 a1 b limit t u y t' u' old g w e n.
           let p = placed t u (loadDisc (roomOf t) (roomOf u) a0 a1 b limit) listed.Absent (listed.Index y) t' u' e in
           let i = empty-slot (p .lists .slot0) (p .answer0) in
           let j = in-slot u (p .lists .slot1) y u' (p .answer1) (p .tables1) in
-          let d : loadDisc (roomOf t) (roomOf u) a0 a1 b limit ≡ Accepted (disc none (some (j .list))) = p .accepted ∙ (λ k. Accepted (disc (i k) (j .is k))) in
+          let d : loadDisc (roomOf t) (roomOf u) a0 a1 b limit ≡ Accepted (disc none (some (j .list))) = p .accepted
+          ∙ (λ k. Accepted (disc (i k) (j .is k))) in
           let s = disc-saves .second (roomOf t) (roomOf u) a0 a1 b limit (length old) (j .list) g w d n in
           sym (λ k. saveOneIn (j .numbers k) (j .tables k) old)
-          ∙ one-saves-in (j .list) u old b (savable1 (roomOf t) (roomOf u) a0 a1 b limit (p .lists) g w (p .accepted) (j .list) (j .is)) (one-valid (roomOf u) (j .list) (length old) b s .three) s;
+          ∙ one-saves-in (j .list) u old b (savable1 (roomOf t) (roomOf u) a0 a1 b limit (p .lists) g w (p .accepted)
+          (j .list) (j .is)) (one-valid (roomOf u) (j .list) (length old) b s .three) s;
     }

@@ -41,10 +41,14 @@ refused-told m n h g =
     ((λ e. let q : m ≡ n = cc in (omega arith, omega arith)), (λ e. let z : _≡_ {A = ℕ} 0 1 = cc in omega arith))
 
 length-told : (m n : ℕ) → 104 ≤ m → DiscTold (told.Length m) n
-length-told m n l = ((λ e. let z : _≡_ {A = ℕ} 0 1 = cc in (omega arith, omega arith)), (λ e. let q : m ≡ n = cc in omega (arith, l)))
+length-told m n l = (
+  (λ e. let z : _≡_ {A = ℕ} 0 1 = cc in (omega arith, omega arith)),
+  (λ e. let q : m ≡ n = cc in omega (arith, l)),
+)
 
 told-by : (k a b c d e f : Bool) (bytes : List ℕ) → 104 ≤ length bytes → (out : List ℕ) (n : ℕ)
-    → DiscTold (saveOut (kinded k (after (firstNo (ask a 1 ∷ ask b 2 ∷ ask c 3 ∷ ask d 4 ∷ ask e 54 ∷ ask f 40 ∷ [])) (Accepted bytes))) out .answer) n
+    → DiscTold (saveOut (kinded k (after (firstNo (ask a 1 ∷ ask b 2 ∷ ask c 3 ∷ ask d 4 ∷ ask e 54 ∷ ask f 40 ∷ []))
+    (Accepted bytes))) out .answer) n
 unfolding saveOut kinded after firstNo orFour numberOf
 told-by true false b c d e f bytes l out n = refused-told 1 n (omega arith) (omega arith)
 told-by true true false c d e f bytes l out n = refused-told 2 n (omega arith) (omega arith)
@@ -66,22 +70,26 @@ unfolding saveOneIn saveBothIn saveOne saveBoth saveLists
 disc-save-number =
     record {
       one = λ x t out n. told-by _ _ _ _ _ _ _ (discBytes (indexIn x t ∷ [])) (one-least (indexIn x t)) out n;
-      both = λ x t y u out n. told-by _ _ _ _ _ _ _ (discBytes (bySlot (indexIn x t) (indexIn y u))) (by-slot-least (indexIn x t) (indexIn y u)) out n;
+      both = λ x t y u out n. told-by _ _ _ _ _ _ _ (discBytes (bySlot (indexIn x t) (indexIn y u)))
+          (by-slot-least (indexIn x t) (indexIn y u)) out n;
     }
 
 -- ---- the length
-saved-as : (xs : List Index) (out : List ℕ) → lengthOf xs ≤ length out → savedNumber (savedAs xs out .answer) ≡ lengthOf xs
+saved-as : (xs : List Index) (out : List ℕ) → lengthOf xs ≤ length out → savedNumber (savedAs xs out .answer)
+    ≡ lengthOf xs
 unfolding savedAs lengthOf firstNo after saveOut savedNumber
 saved-as xs out h =
     test (entriesOk 0 (contentsOf xs))
-    (λ g. let l : discLength xs ≤ length out = rw g at h in rw (g, le-leb (discLength xs) (length out) l) (disc-length xs))
+    (λ g. let l : discLength xs ≤ length out = rw g at h in rw (g, le-leb (discLength xs) (length out) l)
+    (disc-length xs))
     (λ g. rw g)
 
 number-of : {s s' : SaveOut} → s ≡ s' → savedNumber (s .answer) ≡ savedNumber (s' .answer)
 number-of e = ap (λ (o : SaveOut). savedNumber (o .answer)) e
 
 -- n is the number of 1 to 4, s what saving answers
-after-four : (n : ℕ) (xs : List Index) (out : List ℕ) (s : SaveOut) → ((n ≡ 0 → ⊥) → savedNumber (s .answer) ≡ n) → (n ≡ 0 → s ≡ savedAs xs out)
+after-four : (n : ℕ) (xs : List Index) (out : List ℕ) (s : SaveOut) → ((n ≡ 0 → ⊥) → savedNumber (s .answer) ≡ n)
+    → (n ≡ 0 → s ≡ savedAs xs out)
     → lengthAfter n xs ≤ length out → savedNumber (s .answer) ≡ lengthAfter n xs
 unfolding lengthAfter
 after-four n xs out s f g h =
@@ -98,8 +106,11 @@ unfolding oneLength bothLength
 disc-length-told =
     record {
       one = λ x t out h.
-          after-four (refusal x t) (indexIn x t ∷ []) out (saveOneIn x t out) (λ z. refused-is (one-refused x t out refl z)) (λ z. sym (one-saved x t out refl z refl)) h;
+          after-four (refusal x t) (indexIn x t ∷ []) out (saveOneIn x t out)
+          (λ z. refused-is (one-refused x t out refl z)) (λ z. sym (one-saved x t out refl z refl)) h;
       both = λ x t y u out h.
-          after-four (lowest (refusal x t) (refusal y u)) (bySlot (indexIn x t) (indexIn y u)) out (saveBothIn x t y u out)
-          (λ z. refused-is (both-refused x t y u out refl refl refl z)) (λ z. sym (both-saved x t y u out refl refl refl z refl)) h;
+          after-four (lowest (refusal x t) (refusal y u)) (bySlot (indexIn x t) (indexIn y u)) out
+          (saveBothIn x t y u out)
+          (λ z. refused-is (both-refused x t y u out refl refl refl z))
+          (λ z. sym (both-saved x t y u out refl refl refl z refl)) h;
     }

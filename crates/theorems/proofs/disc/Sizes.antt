@@ -25,20 +25,24 @@ pub record Listed (r : Answer (Option Index)) : Type 0 where
   pub list : Option Index
   pub is : r ≡ Accepted list
 
-file-fits : (a : Area) (b : List ℕ) (limit : ℕ) (t : Tables) (s : TableSizes) → fileSizes a b limit ≡ Accepted s → hasSizes s t ≡ true
+file-fits : (a : Area) (b : List ℕ) (limit : ℕ) (t : Tables) (s : TableSizes) → fileSizes a b limit ≡ Accepted s
+    → hasSizes s t ≡ true
     → Listed (loadBody (roomOf t) a limit (some b))
 unfolding fileSizes loadWithout3 loadBody
 file-fits a b limit t s e h =
-    let r = asked→ (ask (areaOk a) 1 ∷ []) (bind (fromBytes a b) (λ x. Accepted (sizesFor (limited limit x)))) s refl e in
+    let r = asked→ (ask (areaOk a) 1 ∷ []) (bind (fromBytes a b) (λ x. Accepted (sizesFor (limited limit x)))) s refl
+    e in
     let u = bind→ (fromBytes a b) (λ x. Accepted (sizesFor (limited limit x))) s (r .1) in
-    let w : loadWithout3 a b limit ≡ Accepted (limited limit (u .value)) = →asked (ask (areaOk a) 1 ∷ []) (r .0) (→bind _ (u .first) refl) in
+    let w : loadWithout3 a b limit ≡ Accepted (limited limit (u .value)) = →asked (ask (areaOk a) 1 ∷ []) (r .0)
+    (→bind _ (u .first) refl) in
     record { list = some (limited limit (u .value)); is = →bind _ (load-fits a b limit t s e h ∙ w) refl }
 
 -- ---- answers that refuse
 not-refused : {A B : Type 0} {x : A} {n : ℕ} → _≡_ {A = Answer A} (Accepted x) (Refused n) → B
 not-refused e = let z : _≡_ {A = ℕ} 0 1 = cc in let f : ⊥ = omega arith in absurd f
 
-same-number : {A B : Type 0} {m n : ℕ} → _≡_ {A = Answer A} (Refused m) (Refused n) → _≡_ {A = Answer B} (Refused m) (Refused n)
+same-number : {A B : Type 0} {m n : ℕ} → _≡_ {A = Answer A} (Refused m) (Refused n)
+    → _≡_ {A = Answer B} (Refused m) (Refused n)
 same-number {A} {B} {m} {n} e = let q : m ≡ n = cc in rw q
 
 -- a bound answer that refuses: the first does, or what is made of its value
@@ -50,7 +54,8 @@ bind-refused (Accepted v) f e first later = later v refl e
 
 -- ---- the body of a slot
 module _ (a : Area) (limit : ℕ) (t : Tables) where
-  body-fits : (o : Option (List ℕ)) (s : Option TableSizes) → bodySizes a limit o ≡ Accepted s → hasSlot s t ≡ true → Listed (loadBody (roomOf t) a limit o)
+  body-fits : (o : Option (List ℕ)) (s : Option TableSizes) → bodySizes a limit o ≡ Accepted s → hasSlot s t ≡ true
+      → Listed (loadBody (roomOf t) a limit o)
   unfolding bodySizes loadBody hasSlot
   body-fits none s e h = record { list = none; is = refl }
   body-fits (some b) s e h =
@@ -58,11 +63,13 @@ module _ (a : Area) (limit : ℕ) (t : Tables) where
       let w : s ≡ some (u .value) = sym (accepted-eq (some (u .value)) s (u .second)) in
       file-fits a b limit t (u .value) (u .first) (rw w at h)
 
-  body-refused : (o : Option (List ℕ)) {n : ℕ} → bodySizes a limit o ≡ Refused n → loadBody (roomOf t) a limit o ≡ Refused n
+  body-refused : (o : Option (List ℕ)) {n : ℕ} → bodySizes a limit o ≡ Refused n → loadBody (roomOf t) a limit o
+      ≡ Refused n
   unfolding bodySizes loadBody
   body-refused none e = not-refused e
   body-refused (some b) {n} e =
-      bind-refused (fileSizes a b limit) (λ x. Accepted (some x)) e (λ h. refused-bind _ _ (load-refused a b limit n t h)) (λ v h k. not-refused k)
+      bind-refused (fileSizes a b limit) (λ x. Accepted (some x)) e
+      (λ h. refused-bind _ _ (load-refused a b limit n t h)) (λ v h k. not-refused k)
 
 -- ---- the file
 -- 1 and 54 refuse alike
@@ -80,7 +87,8 @@ module _ (a0 a1 : Area) (b : List ℕ) (limit : ℕ) (t u : Tables) where
   abbrev second : Option (List ℕ)
   second = bodyAt b (entryOf 1 (entriesIn b))
 
-  disc-fits : (d : DiscSizes) → discSizes a0 a1 b limit ≡ Accepted d → hasSlot (d .slot0) t ≡ true → hasSlot (d .slot1) u ≡ true
+  disc-fits : (d : DiscSizes) → discSizes a0 a1 b limit ≡ Accepted d → hasSlot (d .slot0) t ≡ true
+      → hasSlot (d .slot1) u ≡ true
       → LoadsInTables a0 a1 b limit t u
   unfolding discSizes bothSizes loadDisc loadBodies
   disc-fits d e h k =
@@ -92,10 +100,12 @@ module _ (a0 a1 : Area) (b : List ℕ) (limit : ℕ) (t u : Tables) where
       let y = body-fits a1 limit u second (w .value) (w .first) (ap (λ (z : DiscSizes). hasSlot (z .slot1) u) q ∙ k) in
       record {
         lists = record { slot0 = x .list; slot1 = y .list };
-        loads = →asked (ask (slotArea 0 a0 && slotArea 1 a1) 1 ∷ ask (contentsOk b) 54 ∷ []) (r .0) (→bind _ (x .is) (→bind _ (y .is) refl));
+        loads = →asked (ask (slotArea 0 a0 && slotArea 1 a1) 1 ∷ ask (contentsOk b) 54 ∷ []) (r .0)
+            (→bind _ (x .is) (→bind _ (y .is) refl));
       }
 
-  disc-refused : (n : ℕ) → discSizes a0 a1 b limit ≡ Refused n → ((s : Option TableSizes) → bodySizes a0 limit first ≡ Accepted s → hasSlot s t ≡ true)
+  disc-refused : (n : ℕ) → discSizes a0 a1 b limit ≡ Refused n
+      → ((s : Option TableSizes) → bodySizes a0 limit first ≡ Accepted s → hasSlot s t ≡ true)
       → loadDisc (roomOf t) (roomOf u) a0 a1 b limit ≡ Refused n
   unfolding discSizes bothSizes loadDisc loadBodies
   disc-refused n e h =
@@ -104,7 +114,8 @@ module _ (a0 a1 : Area) (b : List ℕ) (limit : ℕ) (t u : Tables) where
       bind-refused (bodySizes a0 limit first) _ z (λ g. refused-bind _ _ (body-refused a0 limit t first g))
       (λ v g w.
       bind-refused (bodySizes a1 limit second) _ w
-      (λ k. let x = body-fits a0 limit t first v g (h v g) in →bind _ (x .is) (refused-bind _ _ (body-refused a1 limit u second k))) (λ s k j. not-refused j)))
+      (λ k. let x = body-fits a0 limit t first v g (h v g) in →bind _ (x .is)
+      (refused-bind _ _ (body-refused a1 limit u second k))) (λ s k j. not-refused j)))
       e
 
 pub disc-sizes-told : DiscSizesTold

@@ -30,7 +30,8 @@ EntryFits e = FieldsFit (4 ∷ 4 ∷ 4 ∷ []) (e .slot ∷ e .offset ∷ e .len
 pub entry-layout : Layout 12 decodeEntry encodeEntry EntryFits
 unfolding decodeEntry encodeEntry
 entry-layout =
-    of-fields (4 ∷ 4 ∷ 4 ∷ []) (λ e. e .slot ∷ e .offset ∷ e .len ∷ []) (λ v. entry (getD v 0 0) (getD v 1 0) (getD v 2 0))
+    of-fields (4 ∷ 4 ∷ 4 ∷ []) (λ e. e .slot ∷ e .offset ∷ e .len ∷ [])
+    (λ v. entry (getD v 0 0) (getD v 1 0) (getD v 2 0))
     (λ b. refl) (λ e. simp append-nil) (λ e. refl)
 
 -- ---- lists that are saved: slots 0 or 1, rising, and everything in four bytes
@@ -51,27 +52,42 @@ module _ (s at : ℕ) (x : Index) (xs : List Index) where
   unfolding entriesOk entriesFrom
   first→ h =
       let g = all→ _ h in
-      record { slot = leb-true s (slotOf x) (g .0); offset = leb-true at max32 (g .1 .0); len = leb-true (savedLength x) max32 (g .1 .1 .0); rest = g .1 .1 .1 .0 }
+      record {
+        slot = leb-true s (slotOf x) (g .0);
+        offset = leb-true at max32 (g .1 .0);
+        len = leb-true (savedLength x) max32 (g .1 .1 .0);
+        rest = g .1 .1 .1 .0;
+      }
 
-entries-fit : (s at : ℕ) {xs : List Index} → Each (λ x. slotOf x ≤ 1) xs → entriesOk s (entriesFrom at xs) ≡ true → Each EntryFits (entriesFrom at xs)
+entries-fit : (s at : ℕ) {xs : List Index} → Each (λ x. slotOf x ≤ 1) xs → entriesOk s (entriesFrom at xs) ≡ true
+    → Each EntryFits (entriesFrom at xs)
 unfolding entriesFrom
 entries-fit s at nothing h = nothing
 entries-fit s at (one {x = x} {xs = xs} p ps) h =
     let f = first→ s at x xs h in
-    one {x = entry (slotOf x) at (savedLength x)} (omega (arith, p), (omega (arith, f .offset), (omega (arith, f .len), tt))) (entries-fit (slotOf x + 1) (at + savedLength x) ps (f .rest))
+    one {x = entry (slotOf x) at (savedLength x)}
+    (omega (arith, p), (omega (arith, f .offset), (omega (arith, f .len), tt)))
+    (entries-fit (slotOf x + 1) (at + savedLength x) ps (f .rest))
 
 entries-length : (at : ℕ) (xs : List Index) → length (entriesFrom at xs) ≡ length xs
 unfolding entriesFrom
 entries-length at [] = refl
 entries-length at (x ∷ xs) = ap suc (entries-length (at + savedLength x) xs)
 
-laid-of : (size s at : ℕ) {xs : List Index} → Each (λ x. slotOf x ≤ 1) xs → entriesOk s (entriesFrom at xs) ≡ true → at + bodiesLength xs ≡ size
+laid-of : (size s at : ℕ) {xs : List Index} → Each (λ x. slotOf x ≤ 1) xs → entriesOk s (entriesFrom at xs) ≡ true
+    → at + bodiesLength xs ≡ size
     → laid size s at (entriesFrom at xs) ≡ true
 unfolding laid entriesFrom bodiesLength
 laid-of size s at nothing h e = eq-eqb at size (sym (add-zero at) ∙ e)
 laid-of size s at (one {x = x} {xs = xs} p ps) h e =
     let f = first→ s at x xs h in
-    →all _ (le-leb s (slotOf x) (f .slot), (le-leb (slotOf x) 1 p, (eq-eqb at at refl, (laid-of size (slotOf x + 1) (at + savedLength x) ps (f .rest) (omega arith), tt))))
+    →all _ (
+      le-leb s (slotOf x) (f .slot),
+      (
+        le-leb (slotOf x) 1 p,
+        (eq-eqb at at refl, (laid-of size (slotOf x + 1) (at + savedLength x) ps (f .rest) (omega arith), tt)),
+      ),
+    )
 
 bodies-length : (xs : List Index) → length (bytesOf saved xs) ≡ bodiesLength xs
 unfolding bytesOf bodiesLength
@@ -88,25 +104,32 @@ module _ (xs : List Index) where
 
   table-length : length (head ++ table) ≡ tableSize (length xs)
   table-length =
-      length-append head table ∙ rw (encode-length 4 (length xs), bytesOf-length entry-layout (contentsOf xs), entries-length (tableSize (length xs)) xs) (omega arith)
+      length-append head table ∙ rw (
+        encode-length 4 (length xs),
+        bytesOf-length entry-layout (contentsOf xs),
+        entries-length (tableSize (length xs)) xs,
+      ) (omega arith)
 
   pub disc-length : length (discBytes xs) ≡ discLength xs
   unfolding discBytes discLength
   disc-length =
-      ap length (sym (append-assoc head table (bytesOf saved xs))) ∙ length-append (head ++ table) (bytesOf saved xs) ∙ rw (table-length, bodies-length xs)
+      ap length (sym (append-assoc head table (bytesOf saved xs))) ∙ length-append (head ++ table) (bytesOf saved xs)
+      ∙ rw (table-length, bodies-length xs)
 
 -- ---- the table read back
 module _ (xs : List Index) (f : Fit xs) where
   count-is : countIn (discBytes xs) ≡ length xs
   unfolding discBytes numberAt
   count-is =
-      ap decode (take-at (encode 4 (length xs)) _ 4 (encode-length 4 (length xs))) ∙ decode-encode 4 (length xs) (let l = f .few in omega arith)
+      ap decode (take-at (encode 4 (length xs)) _ 4 (encode-length 4 (length xs)))
+      ∙ decode-encode 4 (length xs) (let l = f .few in omega arith)
 
   entries-are : entriesIn (discBytes xs) ≡ contentsOf xs
   unfolding discBytes
   entries-are =
       rw (count-is, drop-at (encode 4 (length xs)) (table xs ++ bytesOf saved xs) 4 (encode-length 4 (length xs)))
-      (ap (λ (n : ℕ). records 12 decodeEntry n (table xs ++ bytesOf saved xs)) (sym (entries-length (tableSize (length xs)) xs))
+      (ap (λ (n : ℕ). records 12 decodeEntry n (table xs ++ bytesOf saved xs))
+      (sym (entries-length (tableSize (length xs)) xs))
       ∙ records-bytes entry-layout (bytesOf saved xs) (entries-fit 0 (tableSize (length xs)) (f .slots) (f .rising)))
 
   pub table-ok : contentsOk (discBytes xs) ≡ true
@@ -114,7 +137,16 @@ module _ (xs : List Index) (f : Fit xs) where
   table-ok =
       let d = disc-length xs in
       rw (entries-are, count-is)
-      (→all _ (le-leb 1 (length xs) (f .some'), (le-leb (length xs) 2 (f .few), (le-leb (tableSize (length xs)) (length (discBytes xs)) (omega arith), (laid-of (length (discBytes xs)) 0 (tableSize (length xs)) (f .slots) (f .rising) (sym d), tt)))))
+      (→all _ (
+        le-leb 1 (length xs) (f .some'),
+        (
+          le-leb (length xs) 2 (f .few),
+          (
+            le-leb (tableSize (length xs)) (length (discBytes xs)) (omega arith),
+            (laid-of (length (discBytes xs)) 0 (tableSize (length xs)) (f .slots) (f .rising) (sym d), tt),
+          ),
+        ),
+      ))
 
 -- ---- the bodies
 -- the file of slot k among lists
@@ -122,18 +154,22 @@ unfoldable pub savedOf : ℕ → List Index → Option (List ℕ)
 savedOf k [] = none
 savedOf k (x ∷ xs) = cond (eqb (slotOf x) k) (some (saved x)) (savedOf k xs)
 
-body-in : (k : ℕ) (p : List ℕ) (at : ℕ) (xs : List Index) → length p ≡ at → bodyAt (p ++ bytesOf saved xs) (entryOf k (entriesFrom at xs)) ≡ savedOf k xs
+body-in : (k : ℕ) (p : List ℕ) (at : ℕ) (xs : List Index) → length p ≡ at
+    → bodyAt (p ++ bytesOf saved xs) (entryOf k (entriesFrom at xs)) ≡ savedOf k xs
 unfolding savedOf entriesFrom entryOf bodyAt bytesOf
 body-in k p at [] e = refl
 body-in k p at (x ∷ xs) e =
     let s = saved x in
     let r = bytesOf saved xs in
     let l = savedLength-is x .0 in
-    let b : take (savedLength x) (drop at (p ++ (s ++ r))) ≡ s = ap (take (savedLength x)) (drop-at p (s ++ r) at e) ∙ take-at s r (savedLength x) (sym l) in
+    let b : take (savedLength x) (drop at (p ++ (s ++ r))) ≡ s = ap (take (savedLength x)) (drop-at p (s ++ r) at e)
+    ∙ take-at s r (savedLength x) (sym l) in
     test (eqb (slotOf x) k) (λ q. rw (q, b))
     (λ q. rw (q, ← append-assoc p s r) (body-in k (p ++ s) (at + savedLength x) xs (length-append p s ∙ rw (e, ← l))))
 
-pub body-is : (xs : List Index) (f : Fit xs) (k : ℕ) → bodyAt (discBytes xs) (entryOf k (entriesIn (discBytes xs))) ≡ savedOf k xs
+pub body-is : (xs : List Index) (f : Fit xs) (k : ℕ) → bodyAt (discBytes xs) (entryOf k (entriesIn (discBytes xs)))
+    ≡ savedOf k xs
 unfolding discBytes
 body-is xs f k =
-    rw (entries-are xs f, ← append-assoc (head xs) (table xs) (bytesOf saved xs)) (body-in k (head xs ++ table xs) (tableSize (length xs)) xs (table-length xs))
+    rw (entries-are xs f, ← append-assoc (head xs) (table xs) (bytesOf saved xs))
+    (body-in k (head xs ++ table xs) (tableSize (length xs)) xs (table-length xs))

@@ -33,28 +33,35 @@ use Rattle.theorems.proofs.lacking.Trans.{Nothing, →asked, lacks→}
 
 -- ---- what is held already is inserted to no effect
 module _ {A : Type 0} (key : A → ℕ) (meet : A → A → A) (d x : A) where
-  pub insert-held : (b : ℕ) (ys : List A) → Rises key b ys → (i : ℕ) → i < length ys → key (getD ys i d) ≡ key x → meet (getD ys i d) x ≡ getD ys i d
+  pub insert-held : (b : ℕ) (ys : List A) → Rises key b ys → (i : ℕ) → i < length ys → key (getD ys i d) ≡ key x
+      → meet (getD ys i d) x ≡ getD ys i d
       → insert key meet x ys ≡ ys
   insert-held b [] r i l k m = let z : ⊥ = omega arith in absurd z
   insert-held b (y ∷ ys) r zero l k m = insert-met key meet x y ys k ∙ ap (λ (z : A). z ∷ ys) m
   insert-held b (y ∷ ys) r (suc i) l k m =
       let low = all-at (λ z. suc (key y) ≤ key z) ys i d (omega arith) (rises-all key (suc (key y)) ys (r .1)) in
-      insert-past key meet x y ys (omega arith) ∙ ap (λ (z : List A). y ∷ z) (insert-held (suc (key y)) ys (r .1) i (omega arith) k m)
+      insert-past key meet x y ys (omega arith) ∙ ap (λ (z : List A). y ∷ z)
+      (insert-held (suc (key y)) ys (r .1) i (omega arith) k m)
 
 -- ---- hints
 module _ (a : Area) (hs : List Hint) (b : ℕ) (r : Rises hintLsn b hs) where
-  all-held : (list : List Hint) → ((i : ℕ) → i < length list → Found noHint (λ x. sameHint x (getD list i noHint)) hs) → insertAll a hs (unkept list) ≡ hs
+  all-held : (list : List Hint) → ((i : ℕ) → i < length list
+      → Found noHint (λ x. sameHint x (getD list i noHint)) hs) → insertAll a hs (unkept list) ≡ hs
   unfolding insertAll unkept
   all-held [] f = refl
   all-held (z ∷ xs) f =
       let x = unkeptHint z in let h = f zero (omega arith) in let y = getD hs (h .place) noHint in
       let e : unkeptHint y ≡ x = sameHint-eq _ z (h .holds) in
-      let d = sym e in let k : arrivedHint y x ≡ y = λ i. record { lsn = d i .lsn; number = d i .number; mark = y .mark } in
-      let s : insert hintLsn arrivedHint x hs ≡ hs = insert-held hintLsn arrivedHint noHint x b hs r (h .place) (h .inside) (ap hintLsn e) k in
-      let t : cond (inArea a (x .lsn)) (insert hintLsn arrivedHint x hs) hs ≡ hs = choose (λ z. z ≡ hs) (inArea a (x .lsn)) _ _ (λ w. s) (λ w. refl) in
+      let d = sym e in let k : arrivedHint y x ≡ y = λ i. record
+      { lsn = d i .lsn; number = d i .number; mark = y .mark } in
+      let s : insert hintLsn arrivedHint x hs ≡ hs = insert-held hintLsn arrivedHint noHint x b hs r (h .place)
+      (h .inside) (ap hintLsn e) k in
+      let t : cond (inArea a (x .lsn)) (insert hintLsn arrivedHint x hs) hs
+      ≡ hs = choose (λ z. z ≡ hs) (inArea a (x .lsn)) _ _ (λ w. s) (λ w. refl) in
       ap (λ (y : List Hint). insertAll a y (unkept xs)) t ∙ all-held xs (λ i l. f (suc i) (omega arith))
 
-pub joined-same : (a : Area) (most : ℕ) (hs list : List Hint) → hintsOk a hs ≡ true → length hs ≤ most → covers sameHint hs list ≡ true → joinedHints a most hs (unkept list) ≡ hs
+pub joined-same : (a : Area) (most : ℕ) (hs list : List Hint) → hintsOk a hs ≡ true → length hs ≤ most
+    → covers sameHint hs list ≡ true → joinedHints a most hs (unkept list) ≡ hs
 unfolding joinedHints limitedTo hintsOk
 joined-same a most hs list ok l c =
     let r = rising→ hintLsn hintOk (a .start) (a .end) hs ok .order in
@@ -68,26 +75,32 @@ met-same c d h =
     let l = h .threshold in let m : min (c .threshold) (d .threshold) ≡ c .threshold = omega arith in
     rw (eq-eqb (c .digest) (d .digest) (h .digest), m)
 
-module _ (checked : Bool) (most : ℕ) (cs : List Confirmation) (b : ℕ) (r : Rises confirmedLsn b cs) (few : length cs ≤ most) where
-  all-kept : (ds : List Confirmation) → ((i : ℕ) → i < length ds → Found noConfirmation (λ x. confirmsAlso x (getD ds i noConfirmation)) cs) → keepAll checked most cs ds ≡ cs
+module _ (checked : Bool) (most : ℕ) (cs : List Confirmation) (b : ℕ) (r : Rises confirmedLsn b cs)
+    (few : length cs ≤ most) where
+  all-kept : (ds : List Confirmation) → ((i : ℕ) → i < length ds
+      → Found noConfirmation (λ x. confirmsAlso x (getD ds i noConfirmation)) cs) → keepAll checked most cs ds ≡ cs
   unfolding keepAll keep
   all-kept [] f = refl
   all-kept (d ∷ ds) f =
       let h = f zero (omega arith) in let e = confirms→ _ d (h .holds) in
       let s : insert confirmedLsn heldConfirmation d cs ≡ cs =
-      insert-held confirmedLsn heldConfirmation noConfirmation d b cs r (h .place) (h .inside) (e .lsn) (met-same _ d e) in
+      insert-held confirmedLsn heldConfirmation noConfirmation d b cs r (h .place) (h .inside) (e .lsn)
+      (met-same _ d e) in
       let t : cond (keepsNothing checked most) cs (lastOnes most (insert confirmedLsn heldConfirmation d cs)) ≡ cs =
       choose (λ z. z ≡ cs) (keepsNothing checked most) _ _ (λ w. refl) (λ w. rw s (last-few most cs few)) in
       rw t (all-kept ds (λ i l. f (suc i) (omega arith)))
 
-pub kept-same : (a : Area) (checked : Bool) (most : ℕ) (cs ds : List Confirmation) → confirmationsOk a cs ≡ true → length cs ≤ most → covers confirmsAlso cs ds ≡ true
+pub kept-same : (a : Area) (checked : Bool) (most : ℕ) (cs ds : List Confirmation) → confirmationsOk a cs ≡ true
+    → length cs ≤ most → covers confirmsAlso cs ds ≡ true
     → keepAll checked most cs ds ≡ cs
 unfolding confirmationsOk
 kept-same a checked most cs ds ok l c =
-    all-kept checked most cs (a .start) (rising→ confirmedLsn confirmationOk (a .start) (a .end) cs ok .order) l ds (covers→ noConfirmation confirmsAlso cs ds c)
+    all-kept checked most cs (a .start) (rising→ confirmedLsn confirmationOk (a .start) (a .end) cs ok .order) l ds
+    (covers→ noConfirmation confirmsAlso cs ds c)
 
 -- ---- the fingerprint
-pub fingerprint-same : (f g : Fingerprint) → (isSome (stated g) ≡ true → isSome (stated f) ≡ true) → mergedFingerprint f g ≡ f
+pub fingerprint-same : (f g : Fingerprint) → (isSome (stated g) ≡ true → isSome (stated f) ≡ true)
+    → mergedFingerprint f g ≡ f
 unfolding mergedFingerprint heldFrom stated isSome
 fingerprint-same Unknown Unknown h = refl
 fingerprint-same Unknown (fingerprint.Held v) h = never {b = false} (h refl) refl
@@ -96,27 +109,41 @@ fingerprint-same (fingerprint.Held v) g h = refl
 fingerprint-same (Checked v) g h = refl
 
 -- ---- the scan
-pub not-further : (own other : Scan) → count other ≤ count own → (complete other ≡ true → complete own ≡ true) → further own other ≡ false
+pub not-further : (own other : Scan) → count other ≤ count own → (complete other ≡ true → complete own ≡ true)
+    → further own other ≡ false
 unfolding further
 not-further own other l f =
-    test (complete own) (λ e. rw e) (λ e. test (complete other) (λ d. never (f d) e) (λ d. rw (e, d, le-ltb (count own) (count other) l)))
+    test (complete own) (λ e. rw e) (λ e. test (complete other) (λ d. never (f d) e)
+    (λ d. rw (e, d, le-ltb (count own) (count other) l)))
 
-pub scan-same : (own other : Scan) → count other ≤ count own → (complete other ≡ true → complete own ≡ true) → mergedScan own other ≡ own
+pub scan-same : (own other : Scan) → count other ≤ count own → (complete other ≡ true → complete own ≡ true)
+    → mergedScan own other ≡ own
 unfolding mergedScan
 scan-same own other l f = rw (not-further own other l f)
 
 -- ---- all of it
 pub merged-same : (own other : Index) → question4 own ≡ true → Nothing own other
-    → merged own other ≡ record { scan = own .scan; hinting = own .hinting; fingerprint = own .fingerprint; image = orElse (own .image) (other .image) }
+    → merged own other ≡ record {
+      scan = own .scan;
+      hinting = own .hinting;
+      fingerprint = own .fingerprint;
+      image = orElse (own .image) (other .image);
+    }
 unfolding merged
 merged-same own other q h =
     let k = hinting→ (own .scan .area) (own .fingerprint) (own .hinting) (holds-of own q) in
-    let e0 : mergedScan (own .scan) (other .scan) ≡ own .scan = scan-same (own .scan) (other .scan) (h .checkpoints) (h .ending) in
-    let e1 : joinedHints (own .scan .area) (own .hinting .most) (own .hinting .hints) (unkept (other .hinting .hints)) ≡ own .hinting .hints =
-    joined-same (own .scan .area) (own .hinting .most) (own .hinting .hints) (other .hinting .hints) (k .hints) (k .few) (h .hints) in
-    let e2 : keepAll (isChecked (own .fingerprint)) (own .hinting .most) (own .hinting .confirmed) (other .hinting .confirmed) ≡ own .hinting .confirmed =
-    kept-same (own .scan .area) (isChecked (own .fingerprint)) (own .hinting .most) (own .hinting .confirmed) (other .hinting .confirmed) (k .confirmed) (k .fewer) (h .confirmed) in
-    let e3 : mergedFingerprint (own .fingerprint) (other .fingerprint) ≡ own .fingerprint = fingerprint-same (own .fingerprint) (other .fingerprint) (h .fingerprint) in
+    let e0 : mergedScan (own .scan) (other .scan)
+    ≡ own .scan = scan-same (own .scan) (other .scan) (h .checkpoints) (h .ending) in
+    let e1 : joinedHints (own .scan .area) (own .hinting .most) (own .hinting .hints)
+    (unkept (other .hinting .hints)) ≡ own .hinting .hints =
+    joined-same (own .scan .area) (own .hinting .most) (own .hinting .hints) (other .hinting .hints) (k .hints)
+    (k .few) (h .hints) in
+    let e2 : keepAll (isChecked (own .fingerprint)) (own .hinting .most) (own .hinting .confirmed)
+    (other .hinting .confirmed) ≡ own .hinting .confirmed =
+    kept-same (own .scan .area) (isChecked (own .fingerprint)) (own .hinting .most) (own .hinting .confirmed)
+    (other .hinting .confirmed) (k .confirmed) (k .fewer) (h .confirmed) in
+    let e3 : mergedFingerprint (own .fingerprint) (other .fingerprint)
+    ≡ own .fingerprint = fingerprint-same (own .fingerprint) (other .fingerprint) (h .fingerprint) in
     λ i. record {
       scan = e0 i;
       hinting = record { spacing = own .hinting .spacing; most = own .hinting .most; hints = e1 i; confirmed = e2 i };
@@ -128,4 +155,5 @@ pub lacks-adds : LacksAdds
 unfolding merge
 lacks-adds l m own other x e h =
     let p = lacks→ l m own other x e h in let s = p .0 in
-    →after (→asked l m own other s) (ap Accepted (merged-same own other (and-left (question4 own) (question4 other) (s .four)) (p .1)))
+    →after (→asked l m own other s) (ap Accepted
+    (merged-same own other (and-left (question4 own) (question4 other) (s .four)) (p .1)))

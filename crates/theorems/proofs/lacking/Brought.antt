@@ -21,7 +21,8 @@ use Rattle.theorems.proofs.lacking.Adds.{merged-same}
 again : {a : Bool} → a ≡ true → not (not a) ≡ true
 again e = rw e
 
-same-brings : (own x : Index) → x .scan ≡ own .scan → x .hinting ≡ own .hinting → x .fingerprint ≡ own .fingerprint → noneButImage (bringsOf own x) ≡ true
+same-brings : (own x : Index) → x .scan ≡ own .scan → x .hinting ≡ own .hinting → x .fingerprint ≡ own .fingerprint
+    → noneButImage (bringsOf own x) ≡ true
 unfolding noneButImage bringsOf
 same-brings own x s h f =
     rw (s, h, f)
@@ -30,12 +31,16 @@ same-brings own x s h f =
       (
         again (sameKnown-self sameEnd sameEnd-self (own .scan .ending)),
         (
-          again (both (sameList-self sameFrame sameFrame-self (own .scan .frames)) (sameList-self sameHeld sameHeld-self (own .scan .parts))),
+          again (both (sameList-self sameFrame sameFrame-self (own .scan .frames))
+              (sameList-self sameHeld sameHeld-self (own .scan .parts))),
           (
             again (sameList-self eqb eqb-self (own .scan .malformed)),
             (
               again (sameList-self equalHint equalHint-self (own .hinting .hints)),
-              (again (sameList-self sameConfirmation sameConfirmation-self (own .hinting .confirmed)), (again (sameFingerprint-self (own .fingerprint)), tt)),
+              (
+                again (sameList-self sameConfirmation sameConfirmation-self (own .hinting .confirmed)),
+                (again (sameFingerprint-self (own .fingerprint)), tt),
+              ),
             ),
           ),
         ),
@@ -49,4 +54,5 @@ lacks-brings l m own other x b e h g =
     let r = accepted→ (mergeNumber l own m other) (bringsOf own (merged own other)) b g in
     let q = merged-same own other (and-left (question4 own) (question4 other) (s .four)) (p .1) in
     subst (λ (z : Brings). noneButImage z ≡ true) (r .1)
-    (same-brings own (merged own other) (ap (λ (z : Index). z .scan) q) (ap (λ (z : Index). z .hinting) q) (ap (λ (z : Index). z .fingerprint) q))
+    (same-brings own (merged own other) (ap (λ (z : Index). z .scan) q) (ap (λ (z : Index). z .hinting) q)
+    (ap (λ (z : Index). z .fingerprint) q))

@@ -34,7 +34,8 @@ use Rattle.theorems.specs.Lacks.{MergeMalformed}
 use Rattle.theorems.proofs.lacking.MergeLacks.{merge-lacks}
 
 -- ---- a further frontier
-frontier-order : (a : Area) (k n m : ℕ) (e d : Option EndState) → 1 ≤ k → a .start ≤ a .end → n ≤ m → n ≤ boundaries a k → (isSome e ≡ true → isSome d ≡ true)
+frontier-order : (a : Area) (k n m : ℕ) (e d : Option EndState) → 1 ≤ k → a .start ≤ a .end → n ≤ m
+    → n ≤ boundaries a k → (isSome e ≡ true → isSome d ≡ true)
     → frontierOf a k n e ≤ frontierOf a k m d
 unfolding frontierOf isSome
 frontier-order a k n m none none hk ha l w f =
@@ -43,7 +44,8 @@ frontier-order a k n m none none hk ha l w f =
     let h : (n - 1) * k ≤ (m - 1) * k = mul-le-mul-right {m = n - 1} {n = m - 1} k (omega arith) in omega arith
 frontier-order a k n m none (some v) hk ha l w f =
     let was = frontier-open a k n in
-    ⊎-elim (λ (z : 0 ≡ n). let e : n - 1 ≡ 0 = omega arith in let o : (n - 1) * k ≡ 0 = ap (λ (i : ℕ). i * k) e ∙ zero-mul k in omega arith)
+    ⊎-elim (λ (z : 0 ≡ n). let e : n - 1 ≡ 0 = omega arith in let o : (n - 1) * k ≡ 0 = ap (λ (i : ℕ). i * k) e
+    ∙ zero-mul k in omega arith)
     (λ (z : 0 < n). let h = in-boundary a k (n - 1) hk (omega arith) in omega arith)
     (eq-or-lt-of-le (let z : 0 ≤ n = omega arith in z))
 frontier-order a k n m (some v) none hk ha l w f = never {b = false} (f refl) refl
@@ -65,36 +67,44 @@ begins-cons l xs ys f (suc i) w = let h = f i (omega arith) in let z = h .0 in (
 begins-none : (ys : List ℕ) → Begins [] ys
 begins-none ys i w = let z : ⊥ = omega arith in absurd z
 
-below-begins : (f g : ℕ) → f ≤ g → (n b : ℕ) (ls : List ℕ) → Rises ownLsn b ls → Begins (take n (below f ls)) (take n (below g ls))
+below-begins : (f g : ℕ) → f ≤ g → (n b : ℕ) (ls : List ℕ) → Rises ownLsn b ls
+    → Begins (take n (below f ls)) (take n (below g ls))
 unfolding below
 below-begins f g w zero b ls r = begins-none []
 below-begins f g w (suc n) b [] r = begins-none []
 below-begins f g w (suc n) b (l ∷ ls) r =
     test (ltb l f)
-    (λ e. let k = ltb-true l f e in rw (e, lt-ltb l g (omega arith)) (begins-cons l (take n (below f ls)) (take n (below g ls)) (below-begins f g w n (suc l) ls (r .1))))
+    (λ e. let k = ltb-true l f e in rw (e, lt-ltb l g (omega arith))
+    (begins-cons l (take n (below f ls)) (take n (below g ls)) (below-begins f g w n (suc l) ls (r .1))))
     (λ e. let k = ltb-false l f e in
-    let o : below f ls ≡ [] = none-below f ls (all-map (λ x. suc l ≤ x) (λ x. f ≤ x) (λ x h. omega arith) ls (rises-all ownLsn (suc l) ls (r .1))) in
+    let o : below f ls ≡ [] = none-below f ls (all-map (λ x. suc l ≤ x) (λ x. f ≤ x) (λ x h. omega arith) ls
+    (rises-all ownLsn (suc l) ls (r .1))) in
     rw (e, o) (begins-none (take (suc n) (below g (l ∷ ls)))))
 
 begins-covers : (xs ys : List ℕ) → Begins xs ys → covers eqb ys xs ≡ true
 begins-covers xs ys f =
-    →covers 0 eqb ys xs (λ i l. let h = f i l in record { place = i; inside = h .0; holds = rw (h .1) (eqb-self (getD xs i 0)) })
+    →covers 0 eqb ys xs (λ i l. let h = f i l in record
+    { place = i; inside = h .0; holds = rw (h .1) (eqb-self (getD xs i 0)) })
 
 -- ---- two lists cut from one reading
-module _ (R : Reading) (x y : Index) (cx : Cut R x) (cy : Cut R y) (r : Rises ownLsn 0 (R .malformed)) (l : count (x .scan) ≤ count (y .scan))
+module _ (R : Reading) (x y : Index) (cx : Cut R x) (cy : Cut R y) (r : Rises ownLsn 0 (R .malformed))
+    (l : count (x .scan) ≤ count (y .scan))
     (f : complete (x .scan) ≡ true → complete (y .scan) ≡ true) where
   further-front : frontier (x .scan) ≤ frontier (y .scan)
   unfolding question1 question2 areaOk
   further-front =
       let e = cy .area ∙ sym (cx .area) in let k = cy .interval ∙ sym (cx .interval) in
       rw (e, k)
-      (frontier-order (x .scan .area) (x .scan .interval) (count (x .scan)) (count (y .scan)) (x .scan .ending) (y .scan .ending) (interval-pos _ _ (cx .two))
+      (frontier-order (x .scan .area) (x .scan .interval) (count (x .scan)) (count (y .scan)) (x .scan .ending)
+      (y .scan .ending) (interval-pos _ _ (cx .two))
       (leb-true _ _ (all→ _ (cx .one) .1 .0)) l (cut-counts R x cx .within) f)
 
   malformed-none : lacking y x .malformed ≡ 0
   unfolding lacking
   malformed-none =
-      let c = begins-covers (take maxMalformed (below (frontier (x .scan)) (R .malformed))) (take maxMalformed (below (frontier (y .scan)) (R .malformed))) (below-begins (frontier (x .scan)) (frontier (y .scan)) further-front maxMalformed 0 (R .malformed) r) in
+      let c = begins-covers (take maxMalformed (below (frontier (x .scan)) (R .malformed)))
+      (take maxMalformed (below (frontier (y .scan)) (R .malformed)))
+      (below-begins (frontier (x .scan)) (frontier (y .scan)) further-front maxMalformed 0 (R .malformed) r) in
       rw (cx .malformed, cy .malformed) (none-missing eqb _ _ c)
 
 known→ : (a b : Bool) → (a && not b) ≡ false → a ≡ true → b ≡ true

@@ -57,27 +57,33 @@ else-other (some v) p e = refl
 add-grows : (budget : ℕ) (h : Stored) (p : Piece) → length (h .parts) ≤ length (addPart budget h p .parts)
 unfolding addPart
 add-grows budget h p =
-    choose (λ (z : Stored). length (h .parts) ≤ length (z .parts)) (stores budget h p) (cond (opens h p) (opened h p) (grown h p)) h
-    (λ e. choose (λ (z : Stored). length (h .parts) ≤ length (z .parts)) (opens h p) (opened h p) (grown h p) (λ d. omega (arith, length-append (h .parts) (partOf p (length (h .frames)) ∷ [])))
+    choose (λ (z : Stored). length (h .parts) ≤ length (z .parts)) (stores budget h p)
+    (cond (opens h p) (opened h p) (grown h p)) h
+    (λ e. choose (λ (z : Stored). length (h .parts) ≤ length (z .parts)) (opens h p) (opened h p) (grown h p)
+    (λ d. omega (arith, length-append (h .parts) (partOf p (length (h .frames)) ∷ [])))
     (λ d. omega (arith, length-append (h .parts) (partOf p (length (h .frames) - 1) ∷ []))))
     (λ e. omega arith)
 
-adds-grow : (budget : ℕ) (fs : List Frame) (n : ℕ) (ps : List Held) (h : Stored) → length (h .parts) ≤ length (addParts budget fs n ps h .parts)
+adds-grow : (budget : ℕ) (fs : List Frame) (n : ℕ) (ps : List Held) (h : Stored)
+    → length (h .parts) ≤ length (addParts budget fs n ps h .parts)
 unfolding addParts
 adds-grow budget fs n [] h = omega arith
 adds-grow budget fs n (p ∷ ps) h =
     let w = cond (ltb (p .at) n) h (addPart budget h (piece fs p)) in
     let a : length (h .parts) ≤ length (w .parts) =
-    choose (λ (z : Stored). length (h .parts) ≤ length (z .parts)) (ltb (p .at) n) h (addPart budget h (piece fs p)) (λ e. omega arith) (λ e. add-grows budget h (piece fs p)) in
+    choose (λ (z : Stored). length (h .parts) ≤ length (z .parts)) (ltb (p .at) n) h (addPart budget h (piece fs p))
+    (λ e. omega arith) (λ e. add-grows budget h (piece fs p)) in
     omega (arith, a, adds-grow budget fs n ps w)
 
 merged-longer : (own other : Scan) → length (own .parts) ≤ length (mergedScan own other .parts)
 unfolding mergedScan
 merged-longer own other =
-    test (further own other) (λ f. rw f (adds-grow (own .budget) (other .frames) (count own) (other .parts) (record { frames = own .frames; parts = own .parts }))) (λ f. rw f (omega arith))
+    test (further own other) (λ f. rw f (adds-grow (own .budget) (other .frames) (count own) (other .parts)
+    (record { frames = own .frames; parts = own .parts }))) (λ f. rw f (omega arith))
 
 -- ---- the scan
-module _ (own other y : Scan) (j : Joinable own other) (m : MergeOf own other y) (longer : length (own .parts) ≤ length (y .parts)) where
+module _ (own other y : Scan) (j : Joinable own other) (m : MergeOf own other y)
+    (longer : length (own .parts) ≤ length (y .parts)) where
   counts-own : count own ≤ count y
   counts-own =
       test (further own other)
@@ -87,7 +93,8 @@ module _ (own other y : Scan) (j : Joinable own other) (m : MergeOf own other y)
   counts-other : count other ≤ count y
   counts-other =
       let o = counts-own in
-      test (ltb (count own) (count other)) (λ e. let c = ap length (m .longer (ltb-true (count own) (count other) e)) in omega arith)
+      test (ltb (count own) (count other)) (λ e. let c = ap length (m .longer (ltb-true (count own) (count other) e))
+      in omega arith)
       (λ e. let l = ltb-false (count own) (count other) e in omega arith)
 
   complete-own : complete own ≡ true → complete y ≡ true
@@ -101,10 +108,16 @@ module _ (own other y : Scan) (j : Joinable own other) (m : MergeOf own other y)
       test (further own other)
       (λ f.
       let a = m .parts f .older i l in
-      record { place = i; inside = omega arith; holds = →samePart (y .frames) (own .frames) _ _ (ap (λ p. p .at) (a .part)) (a .content) })
+      record {
+        place = i;
+        inside = omega arith;
+        holds = →samePart (y .frames) (own .frames) _ _
+            (ap (λ p. p .at) (a .part)) (a .content);
+      })
       (λ f.
       let e = m .same f in
-      subst (λ (z : Scan). Found noHeld (λ x. samePart (z .frames) (own .frames) x (getD (own .parts) i noHeld)) (z .parts)) (sym e)
+      subst (λ (z : Scan). Found noHeld (λ x. samePart (z .frames) (own .frames) x (getD (own .parts) i noHeld))
+      (z .parts)) (sym e)
       (record { place = i; inside = l; holds = →samePart (own .frames) (own .frames) _ _ refl refl })))
 
 -- ---- all of it
@@ -115,9 +128,11 @@ merge-lacks l m own other y e =
     let t = joinable l m own other (taken l m own other (r .0)) in
     let o = merge-takes l m own other y e .scan in
     let w : length (own .scan .parts) ≤ length (y .scan .parts) =
-    subst (λ (z : Index). length (own .scan .parts) ≤ length (z .scan .parts)) (r .1) (merged-longer (own .scan) (other .scan)) in
+    subst (λ (z : Index). length (own .scan .parts) ≤ length (z .scan .parts)) (r .1)
+    (merged-longer (own .scan) (other .scan)) in
     let n = merged-numbers (own .scan) (other .scan) in
-    let f : mergedFingerprint (own .fingerprint) (other .fingerprint) ≡ y .fingerprint = ap (λ (z : Index). z .fingerprint) (r .1) in
+    let f : mergedFingerprint (own .fingerprint) (other .fingerprint)
+    ≡ y .fingerprint = ap (λ (z : Index). z .fingerprint) (r .1) in
     let i : orElse (own .image) (other .image) ≡ y .image = ap (λ (z : Index). z .image) (r .1) in
     let b : y .scan .budget ≡ own .scan .budget = sym (ap (λ (z : Index). z .scan .budget) (r .1)) ∙ n .2 in
     let h : own .hinting .most ≡ y .hinting .most = ap (λ (z : Index). z .hinting .most) (r .1) in
@@ -125,13 +140,15 @@ merge-lacks l m own other y e =
       checkpoints = none-more _ _ (counts-own (own .scan) (other .scan) (y .scan) t o w);
       ending = known-none _ _ (complete-own (own .scan) (other .scan) (y .scan) t o w);
       parts = none-missing _ _ _ (parts-own (own .scan) (other .scan) (y .scan) t o w);
-      fingerprint = known-none _ _ (λ z. ap (λ (g : Fingerprint). isSome (stated g)) (sym f) ∙ merged-known (own .fingerprint) (other .fingerprint) z);
+      fingerprint = known-none _ _ (λ z. ap (λ (g : Fingerprint). isSome (stated g)) (sym f)
+          ∙ merged-known (own .fingerprint) (other .fingerprint) z);
       image = known-none _ _ (λ z. ap isSome (sym i) ∙ else-own (own .image) (other .image) z);
       budget = rw b (le-ltb (own .scan .budget) (own .scan .budget) (omega arith));
       most = rw (← h) (le-ltb (own .hinting .most) (own .hinting .most) (omega arith));
       checkpoints' = none-more _ _ (counts-other (own .scan) (other .scan) (y .scan) t o w);
       ending' = known-none _ _ (o .complete);
-      fingerprint' = known-none _ _ (λ z. ap (λ (g : Fingerprint). isSome (stated g)) (sym f) ∙ stated-other (own .fingerprint) (other .fingerprint) z);
+      fingerprint' = known-none _ _ (λ z. ap (λ (g : Fingerprint). isSome (stated g)) (sym f)
+          ∙ stated-other (own .fingerprint) (other .fingerprint) z);
       image' = known-none _ _ (λ z. ap isSome (sym i) ∙ else-other (own .image) (other .image) z);
       budget' = rw b;
       most' = rw (← h);

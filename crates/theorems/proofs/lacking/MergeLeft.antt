@@ -51,7 +51,8 @@ module _ {A : Type 0} (d : A) (P : A → Type 0) where
   some→ [] h = absurd h
   some→ (x ∷ xs) h =
       ⊎-elim (λ p. record { place = 0; inside = omega arith; holds = p })
-      (λ r. let o = some→ xs r in let l = o .inside in record { place = suc (o .place); inside = omega arith; holds = o .holds }) h
+      (λ r. let o = some→ xs r in let l = o .inside in record
+      { place = suc (o .place); inside = omega arith; holds = o .holds }) h
 
   →some : (xs : List A) (i : ℕ) → i < length xs → P (getD xs i d) → Any P xs
   →some [] i l p = let z : ⊥ = omega arith in absurd z
@@ -75,7 +76,12 @@ module _ {A : Type 0} (key : A → ℕ) (P : A → Type 0) (k n : ℕ) (keyed : 
       (⊎-elim
       (λ p.
       let q = keyed x p in
-      inr (omega (arith, last-length n xs), all-sub (λ y. k < key y) (sub-last n xs) (all-map (λ y. suc (key x) ≤ key y) (λ y. k < key y) (λ y m. omega arith) xs (rises-all key (suc (key x)) xs (r .1)))))
+      inr (
+        omega (arith, last-length n xs),
+        all-sub (λ y. k < key y) (sub-last n xs)
+            (all-map (λ y. suc (key x) ≤ key y) (λ y. k < key y) (λ y m. omega arith) xs
+            (rises-all key (suc (key x)) xs (r .1))),
+      ))
       (λ q. last-some (suc (key x)) xs (r .1) q) h))
       (λ l. last-all (x ∷ xs) (omega arith) h) (λ e. last-all (x ∷ xs) (omega arith) h)
 
@@ -97,15 +103,19 @@ met : (c y d : Confirmation) → y .lsn ≡ d .lsn → Better c y → Better c (
 unfolding heldConfirmation
 met c y d e h =
     let t = h .threshold in
-    test (eqb (y .digest) (d .digest)) (λ w. inl (rw w (record { lsn = h .lsn; digest = h .digest; threshold = omega arith })))
+    test (eqb (y .digest) (d .digest)) (λ w. inl
+    (rw w (record { lsn = h .lsn; digest = h .digest; threshold = omega arith })))
     (λ w. inr (sym e ∙ h .lsn, λ q. eqb-false (y .digest) (d .digest) w (h .digest ∙ sym q)))
 
 pub met-new : (y d : Confirmation) → y .lsn ≡ d .lsn → Better d (heldConfirmation y d)
 unfolding heldConfirmation
 met-new y d e =
-    test (eqb (y .digest) (d .digest)) (λ w. rw w (record { lsn = e; digest = eqb-true (y .digest) (d .digest) w; threshold = omega arith })) (λ w. rw w (better-self d))
+    test (eqb (y .digest) (d .digest)) (λ w. rw w
+    (record { lsn = e; digest = eqb-true (y .digest) (d .digest) w; threshold = omega arith }))
+    (λ w. rw w (better-self d))
 
-held-on : (c d : Confirmation) (ys : List Confirmation) → Any (Better c) ys → Any (Better c) (inserted d ys) ⊎ Another c d
+held-on : (c d : Confirmation) (ys : List Confirmation) → Any (Better c) ys
+    → Any (Better c) (inserted d ys) ⊎ Another c d
 held-on c d [] h = absurd h
 held-on c d (y ∷ ys) h =
     insert-cases confirmedLsn heldConfirmation d y ys (λ l. Any (Better c) l ⊎ Another c d) (λ e. inl (inr h))
@@ -115,44 +125,55 @@ held-on c d (y ∷ ys) h =
 new-there : (d : Confirmation) (ys : List Confirmation) → Any (Better d) (inserted d ys)
 new-there d [] = rw (insert-none confirmedLsn heldConfirmation d) (inl (better-self d))
 new-there d (y ∷ ys) =
-    insert-cases confirmedLsn heldConfirmation d y ys (Any (Better d)) (λ e. inl (better-self d)) (λ e. inr (new-there d ys)) (λ e. inl (met-new y d e))
+    insert-cases confirmedLsn heldConfirmation d y ys (Any (Better d)) (λ e. inl (better-self d))
+    (λ e. inr (new-there d ys)) (λ e. inl (met-new y d e))
 
 abbrev pub all-inserted : List Confirmation → List Confirmation → List Confirmation
 all-inserted cs ds = insertedWith confirmedLsn heldConfirmation cs ds
 
-held-all : (c : Confirmation) (cs ds : List Confirmation) → Any (Better c) cs → Any (Better c) (all-inserted cs ds) ⊎ Any (Another c) ds
+held-all : (c : Confirmation) (cs ds : List Confirmation) → Any (Better c) cs
+    → Any (Better c) (all-inserted cs ds) ⊎ Any (Another c) ds
 unfolding insertedWith
 held-all c cs [] h = inl h
 held-all c cs (d ∷ ds) h =
-    ⊎-elim (λ p. ⊎-elim (λ q. inl q) (λ o. inr (inr o)) (held-all c (inserted d cs) ds p)) (λ o. inr (inl o)) (held-on c d cs h)
+    ⊎-elim (λ p. ⊎-elim (λ q. inl q) (λ o. inr (inr o)) (held-all c (inserted d cs) ds p)) (λ o. inr (inl o))
+    (held-on c d cs h)
 
 none-other : (c : Confirmation) (ds : List Confirmation) → All (λ x. suc (c .lsn) ≤ x .lsn) ds → Any (Another c) ds → ⊥
 none-other c [] a h = h
 none-other c (d ∷ ds) a h = ⊎-elim (λ o. let e = o .0 in let l = a .0 in omega arith) (λ r. none-other c ds (a .1) r) h
 
-new-all : (cs ds : List Confirmation) (b i : ℕ) → Rises confirmedLsn b ds → i < length ds → Any (Better (getD ds i noConfirmation)) (all-inserted cs ds)
+new-all : (cs ds : List Confirmation) (b i : ℕ) → Rises confirmedLsn b ds → i < length ds
+    → Any (Better (getD ds i noConfirmation)) (all-inserted cs ds)
 unfolding insertedWith
 new-all cs [] b i r l = let z : ⊥ = omega arith in absurd z
 new-all cs (d ∷ ds) b zero r l =
-    ⊎-elim (λ p. p) (λ o. absurd (none-other d ds (rises-all confirmedLsn (suc (d .lsn)) ds (r .1)) o)) (held-all d (inserted d cs) ds (new-there d cs))
+    ⊎-elim (λ p. p) (λ o. absurd (none-other d ds (rises-all confirmedLsn (suc (d .lsn)) ds (r .1)) o))
+    (held-all d (inserted d cs) ds (new-there d cs))
 new-all cs (d ∷ ds) b (suc i) r l = new-all (inserted d cs) ds (suc (d .lsn)) i (r .1) (omega arith)
 
-pub rises-all-inserted : (cs ds : List Confirmation) → Rises confirmedLsn 0 cs → Rises confirmedLsn 0 (all-inserted cs ds)
+pub rises-all-inserted : (cs ds : List Confirmation) → Rises confirmedLsn 0 cs
+    → Rises confirmedLsn 0 (all-inserted cs ds)
 unfolding insertedWith
 rises-all-inserted cs [] r = r
-rises-all-inserted cs (d ∷ ds) r = rises-all-inserted (inserted d cs) ds (rises-insert confirmedLsn heldConfirmation d (λ y q. met-lsn y d q) 0 cs (omega arith) r)
+rises-all-inserted cs (d ∷ ds) r = rises-all-inserted (inserted d cs) ds
+    (rises-insert confirmedLsn heldConfirmation d (λ y q. met-lsn y d q) 0 cs (omega arith) r)
 
-keep-none : (checked : Bool) (most : ℕ) (cs : List Confirmation) (d : Confirmation) → keepsNothing checked most ≡ true → keep checked most cs d ≡ cs
+keep-none : (checked : Bool) (most : ℕ) (cs : List Confirmation) (d : Confirmation) → keepsNothing checked most
+    ≡ true → keep checked most cs d ≡ cs
 unfolding keep
 keep-none checked most cs d e = rw e
 
-kept-none : (checked : Bool) (most : ℕ) (cs ds : List Confirmation) → keepsNothing checked most ≡ true → keepAll checked most cs ds ≡ cs
+kept-none : (checked : Bool) (most : ℕ) (cs ds : List Confirmation) → keepsNothing checked most ≡ true
+    → keepAll checked most cs ds ≡ cs
 unfolding keepAll
 kept-none checked most cs [] e = refl
 kept-none checked most cs (d ∷ ds) e = rw (keep-none checked most cs d e) (kept-none checked most cs ds e)
 
-module _ (own other y : Index) (k : HintingIs (own .scan .area) (own .fingerprint) (own .hinting)) (o : HintingIs (other .scan .area) (other .fingerprint) (other .hinting))
-    (is : y .hinting .confirmed ≡ keepAll (isChecked (own .fingerprint)) (own .hinting .most) (own .hinting .confirmed) (other .hinting .confirmed)) where
+module _ (own other y : Index) (k : HintingIs (own .scan .area) (own .fingerprint) (own .hinting))
+    (o : HintingIs (other .scan .area) (other .fingerprint) (other .hinting))
+    (is : y .hinting .confirmed ≡ keepAll (isChecked (own .fingerprint)) (own .hinting .most)
+    (own .hinting .confirmed) (other .hinting .confirmed)) where
   abbrev checked : Bool
   checked = isChecked (own .fingerprint)
 
@@ -173,7 +194,8 @@ module _ (own other y : Index) (k : HintingIs (own .scan .area) (own .fingerprin
 
   last-ones : keepsNothing checked most ≡ false → y .hinting .confirmed ≡ lastOnes most (all-inserted cs ds)
   last-ones e =
-      is ∙ keepAll-merged checked most e cs ds (k .fewer) rises rises' ∙ ap (lastOnes most) (sym (inserted-with confirmedLsn heldConfirmation met-lsn 0 cs ds rises'))
+      is ∙ keepAll-merged checked most e cs ds (k .fewer) rises rises'
+      ∙ ap (lastOnes most) (sym (inserted-with confirmedLsn heldConfirmation met-lsn 0 cs ds rises'))
 
   confirms-of : (c : Confirmation) → Any (Better c) (y .hinting .confirmed) → Confirms (y .hinting .confirmed) c
   confirms-of c h =
@@ -181,31 +203,39 @@ module _ (own other y : Index) (k : HintingIs (own .scan .area) (own .fingerprin
       record { place = f .place; inside = f .inside; lsn = p .lsn; digest = p .digest; threshold = p .threshold }
 
   -- one that is confirmed once all are inserted
-  stays-or-out : (c : Confirmation) → keepsNothing checked most ≡ false → Any (Better c) (all-inserted cs ds) → Confirms (y .hinting .confirmed) c ⊎ PushedOut own y (c .lsn)
+  stays-or-out : (c : Confirmation) → keepsNothing checked most ≡ false → Any (Better c) (all-inserted cs ds)
+      → Confirms (y .hinting .confirmed) c ⊎ PushedOut own y (c .lsn)
   stays-or-out c e h =
       let q = last-ones e in
       ⊎-elim (λ p. inl (confirms-of c (subst (λ (z : List Confirmation). Any (Better c) z) (sym q) p)))
       (λ p. inr (record {
         full = ap length q ∙ p .0;
-        later = λ i l. all-at (λ (x : Confirmation). c .lsn < x .lsn) (y .hinting .confirmed) i noConfirmation l (subst (λ (z : List Confirmation). All (λ (v : Confirmation). c .lsn < v .lsn) z) (sym q) (p .1));
+        later = λ i l. all-at (λ (x : Confirmation). c .lsn < x .lsn) (y .hinting .confirmed) i noConfirmation l
+            (subst (λ (z : List Confirmation). All (λ (v : Confirmation). c .lsn < v .lsn) z) (sym q) (p .1));
       }))
-      (last-some confirmedLsn (Better c) (c .lsn) most (λ x p. p .lsn) 0 (all-inserted cs ds) (rises-all-inserted cs ds rises) h)
+      (last-some confirmedLsn (Better c) (c .lsn) most (λ x p. p .lsn) 0 (all-inserted cs ds)
+      (rises-all-inserted cs ds rises) h)
 
   own-confirmed : (i : ℕ) → i < length cs
-      → Confirms (y .hinting .confirmed) (getD cs i noConfirmation) ⊎ (OtherDigest ds (getD cs i noConfirmation) ⊎ PushedOut own y (getD cs i noConfirmation .lsn))
+      → Confirms (y .hinting .confirmed) (getD cs i noConfirmation) ⊎
+      (OtherDigest ds (getD cs i noConfirmation) ⊎ PushedOut own y (getD cs i noConfirmation .lsn))
   own-confirmed i l =
       let c = getD cs i noConfirmation in let h = →some noConfirmation (Better c) cs i l (better-self c) in
       test (keepsNothing checked most)
-      (λ e. inl (confirms-of c (subst (λ (z : List Confirmation). Any (Better c) z) (sym (is ∙ kept-none checked most cs ds e)) h)))
+      (λ e. inl (confirms-of c (subst (λ (z : List Confirmation). Any (Better c) z)
+      (sym (is ∙ kept-none checked most cs ds e)) h)))
       (λ e. ⊎-elim (λ p. ⊎-elim (λ q. inl q) (λ q. inr (inr q)) (stays-or-out c e p))
-      (λ p. let f = some→ noConfirmation (Another c) ds p in inr (inl (record { place = f .place; inside = f .inside; lsn = f .holds .0; digest = f .holds .1 })))
+      (λ p. let f = some→ noConfirmation (Another c) ds p in inr
+      (inl (record { place = f .place; inside = f .inside; lsn = f .holds .0; digest = f .holds .1 })))
       (held-all c cs ds h))
 
   other-confirmed : (i : ℕ) → i < length ds
-      → Confirms (y .hinting .confirmed) (getD ds i noConfirmation) ⊎ ((keepsNothing checked most ≡ true) ⊎ PushedOut own y (getD ds i noConfirmation .lsn))
+      → Confirms (y .hinting .confirmed) (getD ds i noConfirmation) ⊎
+      ((keepsNothing checked most ≡ true) ⊎ PushedOut own y (getD ds i noConfirmation .lsn))
   other-confirmed i l =
       test (keepsNothing checked most) (λ e. inr (inl e))
-      (λ e. ⊎-elim (λ q. inl q) (λ q. inr (inr q)) (stays-or-out (getD ds i noConfirmation) e (new-all cs ds 0 i rises' l)))
+      (λ e. ⊎-elim (λ q. inl q) (λ q. inr (inr q))
+      (stays-or-out (getD ds i noConfirmation) e (new-all cs ds 0 i rises' l)))
 
 -- ---- hints
 same-hint : (h k : Hint) → k .lsn ≡ h .lsn → k .number ≡ h .number → arrivedHint h k ≡ h
@@ -231,13 +261,22 @@ module _ (a : Area) (hs gs : List Hint) (ok : hintsOk a gs ≡ true) (h : Hint) 
       (λ q. inl (any-all (λ z. z ≡ h) a hs gs
       (all-places (λ x. (y : Hint) → y .lsn ≡ x .lsn → y ≡ h → arrivedHint y x ≡ h) gs
       (λ i l y e p.
-      let u = unique a gs ok i (v .place) l (v .inside) (sym e ∙ ap hintLsn p ∙ sym (v .holds)) in let x = getD gs i noHint in
-      ap (λ (z : Hint). arrivedHint z x) p ∙ same-hint h x (ap hintLsn u ∙ v .holds) (ap (λ (z : Hint). z .number) u ∙ eqb-true (k .number) (h .number) q))) m))
-      (λ q. inr (record { place = v .place; inside = v .inside; holds = (v .holds, eqb-false (k .number) (h .number) q) })))
+      let u = unique a gs ok i (v .place) l (v .inside) (sym e ∙ ap hintLsn p ∙ sym (v .holds)) in let x = getD gs i
+      noHint in
+      ap (λ (z : Hint). arrivedHint z x) p ∙ same-hint h x (ap hintLsn u ∙ v .holds)
+      (ap (λ (z : Hint). z .number) u ∙ eqb-true (k .number) (h .number) q))) m))
+      (λ q. inr (record {
+        place = v .place;
+        inside = v .inside;
+        holds = (v .holds, eqb-false (k .number) (h .number) q);
+      })))
       (λ n. inl (unmet-stays a hs gs h n m)) (met-or-not gs (h .lsn))
 
-module _ (own other y : Index) (k : HintingIs (own .scan .area) (own .fingerprint) (own .hinting)) (o : HintingIs (other .scan .area) (other .fingerprint) (other .hinting))
-    (area : own .scan .area ≡ other .scan .area) (is : y .hinting .hints ≡ joinedHints (own .scan .area) (own .hinting .most) (own .hinting .hints) (unkept (other .hinting .hints))) where
+module _ (own other y : Index) (k : HintingIs (own .scan .area) (own .fingerprint) (own .hinting))
+    (o : HintingIs (other .scan .area) (other .fingerprint) (other .hinting))
+    (area : own .scan .area ≡ other .scan .area)
+    (is : y .hinting .hints ≡ joinedHints (own .scan .area) (own .hinting .most) (own .hinting .hints)
+    (unkept (other .hinting .hints))) where
   abbrev ms : ℕ
   ms = own .hinting .most
 
@@ -251,7 +290,8 @@ module _ (own other y : Index) (k : HintingIs (own .scan .area) (own .fingerprin
   there : (P : Hint → Type 0) → eqb ms 0 ≡ false → Any P found → One P (y .hinting .hints) ⊎ Thinned own other y
   unfolding joinedHints limitedTo
   there P e a =
-      test (leb (length found) ms) (λ w. inl (subst (λ (z : List Hint). One P z) (sym (is ∙ rw (e, w))) (→one P found a)))
+      test (leb (length found) ms) (λ w. inl (subst (λ (z : List Hint). One P z) (sym (is ∙ rw (e, w)))
+      (→one P found a)))
       (λ w. let l = leb-false (length found) ms w in inr (record { above = omega arith; left = is ∙ rw (e, w) }))
 
   ok-there : hintsOk (own .scan .area) (unkept gs) ≡ true
@@ -261,24 +301,37 @@ module _ (own other y : Index) (k : HintingIs (own .scan .area) (own .fingerprin
   renumbers : (h : Hint) → One (Renumbers h) (unkept gs) → One (Renumbers h) gs
   renumbers h v =
       let l = v .inside in
-      record { place = v .place; inside = omega (arith, unkept-length gs); holds = subst (λ (z : Hint). Renumbers h z) (unkept-at gs (v .place)) (v .holds) }
+      record {
+        place = v .place;
+        inside = omega (arith, unkept-length gs);
+        holds = subst (λ (z : Hint). Renumbers h z) (unkept-at gs (v .place)) (v .holds);
+      }
 
   unkept-among : (h : Hint) → Among gs h → Among (unkept gs) (unkeptHint h)
-  unkept-among h v = let l = v .inside in record { place = v .place; inside = omega (arith, unkept-length gs); holds = unkept-at gs (v .place) ∙ ap unkeptHint (v .holds) }
+  unkept-among h v = let l = v .inside in record {
+    place = v .place;
+    inside = omega (arith, unkept-length gs);
+    holds = unkept-at gs (v .place) ∙ ap unkeptHint (v .holds);
+  }
 
-  own-hint : (h : Hint) → Among (own .hinting .hints) h → Among (y .hinting .hints) h ⊎ (One (Renumbers h) (other .hinting .hints) ⊎ Thinned own other y)
+  own-hint : (h : Hint) → Among (own .hinting .hints) h
+      → Among (y .hinting .hints) h ⊎ (One (Renumbers h) (other .hinting .hints) ⊎ Thinned own other y)
   unfolding joinedHints
   own-hint h a =
       test (eqb ms 0) (λ e. inl (subst (λ (z : List Hint). Among z h) (sym (is ∙ rw e)) a))
-      (λ e. ⊎-elim (λ p. ⊎-elim (λ q. inl q) (λ q. inr (inr q)) (there (λ z. z ≡ h) e p)) (λ p. inr (inl (renumbers h p)))
-      (own-there (own .scan .area) (own .hinting .hints) (unkept gs) ok-there h (one→ (λ z. z ≡ h) (own .hinting .hints) a)))
+      (λ e. ⊎-elim (λ p. ⊎-elim (λ q. inl q) (λ q. inr (inr q)) (there (λ z. z ≡ h) e p))
+      (λ p. inr (inl (renumbers h p)))
+      (own-there (own .scan .area) (own .hinting .hints) (unkept gs) ok-there h
+      (one→ (λ z. z ≡ h) (own .hinting .hints) a)))
 
-  other-hint : (h : Hint) → Among (other .hinting .hints) h → Stands (y .hinting .hints) h ⊎ ((own .hinting .most ≡ 0) ⊎ Thinned own other y)
+  other-hint : (h : Hint) → Among (other .hinting .hints) h
+      → Stands (y .hinting .hints) h ⊎ ((own .hinting .most ≡ 0) ⊎ Thinned own other y)
   other-hint h a =
       test (eqb ms 0) (λ e. inr (inl (eqb-true ms 0 e)))
       (λ e. ⊎-elim (λ q. inl q) (λ q. inr (inr q))
       (there (λ z. unkeptHint z ≡ unkeptHint h) e
-      (other-there (own .scan .area) (own .hinting .hints) (unkept gs) ok-there (unkeptHint h) (one→ (λ z. z ≡ unkeptHint h) (unkept gs) (unkept-among h a)))))
+      (other-there (own .scan .area) (own .hinting .hints) (unkept gs) ok-there (unkeptHint h)
+      (one→ (λ z. z ≡ unkeptHint h) (unkept gs) (unkept-among h a)))))
 
 -- ---- parts
 at-length : (xs ys : List Held) (q : Held) → getD (xs ++ (q ∷ ys)) (length xs) noHeld ≡ q
@@ -292,25 +345,31 @@ module _ (own other y : Scan) (j : Joinable own other) (m : MergeOf own other y)
       let c = counts own (j .ok) in let d = counts other (j .ok') in
       let g : count other ≤ boundaries (own .area) (own .interval) = rw (j .area, j .interval) (d .within) in
       test (complete own) (λ w. let f = c .full w in omega arith)
-      (λ w. test (ltb (count own) (count other)) (λ v. let z : further own other ≡ true = rw w (or-right (complete other) v) in never z e) (λ v. ltb-false (count own) (count other) v))
+      (λ w. test (ltb (count own) (count other))
+      (λ v. let z : further own other ≡ true = rw w (or-right (complete other) v) in never z e)
+      (λ v. ltb-false (count own) (count other) v))
 
   below : (xs ys : List Held) (q : Held) → other .parts ≡ xs ++ (q ∷ ys) → q .at < count other
   below xs ys q e =
       let l : length xs < length (other .parts) = rw e (omega (arith, length-append xs (q ∷ ys))) in
-      let p = part-at (other .area) (other .interval) (other .budget) 0 (other .checkpoints) (other .frames) (other .parts) (length xs) (j .ok' .stretch .held) l in
+      let p = part-at (other .area) (other .interval) (other .budget) 0 (other .checkpoints) (other .frames)
+      (other .parts) (length xs) (j .ok' .stretch .held) l in
       let h = p .high in
-      let i : getD (other .parts) (length xs) noHeld ≡ q = ap (λ (z : List Held). getD z (length xs) noHeld) e ∙ at-length xs ys q in
+      let i : getD (other .parts) (length xs) noHeld ≡ q = ap (λ (z : List Held). getD z (length xs) noHeld) e
+      ∙ at-length xs ys q in
       let g : q .at < 0 + count other = subst (λ (z : Held). z .at < 0 + count other) i h in omega arith
 
   other-part : (xs ys : List Held) (q : Held) → other .parts ≡ xs ++ (q ∷ ys)
       → Holds (storedIn y) (q .at) (contentOf (other .frames) q)
-      ⊎ ((q .at < count own) ⊎ (stores (own .budget) (addParts (own .budget) (other .frames) (count own) xs (storedIn own)) (piece (other .frames) q) ≡ false))
+      ⊎ ((q .at < count own) ⊎ (stores (own .budget)
+      (addParts (own .budget) (other .frames) (count own) xs (storedIn own)) (piece (other .frames) q) ≡ false))
   other-part xs ys q e =
       test (ltb (q .at) (count own)) (λ l. inr (inl (ltb-true (q .at) (count own) l)))
       (λ l.
       test (further own other)
       (λ f.
-      test (stores (own .budget) (addParts (own .budget) (other .frames) (count own) xs (storedIn own)) (piece (other .frames) q))
+      test (stores (own .budget) (addParts (own .budget) (other .frames) (count own) xs (storedIn own))
+      (piece (other .frames) q))
       (λ s. inl (m .parts f .admitted xs ys q e (ltb-false (q .at) (count own) l) s)) (λ s. inr (inr s)))
       (λ f. let a = fewer f in let b = below xs ys q e in inr (inl (omega arith))))
 
@@ -321,13 +380,16 @@ merge-left l m own other y e =
     let r = accepted→ (mergeNumber l own m other) (merged own other) y e in let c = taken l m own other (r .0) in
     let k = hinting→ (own .scan .area) (own .fingerprint) (own .hinting) (holds-of own (c .four)) in
     let o = hinting→ (other .scan .area) (other .fingerprint) (other .hinting) (holds-of other (c .four')) in
-    let ih : y .hinting .hints ≡ joinedHints (own .scan .area) (own .hinting .most) (own .hinting .hints) (unkept (other .hinting .hints)) = sym (ap (λ (z : Index). z .hinting .hints) (r .1)) in
-    let ic : y .hinting .confirmed ≡ keepAll (isChecked (own .fingerprint)) (own .hinting .most) (own .hinting .confirmed) (other .hinting .confirmed) =
+    let ih : y .hinting .hints ≡ joinedHints (own .scan .area) (own .hinting .most) (own .hinting .hints)
+    (unkept (other .hinting .hints)) = sym (ap (λ (z : Index). z .hinting .hints) (r .1)) in
+    let ic : y .hinting .confirmed ≡ keepAll (isChecked (own .fingerprint)) (own .hinting .most)
+    (own .hinting .confirmed) (other .hinting .confirmed) =
     sym (ap (λ (z : Index). z .hinting .confirmed) (r .1)) in
     record {
       hints = own-hint own other y k o (c .area) ih;
       confirmed = own-confirmed own other y k o ic;
-      parts' = other-part (own .scan) (other .scan) (y .scan) (joinable l m own other c) (merge-takes l m own other y e .scan);
+      parts' = other-part (own .scan) (other .scan) (y .scan) (joinable l m own other c)
+          (merge-takes l m own other y e .scan);
       hints' = other-hint own other y k o (c .area) ih;
       confirmed' = other-confirmed own other y k o ic;
     }

@@ -40,26 +40,33 @@ after-not n x k e z =
 four-not : (n : ℕ) → orFour n ≡ 0 → ⊥
 unfolding orFour
 four-not n e =
-    test (ltb 0 n && leb n 3) (λ w. let q : n ≡ 0 = rw w at e in let l = ltb-true 0 n (and-left (ltb 0 n) (leb n 3) w) in omega arith)
+    test (ltb 0 n && leb n 3) (λ w. let q : n ≡ 0 = rw w at e in let l = ltb-true 0 n
+    (and-left (ltb 0 n) (leb n 3) w) in omega arith)
     (λ w. let q : _≡_ {A = ℕ} 4 0 = rw w at e in omega arith)
 
-kinded-not : {A : Type 0} (ok : Bool) (r : Answer A) (k : ℕ) → kinded ok r ≡ Refused k → (r ≡ Refused k → k ≡ 0 → ⊥) → k ≡ 0 → ⊥
+kinded-not : {A : Type 0} (ok : Bool) (r : Answer A) (k : ℕ) → kinded ok r ≡ Refused k → (r ≡ Refused k → k ≡ 0 → ⊥)
+    → k ≡ 0 → ⊥
 unfolding kinded
 kinded-not true r k e f z = f e z
 kinded-not false r k e f z = four-not (numberOf r) (refused-eq e ∙ z)
 
 lacks-not : (x : AreaIndex) (t : Tables) (y : AreaIndex) (u : Tables) (k : ℕ) → lacksIn x t y u ≡ Refused k → k ≡ 0 → ⊥
 unfolding lacks
-lacks-not x t y u k e = kinded-not (kindsIn x t && kindsIn y u) (lacks (roomOf t) (indexIn x t) (roomOf u) (indexIn y u)) k e (λ d. after-not (mergeNumber (roomOf t) (indexIn x t) (roomOf u) (indexIn y u)) (lacking (indexIn x t) (indexIn y u)) k d)
+lacks-not x t y u k e = kinded-not (kindsIn x t && kindsIn y u)
+    (lacks (roomOf t) (indexIn x t) (roomOf u) (indexIn y u)) k e
+    (λ d. after-not (mergeNumber (roomOf t) (indexIn x t) (roomOf u) (indexIn y u))
+    (lacking (indexIn x t) (indexIn y u)) k d)
 
 -- ---- blocks
 in→ : (ok : Bool) (a b : List ℕ) (r : Called) → inHead ok (called 3 a) r ≡ called 0 b → r ≡ called 0 b
 unfolding inHead
 in→ ok a b r e =
     test ok (λ w. rw w at e)
-    (λ w. let q : called 3 a ≡ called 0 b = rw w at e in let z : _≡_ {A = ℕ} 3 0 = ap (λ (v : Called). v .number) q in let f : ⊥ = omega arith in absurd f)
+    (λ w. let q : called 3 a ≡ called 0 b = rw w at e in let z : _≡_ {A = ℕ} 3 0 = ap (λ (v : Called). v .number) q
+    in let f : ⊥ = omega arith in absurd f)
 
-into→ : {A : Type 0} (words : A → List ℕ) (a b : List ℕ) (r : Answer A) → ((k : ℕ) → r ≡ Refused k → k ≡ 0 → ⊥) → into words a r ≡ called 0 b
+into→ : {A : Type 0} (words : A → List ℕ) (a b : List ℕ) (r : Answer A) → ((k : ℕ) → r ≡ Refused k → k ≡ 0 → ⊥)
+    → into words a r ≡ called 0 b
     → (x : A) × (r ≡ Accepted x) × (b ≡ over (blockOf (words x)) a)
 unfolding into
 into→ words a b (Refused n) f e = absurd (f n refl (ap (λ (v : Called). v .number) e))
@@ -80,7 +87,9 @@ unfolding bit
 bit-fits true = omega arith
 bit-fits false = omega arith
 
-head-fits : (b : List ℕ) → Fits32 (headIndex b .checkpoints) × (Fits32 (headIndex b .parts) × (Fits32 (headIndex b .malformed) × (Fits32 (headIndex b .hints) × Fits32 (headIndex b .confirmed))))
+head-fits : (b : List ℕ) → Fits32 (headIndex b .checkpoints)
+    × (Fits32 (headIndex b .parts) × (Fits32 (headIndex b .malformed)
+    × (Fits32 (headIndex b .hints) × Fits32 (headIndex b .confirmed))))
 unfolding headIndex indexRead
 head-fits b = (omega arith, (omega arith, (omega arith, (omega arith, omega arith))))
 
@@ -88,21 +97,26 @@ module _ (x : AreaIndex) (t : Tables) (y : AreaIndex) (u : Tables) where
   abbrev l : Lacks
   l = lacking (indexIn x t) (indexIn y u)
 
-  words-fit : Fits32 (y .checkpoints) → Fits32 (y .parts) → Fits32 (y .malformed) → Fits32 (y .hints) → Fits32 (y .confirmed) → Each Fits64 (lacksWords l)
+  words-fit : Fits32 (y .checkpoints) → Fits32 (y .parts) → Fits32 (y .malformed) → Fits32 (y .hints)
+      → Fits32 (y .confirmed) → Each Fits64 (lacksWords l)
   unfolding lacksWords lacking
   words-fit c p m h k =
       let z : Fits64 0 = omega arith in
-      one (wide _ _ _ (let w : length (indexIn y u .scan .checkpoints) - length (indexIn x t .scan .checkpoints) ≤ length (indexIn y u .scan .checkpoints) = omega arith in w) (records-length 24 decodeCheckpoint (y .checkpoints) (u .checkpoints)) c)
+      one (wide _ _ _ (let w : length (indexIn y u .scan .checkpoints) - length (indexIn x t .scan .checkpoints) ≤
+      length (indexIn y u .scan .checkpoints) = omega arith in w)
+      (records-length 24 decodeCheckpoint (y .checkpoints) (u .checkpoints)) c)
       (one (bit-fits (l .ending))
       (one (wide _ _ _ (few _ _ _) (records-length 24 decodeHeld (y .parts) (u .parts)) p)
       (one (wide _ _ _ (few _ _ _) (records-length 4 decodeLsn (y .malformed) (u .malformed)) m)
       (one (wide _ _ _ (few _ _ _) (records-length 8 decodeKept (y .hints) (u .hints)) h)
       (one (wide _ _ _ (few _ _ _) (records-length 16 decodeConfirmation (y .confirmed) (u .confirmed)) k)
       (one (bit-fits (l .fingerprint)) (one (bit-fits (l .image)) (one (bit-fits (l .budget)) (one (bit-fits (l .most))
-      (one z (one z (one z (one z (one z (one z (one z (one z (one z (one z (one z (one z (one z (one z none)))))))))))))))))))))))
+      (one z (one z (one z (one z (one z (one z (one z
+      (one z (one z (one z (one z (one z (one z (one z none)))))))))))))))))))))))
 
 -- ---- what is told
-words-back : (z : Lacks) (a : List ℕ) → Each Fits64 (lacksWords z) → wordsIn 24 (over (blockOf (lacksWords z)) a) ≡ lacksWords z
+words-back : (z : Lacks) (a : List ℕ) → Each Fits64 (lacksWords z) → wordsIn 24 (over (blockOf (lacksWords z)) a)
+    ≡ lacksWords z
 unfolding lacksWords
 words-back z a g = records-bytes (numbers 8) _ g
 
@@ -112,10 +126,14 @@ lacks-told head other answer b t u e =
     let x = headIndex head in let y = headIndex other in
     let d = in→ (isBlock answer) answer b _ (in→ (isIndex other) answer b _ (in→ (isIndex head) answer b _ e)) in
     let r = into→ lacksWords answer b (lacksIn x t y u) (lacks-not x t y u) d in
-    let k = kinded→ (kindsIn x t && kindsIn y u) (lacks (roomOf t) (indexIn x t) (roomOf u) (indexIn y u)) (r .0) (r .1) in
-    let q : lacking (indexIn x t) (indexIn y u) ≡ r .0 = accepted→ (mergeNumber (roomOf t) (indexIn x t) (roomOf u) (indexIn y u)) (lacking (indexIn x t) (indexIn y u)) (r .0) (k .1) .1 in
+    let k = kinded→ (kindsIn x t && kindsIn y u) (lacks (roomOf t) (indexIn x t) (roomOf u) (indexIn y u)) (r .0)
+    (r .1) in
+    let q : lacking (indexIn x t) (indexIn y u) ≡ r .0 = accepted→
+    (mergeNumber (roomOf t) (indexIn x t) (roomOf u) (indexIn y u)) (lacking (indexIn x t) (indexIn y u)) (r .0)
+    (k .1) .1 in
     let f = head-fits other in
-    let w : Each Fits64 (lacksWords (r .0)) = subst (λ (z : Lacks). Each Fits64 (lacksWords z)) q (words-fit x t y u (f .0) (f .1 .0) (f .1 .1 .0) (f .1 .1 .1 .0) (f .1 .1 .1 .1)) in
+    let w : Each Fits64 (lacksWords (r .0)) = subst (λ (z : Lacks). Each Fits64 (lacksWords z)) q
+    (words-fit x t y u (f .0) (f .1 .0) (f .1 .1 .0) (f .1 .1 .1 .0) (f .1 .1 .1 .1)) in
     record { lacks = r .0; is = r .1; words = ap (wordsIn 24) (r .2) ∙ words-back (r .0) answer w }
 
 -- ---- nothing is lacking
@@ -128,9 +146,19 @@ holds-by : (l : Lacks) → lacksNothing (lacksWords l) ≡ true → holdsAll l �
 unfolding lacksNothing lacksWords holdsAll
 holds-by l e =
     let t = all→ _ e in
-    →all _ (t .0, (bit-none _ (t .1 .0), (t .1 .1 .0, (t .1 .1 .1 .0, (t .1 .1 .1 .1 .0, (t .1 .1 .1 .1 .1 .0, (bit-none _ (t .1 .1 .1 .1 .1 .1 .0), tt)))))))
+    →all _ (
+      t .0,
+      (
+        bit-none _ (t .1 .0),
+        (
+          t .1 .1 .0,
+          (t .1 .1 .1 .0, (t .1 .1 .1 .1 .0, (t .1 .1 .1 .1 .1 .0, (bit-none _ (t .1 .1 .1 .1 .1 .1 .0), tt)))),
+        ),
+      ),
+    )
 
 pub nothing-lacking-in-c : NothingLackingInC
 nothing-lacking-in-c head other answer b t u e n =
     let r = lacks-told head other answer b t u e in
-    nothing-lacking-in-tables (headIndex head) t (headIndex other) u (r .lacks) (r .is) (holds-by (r .lacks) (subst (λ (ws : List ℕ). lacksNothing ws ≡ true) (r .words) n))
+    nothing-lacking-in-tables (headIndex head) t (headIndex other) u (r .lacks) (r .is)
+    (holds-by (r .lacks) (subst (λ (ws : List ℕ). lacksNothing ws ≡ true) (r .words) n))

@@ -60,7 +60,8 @@ nothing→ own other e =
       malformed = covers-count _ _ _ ∙ t .1 .1 .1 .0;
       hints = covers-count _ _ _ ∙ t .1 .1 .1 .1 .0;
       confirmed = covers-count _ _ _ ∙ t .1 .1 .1 .1 .1 .0;
-      fingerprint = known→ (isSome (stated (other .fingerprint))) (isSome (stated (own .fingerprint))) (t .1 .1 .1 .1 .1 .1 .0);
+      fingerprint = known→ (isSome (stated (other .fingerprint))) (isSome (stated (own .fingerprint)))
+          (t .1 .1 .1 .1 .1 .1 .0);
     }
 
 pub →nothing : (own other : Index) → Nothing own other → holdsAll (lacking own other) ≡ true
@@ -72,7 +73,19 @@ unfolding holdsAll lacking
         →known (complete (other .scan)) (complete (own .scan)) (h .ending),
         (
           sym (covers-count _ _ _) ∙ h .parts,
-          (sym (covers-count _ _ _) ∙ h .malformed, (sym (covers-count _ _ _) ∙ h .hints, (sym (covers-count _ _ _) ∙ h .confirmed, (→known (isSome (stated (other .fingerprint))) (isSome (stated (own .fingerprint))) (h .fingerprint), tt)))),
+          (
+            sym (covers-count _ _ _) ∙ h .malformed,
+            (
+              sym (covers-count _ _ _) ∙ h .hints,
+              (
+                sym (covers-count _ _ _) ∙ h .confirmed,
+                (
+                  →known (isSome (stated (other .fingerprint))) (isSome (stated (own .fingerprint))) (h .fingerprint),
+                  tt,
+                ),
+              ),
+            ),
+          ),
         ),
       ),
     )
@@ -84,10 +97,13 @@ lacks-self x =
     (record {
       checkpoints = omega arith;
       ending = λ h. h;
-      parts = covers-self noHeld (samePart (x .scan .frames) (x .scan .frames)) (λ p. →samePart (x .scan .frames) (x .scan .frames) p p refl refl) (x .scan .parts);
+      parts = covers-self noHeld (samePart (x .scan .frames) (x .scan .frames))
+          (λ p. →samePart (x .scan .frames) (x .scan .frames) p p refl refl) (x .scan .parts);
       malformed = covers-self 0 eqb eqb-self (x .scan .malformed);
       hints = covers-self noHint sameHint sameHint-self (x .hinting .hints);
-      confirmed = covers-self noConfirmation confirmsAlso (λ c. →confirms c c (record { lsn = refl; digest = refl; threshold = omega arith })) (x .hinting .confirmed);
+      confirmed = covers-self noConfirmation confirmsAlso
+          (λ c. →confirms c c (record { lsn = refl; digest = refl; threshold = omega arith }))
+          (x .hinting .confirmed);
       fingerprint = λ h. h;
     })
 
@@ -99,19 +115,25 @@ nothing-on a b c p q =
       checkpoints = omega arith;
       ending = λ h. p .ending (q .ending h);
       parts =
-          covers-on noHeld (samePart (a .scan .frames) (b .scan .frames)) (samePart (b .scan .frames) (c .scan .frames)) (samePart (a .scan .frames) (c .scan .frames))
-          (samePart-on (a .scan .frames) (b .scan .frames) (c .scan .frames)) (a .scan .parts) (b .scan .parts) (c .scan .parts) (p .parts) (q .parts);
-      malformed = covers-on 0 eqb eqb eqb eqb-on (a .scan .malformed) (b .scan .malformed) (c .scan .malformed) (p .malformed) (q .malformed);
-      hints = covers-on noHint sameHint sameHint sameHint sameHint-on (a .hinting .hints) (b .hinting .hints) (c .hinting .hints) (p .hints) (q .hints);
+          covers-on noHeld (samePart (a .scan .frames) (b .scan .frames))
+          (samePart (b .scan .frames) (c .scan .frames)) (samePart (a .scan .frames) (c .scan .frames))
+          (samePart-on (a .scan .frames) (b .scan .frames) (c .scan .frames)) (a .scan .parts) (b .scan .parts)
+          (c .scan .parts) (p .parts) (q .parts);
+      malformed = covers-on 0 eqb eqb eqb eqb-on (a .scan .malformed) (b .scan .malformed) (c .scan .malformed)
+          (p .malformed) (q .malformed);
+      hints = covers-on noHint sameHint sameHint sameHint sameHint-on (a .hinting .hints) (b .hinting .hints)
+          (c .hinting .hints) (p .hints) (q .hints);
       confirmed =
-          covers-on noConfirmation confirmsAlso confirmsAlso confirmsAlso confirms-on (a .hinting .confirmed) (b .hinting .confirmed) (c .hinting .confirmed) (p .confirmed)
+          covers-on noConfirmation confirmsAlso confirmsAlso confirmsAlso confirms-on (a .hinting .confirmed)
+          (b .hinting .confirmed) (c .hinting .confirmed) (p .confirmed)
           (q .confirmed);
       fingerprint = λ h. p .fingerprint (q .fingerprint h);
     }
 
 -- ---- 41 to 43, on
 -- known values: where the last is known the middle one is
-agree-on : {A : Type 0} (same : A → A → Bool) → ((a b : A) → same a b ≡ true → a ≡ b) → (o p q : Option A) → (isSome q ≡ true → isSome p ≡ true)
+agree-on : {A : Type 0} (same : A → A → Bool) → ((a b : A) → same a b ≡ true → a ≡ b) → (o p q : Option A)
+    → (isSome q ≡ true → isSome p ≡ true)
     → agree same o p ≡ true → agree same p q ≡ true → agree same o q ≡ true
 unfolding agree isSome
 agree-on same eq none p q f a b = refl
@@ -120,15 +142,18 @@ agree-on same eq (some x) none (some z) f a b = never {b = false} (f refl) refl
 agree-on same eq (some x) (some y) (some z) f a b = subst (λ w. same w z ≡ true) (sym (eq x y a)) b
 
 -- lists that agree over the shorter length, the last being no longer than the middle one
-agrees-on : {A : Type 0} (same : A → A → Bool) → ((a b : A) → same a b ≡ true → a ≡ b) → (xs ys zs : List A) → length zs ≤ length ys
+agrees-on : {A : Type 0} (same : A → A → Bool) → ((a b : A) → same a b ≡ true → a ≡ b) → (xs ys zs : List A)
+    → length zs ≤ length ys
     → agrees same xs ys ≡ true → agrees same ys zs ≡ true → agrees same xs zs ≡ true
 unfolding agrees
 agrees-on same eq [] ys zs l a b = refl
 agrees-on same eq (x ∷ xs) ys [] l a b = refl
 agrees-on same eq (x ∷ xs) [] (z ∷ zs) l a b = let w : ⊥ = omega arith in absurd w
 agrees-on same eq (x ∷ xs) (y ∷ ys) (z ∷ zs) l a b =
-    both (subst (λ w. same w z ≡ true) (sym (eq x y (and-left (same x y) (agrees same xs ys) a))) (and-left (same y z) (agrees same ys zs) b))
-    (agrees-on same eq xs ys zs (omega arith) (and-right (same x y) (agrees same xs ys) a) (and-right (same y z) (agrees same ys zs) b))
+    both (subst (λ w. same w z ≡ true) (sym (eq x y (and-left (same x y) (agrees same xs ys) a)))
+    (and-left (same y z) (agrees same ys zs) b))
+    (agrees-on same eq xs ys zs (omega arith) (and-right (same x y) (agrees same xs ys) a)
+    (and-right (same y z) (agrees same ys zs) b))
 
 -- what a call that is not refused knows
 pub record Asked (l : Lengths) (own : Index) (m : Lengths) (other : Index) : Type 0 where
@@ -144,7 +169,15 @@ pub asked→ : (l m : Lengths) (own other : Index) → mergeNumber l own m other
 unfolding mergeNumber
 asked→ l m own other e =
     let q = asked _ refl e in
-    record { one = q .0; two = q .1 .0; three = q .1 .1 .0; four = q .1 .1 .1 .0; q41 = q .1 .1 .1 .1 .0; q42 = q .1 .1 .1 .1 .1 .0; q43 = q .1 .1 .1 .1 .1 .1 .0 }
+    record {
+      one = q .0;
+      two = q .1 .0;
+      three = q .1 .1 .0;
+      four = q .1 .1 .1 .0;
+      q41 = q .1 .1 .1 .1 .0;
+      q42 = q .1 .1 .1 .1 .1 .0;
+      q43 = q .1 .1 .1 .1 .1 .1 .0;
+    }
 
 pub →asked : (l m : Lengths) (own other : Index) → Asked l own m other → mergeNumber l own m other ≡ 0
 unfolding mergeNumber
@@ -158,23 +191,37 @@ q41-on a b c p q =
     let k : a .scan .interval ≡ b .scan .interval = eqb-true _ _ (x .1 .0) in
     →all _ (rw e (y .0), (rw k (y .1 .0), tt))
 
-q42-on : (a b c : Index) → Nothing b c → agree eqb (a .image) (c .image) ≡ true → question42 a b ≡ true → question42 b c ≡ true → question42 a c ≡ true
+q42-on : (a b c : Index) → Nothing b c → agree eqb (a .image) (c .image) ≡ true → question42 a b ≡ true
+    → question42 b c ≡ true → question42 a c ≡ true
 unfolding question42
 q42-on a b c h i p q =
     let x = all→ _ p in let y = all→ _ q in
-    →all _ (i, (agree-on eqb eqb-true (stated (a .fingerprint)) (stated (b .fingerprint)) (stated (c .fingerprint)) (h .fingerprint) (x .1 .0) (y .1 .0), tt))
+    →all _ (
+      i,
+      (
+        agree-on eqb eqb-true (stated (a .fingerprint)) (stated (b .fingerprint)) (stated (c .fingerprint))
+            (h .fingerprint) (x .1 .0) (y .1 .0),
+        tt,
+      ),
+    )
 
 q43-on : (a b c : Index) → Nothing b c → question43 a b ≡ true → question43 b c ≡ true → question43 a c ≡ true
 unfolding question43
 q43-on a b c h p q =
     let x = all→ _ p in let y = all→ _ q in
     →all _ (
-      agrees-on sameCheckpoint sameCheckpoint-eq (a .scan .checkpoints) (b .scan .checkpoints) (c .scan .checkpoints) (h .checkpoints) (x .0) (y .0),
-      (agree-on sameEnd sameEnd-eq (a .scan .ending) (b .scan .ending) (c .scan .ending) (h .ending) (x .1 .0) (y .1 .0), tt),
+      agrees-on sameCheckpoint sameCheckpoint-eq (a .scan .checkpoints) (b .scan .checkpoints) (c .scan .checkpoints)
+          (h .checkpoints) (x .0) (y .0),
+      (
+        agree-on sameEnd sameEnd-eq (a .scan .ending) (b .scan .ending) (c .scan .ending) (h .ending) (x .1 .0)
+            (y .1 .0),
+        tt,
+      ),
     )
 
 -- an accepted call that names nothing
-pub lacks→ : (l m : Lengths) (own other : Index) (x : Lacks) → lacks l own m other ≡ Accepted x → holdsAll x ≡ true → Asked l own m other × Nothing own other
+pub lacks→ : (l m : Lengths) (own other : Index) (x : Lacks) → lacks l own m other ≡ Accepted x → holdsAll x ≡ true
+    → Asked l own m other × Nothing own other
 unfolding lacks
 lacks→ l m own other x e h =
     let r = accepted→ (mergeNumber l own m other) (lacking own other) x e in
@@ -191,8 +238,10 @@ lacks-trans l m n a b c x y e h f k i =
           (record {
             one = both (and-left (question1 a) (question1 b) (s .one)) (and-right (question1 b) (question1 c) (t .one));
             two = both (and-left (question2 a) (question2 b) (s .two)) (and-right (question2 b) (question2 c) (t .two));
-            three = both (and-left (question3 l a) (question3 m b) (s .three)) (and-right (question3 m b) (question3 n c) (t .three));
-            four = both (and-left (question4 a) (question4 b) (s .four)) (and-right (question4 b) (question4 c) (t .four));
+            three = both (and-left (question3 l a) (question3 m b) (s .three))
+                (and-right (question3 m b) (question3 n c) (t .three));
+            four = both (and-left (question4 a) (question4 b) (s .four))
+                (and-right (question4 b) (question4 c) (t .four));
             q41 = q41-on a b c (s .q41) (t .q41);
             q42 = q42-on a b c (q .1) i (s .q42) (t .q42);
             q43 = q43-on a b c (q .1) (s .q43) (t .q43);

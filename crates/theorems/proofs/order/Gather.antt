@@ -37,12 +37,15 @@ all-there P (x ∷ xs) f = (f x (List·Memᴰ·head refl), all-there P xs (λ y 
 -- and what holds of all, of each that is there
 pub all-member : {A : Type 0} (P : A → Type 0) (xs : List A) (x : A) → All P xs → List·Memᴰ x xs → P x
 all-member P [] x a m = absurd (List·Memᴰ·not-nil m)
-all-member P (y ∷ ys) x a m = ⊎-elim (λ e. subst P (sym e) (a .0)) (λ n. all-member P ys x (a .1) n) (List·Memᴰ·cases-cons m)
+all-member P (y ∷ ys) x a m = ⊎-elim (λ e. subst P (sym e) (a .0)) (λ n. all-member P ys x (a .1) n)
+    (List·Memᴰ·cases-cons m)
 
 -- of one of which P holds
-pub one-there : {A : Type 0} {P : A → Type 0} (G : Type 0) (xs : List A) → ((x : A) → List·Memᴰ x xs → P x → G) → Any P xs → G
+pub one-there : {A : Type 0} {P : A → Type 0} (G : Type 0) (xs : List A) → ((x : A) → List·Memᴰ x xs → P x → G)
+    → Any P xs → G
 one-there G [] f h = absurd h
-one-there G (x ∷ xs) f h = ⊎-elim (λ p. f x (List·Memᴰ·head refl) p) (λ r. one-there G xs (λ y m. f y (List·Memᴰ·tail m)) r) h
+one-there G (x ∷ xs) f h = ⊎-elim (λ p. f x (List·Memᴰ·head refl) p)
+    (λ r. one-there G xs (λ y m. f y (List·Memᴰ·tail m)) r) h
 
 -- ---- a number among others, and the others without it
 without : (n : ℕ) (ls : List ℕ) → Has ls n → List ℕ
@@ -65,61 +68,75 @@ without-in n (l ∷ ls) (inr r) m d (inl f) = inl f
 without-in n (l ∷ ls) (inr r) m d (inr i) = inr (without-in n ls r m d i)
 
 -- keys that rise, each among ls, are at most as many
-pub fewer : {A : Type 0} (key : A → ℕ) (ls : List ℕ) (b : ℕ) (xs : List A) → Rises key b xs → All (λ x. Has ls (key x)) xs → length xs ≤ length ls
+pub fewer : {A : Type 0} (key : A → ℕ) (ls : List ℕ) (b : ℕ) (xs : List A) → Rises key b xs
+    → All (λ x. Has ls (key x)) xs → length xs ≤ length ls
 fewer key ls b [] r a = omega arith
 fewer key ls b (x ∷ xs) r a =
     let up = rises-all key (suc (key x)) xs (r .1) in
     let rest = all-map (λ z. (suc (key x) ≤ key z) × Has ls (key z)) (λ z. Has (without (key x) ls (a .0)) (key z))
-    (λ z h. let l = h .0 in without-in (key x) ls (a .0) (key z) (omega arith) (h .1)) xs (all-both (λ z. suc (key x) ≤ key z) (λ z. Has ls (key z)) xs up (a .1)) in
+    (λ z h. let l = h .0 in without-in (key x) ls (a .0) (key z) (omega arith) (h .1)) xs
+    (all-both (λ z. suc (key x) ≤ key z) (λ z. Has ls (key z)) xs up (a .1)) in
     omega (arith, fewer key (without (key x) ls (a .0)) (suc (key x)) xs (r .1) rest, without-length (key x) ls (a .0))
 
 -- ---- two lists merged: where two that meet, each Ok, give one of them, which covers both
-pub record Meets {A : Type 0} (key : A → ℕ) (meet : A → A → A) (Ok : A → Type 0) (Covers : A → A → Type 0) : Type 0 where
-  pub one : (x y : A) → key x ≡ key y → Ok x → Ok y → (meet x y ≡ x) ⊎ (meet x y ≡ y)
-  pub own : (x y : A) → key x ≡ key y → Ok x → Ok y → Covers (meet x y) x
-  pub other : (x y : A) → key x ≡ key y → Ok x → Ok y → Covers (meet x y) y
-  pub through : (x y z : A) → Covers x y → Covers y z → Covers x z
+pub record Meets {A : Type 0} (key : A → ℕ) (meet : A → A → A) (Ok : A → Type 0) (Covers : A → A → Type 0) : Type 0
+  where
+    pub one : (x y : A) → key x ≡ key y → Ok x → Ok y → (meet x y ≡ x) ⊎ (meet x y ≡ y)
+    pub own : (x y : A) → key x ≡ key y → Ok x → Ok y → Covers (meet x y) x
+    pub other : (x y : A) → key x ≡ key y → Ok x → Ok y → Covers (meet x y) y
+    pub through : (x y z : A) → Covers x y → Covers y z → Covers x z
 
-module _ {A : Type 0} (key : A → ℕ) (meet : A → A → A) (Ok : A → Type 0) (Covers : A → A → Type 0) (m : Meets key meet Ok Covers) where
+module _ {A : Type 0} (key : A → ℕ) (meet : A → A → A) (Ok : A → Type 0) (Covers : A → A → Type 0)
+    (m : Meets key meet Ok Covers) where
   -- what holds of the two holds of what they give
   met : (P : A → Type 0) (x y : A) → key x ≡ key y → Ok x → Ok y → P x → P y → P (meet x y)
   met P x y e o k p q = ⊎-elim (λ h. rw h p) (λ h. rw h q) (m .one x y e o k)
 
   -- P of each
-  pub with-all : (P : A → Type 0) (xs ys : List A) → All Ok xs → All Ok ys → All P xs → All P ys → All P (mergedWith key meet xs ys)
+  pub with-all : (P : A → Type 0) (xs ys : List A) → All Ok xs → All Ok ys → All P xs → All P ys
+      → All P (mergedWith key meet xs ys)
   with-all P [] ys a b p q = rw (nil-with key meet ys) q
   with-all P (x ∷ xs) [] a b p q = rw (with-nil key meet (x ∷ xs)) p
   with-all P (x ∷ xs) (y ∷ ys) a b p q =
-      with-cases key meet (All P) x y xs ys (λ l. (p .0, with-all P xs (y ∷ ys) (a .1) b (p .1) q)) (λ l. (q .0, with-all P (x ∷ xs) ys a (b .1) p (q .1)))
+      with-cases key meet (All P) x y xs ys (λ l. (p .0, with-all P xs (y ∷ ys) (a .1) b (p .1) q))
+      (λ l. (q .0, with-all P (x ∷ xs) ys a (b .1) p (q .1)))
       (λ e. (met P x y e (a .0) (b .0) (p .0) (q .0), with-all P xs ys (a .1) (b .1) (p .1) (q .1)))
 
   -- each comes from one of both
-  pub with-from : (P : A → Type 0) (xs ys : List A) → All Ok xs → All Ok ys → Any P (mergedWith key meet xs ys) → Any P xs ⊎ Any P ys
+  pub with-from : (P : A → Type 0) (xs ys : List A) → All Ok xs → All Ok ys → Any P (mergedWith key meet xs ys)
+      → Any P xs ⊎ Any P ys
   with-from P [] ys a b h = inr (rw (nil-with key meet ys) at h)
   with-from P (x ∷ xs) [] a b h = inl (rw (with-nil key meet (x ∷ xs)) at h)
   with-from P (x ∷ xs) (y ∷ ys) a b h =
       with-cases key meet (λ l. Any P l → Any P (x ∷ xs) ⊎ Any P (y ∷ ys)) x y xs ys
-      (λ l. ⊎-elim (λ p. inl (inl p)) (λ r. ⊎-elim (λ s. inl (inr s)) (λ s. inr s) (with-from P xs (y ∷ ys) (a .1) b r)))
-      (λ l. ⊎-elim (λ p. inr (inl p)) (λ r. ⊎-elim (λ s. inl s) (λ s. inr (inr s)) (with-from P (x ∷ xs) ys a (b .1) r)))
+      (λ l. ⊎-elim (λ p. inl (inl p)) (λ r. ⊎-elim (λ s. inl (inr s)) (λ s. inr s)
+      (with-from P xs (y ∷ ys) (a .1) b r)))
+      (λ l. ⊎-elim (λ p. inr (inl p)) (λ r. ⊎-elim (λ s. inl s) (λ s. inr (inr s))
+      (with-from P (x ∷ xs) ys a (b .1) r)))
       (λ e. ⊎-elim (λ p. ⊎-elim (λ k. inl (inl (rw k at p))) (λ k. inr (inl (rw k at p))) (m .one x y e (a .0) (b .0)))
       (λ r. ⊎-elim (λ s. inl (inr s)) (λ s. inr (inr s)) (with-from P xs ys (a .1) (b .1) r))) h
 
   -- what covers d in one of both, something covers afterwards
-  pub with-own : (d : A) (xs ys : List A) → All Ok xs → All Ok ys → Any (λ c. Covers c d) xs → Any (λ c. Covers c d) (mergedWith key meet xs ys)
+  pub with-own : (d : A) (xs ys : List A) → All Ok xs → All Ok ys → Any (λ c. Covers c d) xs
+      → Any (λ c. Covers c d) (mergedWith key meet xs ys)
   with-own d [] ys a b h = absurd h
   with-own d (x ∷ xs) [] a b h = rw (with-nil key meet (x ∷ xs)) h
   with-own d (x ∷ xs) (y ∷ ys) a b h =
-      with-cases key meet (Any (λ c. Covers c d)) x y xs ys (λ l. ⊎-elim (λ p. inl p) (λ r. inr (with-own d xs (y ∷ ys) (a .1) b r)) h)
+      with-cases key meet (Any (λ c. Covers c d)) x y xs ys
+      (λ l. ⊎-elim (λ p. inl p) (λ r. inr (with-own d xs (y ∷ ys) (a .1) b r)) h)
       (λ l. inr (with-own d (x ∷ xs) ys a (b .1) h))
-      (λ e. ⊎-elim (λ p. inl (m .through (meet x y) x d (m .own x y e (a .0) (b .0)) p)) (λ r. inr (with-own d xs ys (a .1) (b .1) r)) h)
+      (λ e. ⊎-elim (λ p. inl (m .through (meet x y) x d (m .own x y e (a .0) (b .0)) p))
+      (λ r. inr (with-own d xs ys (a .1) (b .1) r)) h)
 
-  pub with-other : (d : A) (xs ys : List A) → All Ok xs → All Ok ys → Any (λ c. Covers c d) ys → Any (λ c. Covers c d) (mergedWith key meet xs ys)
+  pub with-other : (d : A) (xs ys : List A) → All Ok xs → All Ok ys → Any (λ c. Covers c d) ys
+      → Any (λ c. Covers c d) (mergedWith key meet xs ys)
   with-other d [] ys a b h = rw (nil-with key meet ys) h
   with-other d (x ∷ xs) [] a b h = absurd h
   with-other d (x ∷ xs) (y ∷ ys) a b h =
       with-cases key meet (Any (λ c. Covers c d)) x y xs ys (λ l. inr (with-other d xs (y ∷ ys) (a .1) b h))
       (λ l. ⊎-elim (λ p. inl p) (λ r. inr (with-other d (x ∷ xs) ys a (b .1) r)) h)
-      (λ e. ⊎-elim (λ p. inl (m .through (meet x y) y d (m .other x y e (a .0) (b .0)) p)) (λ r. inr (with-other d xs ys (a .1) (b .1) r)) h)
+      (λ e. ⊎-elim (λ p. inl (m .through (meet x y) y d (m .other x y e (a .0) (b .0)) p))
+      (λ r. inr (with-other d xs ys (a .1) (b .1) r)) h)
 
 -- ---- lists that rise
 -- one that is among them has a key of b or more
@@ -129,17 +146,21 @@ has-from key b (y ∷ ys) x r (inl e) = rw (← ap key e) (r .0)
 has-from key b (y ∷ ys) x r (inr h) = let l = r .0 in omega (arith, has-from key (suc (key y)) ys x (r .1) h)
 
 -- at one key there is one
-has-one : {A : Type 0} (key : A → ℕ) (b : ℕ) (xs : List A) (x y : A) → Rises key b xs → Has xs x → Has xs y → key x ≡ key y → x ≡ y
+has-one : {A : Type 0} (key : A → ℕ) (b : ℕ) (xs : List A) (x y : A) → Rises key b xs → Has xs x → Has xs y → key x
+    ≡ key y → x ≡ y
 has-one key b [] x y r h g e = absurd h
 has-one key b (z ∷ zs) x y r (inl h) (inl g) e = sym h ∙ g
 has-one key b (z ∷ zs) x y r (inl h) (inr g) e =
-    let n = ap key h in let l = has-from key (suc (key z)) zs y (r .1) g in let w : ⊥ = omega (arith, n, l, e) in absurd w
+    let n = ap key h in let l = has-from key (suc (key z)) zs y (r .1) g in let w : ⊥ = omega (arith, n, l, e)
+    in absurd w
 has-one key b (z ∷ zs) x y r (inr h) (inl g) e =
-    let n = ap key g in let l = has-from key (suc (key z)) zs x (r .1) h in let w : ⊥ = omega (arith, n, l, e) in absurd w
+    let n = ap key g in let l = has-from key (suc (key z)) zs x (r .1) h in let w : ⊥ = omega (arith, n, l, e)
+    in absurd w
 has-one key b (z ∷ zs) x y r (inr h) (inr g) e = has-one key (suc (key z)) zs x y (r .1) h g e
 
 -- two of them with the same members are the same
-has-same : {A : Type 0} (key : A → ℕ) (b : ℕ) (xs ys : List A) → Rises key b xs → Rises key b ys → ((x : A) → Has xs x → Has ys x)
+has-same : {A : Type 0} (key : A → ℕ) (b : ℕ) (xs ys : List A) → Rises key b xs → Rises key b ys
+    → ((x : A) → Has xs x → Has ys x)
     → ((x : A) → Has ys x → Has xs x) → xs ≡ ys
 has-same key b [] [] r s f g = refl
 has-same key b [] (y ∷ ys) r s f g = absurd (g y (inl refl))
@@ -149,19 +170,25 @@ has-same {A = A} key b (x ∷ xs) (y ∷ ys) r s f g =
     (λ (e : x ≡ y).
     let k = ap key e in
     has-same key (suc (key x)) xs ys (r .1) (rw e (s .1))
-    (λ z m. ⊎-elim (λ (h : y ≡ z). let n = ap key h in let l = has-from key (suc (key x)) xs z (r .1) m in let w : ⊥ = omega (arith, n, k, l) in absurd w) (λ h. h) (f z (inr m)))
-    (λ z m. ⊎-elim (λ (h : x ≡ z). let n = ap key h in let l = has-from key (suc (key y)) ys z (s .1) m in let w : ⊥ = omega (arith, n, k, l) in absurd w) (λ h. h) (g z (inr m))))
+    (λ z m. ⊎-elim (λ (h : y ≡ z). let n = ap key h in let l = has-from key (suc (key x)) xs z (r .1) m
+    in let w : ⊥ = omega (arith, n, k, l) in absurd w) (λ h. h) (f z (inr m)))
+    (λ z m. ⊎-elim (λ (h : x ≡ z). let n = ap key h in let l = has-from key (suc (key y)) ys z (s .1) m
+    in let w : ⊥ = omega (arith, n, k, l) in absurd w) (λ h. h) (g z (inr m))))
   where
     same : Has (y ∷ ys) x → Has (x ∷ xs) y → (x ≡ y → xs ≡ ys) → _≡_ {A = List A} (x ∷ xs) (y ∷ ys)
     same (inl e) m tails = λ i. sym e i ∷ tails (sym e) i
     same (inr h) (inl e) tails = λ i. e i ∷ tails e i
     same (inr h) (inr m) tails =
-        let l = has-from key (suc (key y)) ys x (s .1) h in let n = has-from key (suc (key x)) xs y (r .1) m in let w : ⊥ = omega (arith, l, n) in absurd w
+        let l = has-from key (suc (key y)) ys x (s .1) h in let n = has-from key (suc (key x)) xs y (r .1) m
+        in let w : ⊥ = omega (arith, l, n) in absurd w
 
 -- the same of members
-pub one-at : {A : Type 0} (key : A → ℕ) (b : ℕ) (xs : List A) (x y : A) → Rises key b xs → List·Memᴰ x xs → List·Memᴰ y xs → key x ≡ key y → x ≡ y
+pub one-at : {A : Type 0} (key : A → ℕ) (b : ℕ) (xs : List A) (x y : A) → Rises key b xs → List·Memᴰ x xs
+    → List·Memᴰ y xs → key x ≡ key y → x ≡ y
 one-at key b xs x y r h g e = has-one key b xs x y r (→has xs x h) (→has xs y g) e
 
-pub same-members : {A : Type 0} (key : A → ℕ) (b : ℕ) (xs ys : List A) → Rises key b xs → Rises key b ys → ((x : A) → List·Memᴰ x xs → List·Memᴰ x ys)
+pub same-members : {A : Type 0} (key : A → ℕ) (b : ℕ) (xs ys : List A) → Rises key b xs → Rises key b ys
+    → ((x : A) → List·Memᴰ x xs → List·Memᴰ x ys)
     → ((x : A) → List·Memᴰ x ys → List·Memᴰ x xs) → xs ≡ ys
-same-members key b xs ys r s f g = has-same key b xs ys r s (λ x m. →has ys x (f x (has→ xs x m))) (λ x m. →has xs x (g x (has→ ys x m)))
+same-members key b xs ys r s f g = has-same key b xs ys r s (λ x m. →has ys x (f x (has→ xs x m)))
+    (λ x m. →has xs x (g x (has→ ys x m)))

@@ -50,12 +50,14 @@ module _ (p : ℕ → Place) (a : Area) (k most : ℕ) (t : Together p a k most)
   no-mark w h m =
       let x = p w .list in
       let r = hinting→ (x .scan .area) (x .fingerprint) (x .hinting) (holds-of x (t .valid w .four)) .marks in
-      let l = leb-true _ _ (all-member (λ g. markOk g ≡ true) (hintsAt (p w)) h (each→ markOk (hintsAt (p w)) (all→ _ r .0)) m) in
+      let l = leb-true _ _ (all-member (λ g. markOk g ≡ true) (hintsAt (p w)) h
+      (each→ markOk (hintsAt (p w)) (all→ _ r .0)) m) in
       let k = eqb-false _ _ (t .unmarked w h m) in
       below (h .mark) l k
     where
       below : (n : ℕ) → n ≤ 1 → (n ≡ 1 → ⊥) → n ≡ 0
-      below n l k = test (eqb n 0) (λ e. eqb-true n 0 e) (λ e. let z : n ≡ 0 → ⊥ = eqb-false n 0 e in absurd (k (omega (arith, z))))
+      below n l k = test (eqb n 0) (λ e. eqb-true n 0 e)
+          (λ e. let z : n ≡ 0 → ⊥ = eqb-false n 0 e in absurd (k (omega (arith, z))))
 
   one-number : OneNumber Given
   one-number h g e m n =
@@ -77,11 +79,14 @@ module _ (p : ℕ → Place) (a : Area) (k most : ℕ) (t : Together p a k most)
     pub limit : q .list .hinting .most ≡ most
     pub fingerprint : q .list .fingerprint ≡ p i .list .fingerprint
     pub image : (q .list .image ≡ none) ⊎ ((w : ℕ) × (q .list .image ≡ p w .list .image))
-    pub read : (w : ℕ) × (q .list .scan .checkpoints ≡ p w .list .scan .checkpoints) × (q .list .scan .ending ≡ p w .list .scan .ending)
+    pub read : (w : ℕ) × (q .list .scan .checkpoints ≡ p w .list .scan .checkpoints)
+        × (q .list .scan .ending ≡ p w .list .scan .ending)
     pub hintsFrom : (h : Hint) → List·Memᴰ h (hintsAt q) → (w : ℕ) × List·Memᴰ w ws × List·Memᴰ h (hintsAt (p w))
     pub hintsAll : (w : ℕ) (h : Hint) → List·Memᴰ w ws → List·Memᴰ h (hintsAt (p w)) → List·Memᴰ h (hintsAt q)
-    pub confirmedFrom : (c : Confirmation) → List·Memᴰ c (confirmedAt q) → (w : ℕ) × List·Memᴰ w ws × List·Memᴰ c (confirmedAt (p w))
-    pub confirmedAll : (w : ℕ) (d : Confirmation) → List·Memᴰ w ws → List·Memᴰ d (confirmedAt (p w)) → Any (λ c. ConfirmsAlso c d) (confirmedAt q)
+    pub confirmedFrom : (c : Confirmation) → List·Memᴰ c (confirmedAt q) → (w : ℕ) × List·Memᴰ w ws
+        × List·Memᴰ c (confirmedAt (p w))
+    pub confirmedAll : (w : ℕ) (d : Confirmation) → List·Memᴰ w ws → List·Memᴰ d (confirmedAt (p w))
+        → Any (λ c. ConfirmsAlso c d) (confirmedAt q)
 
   pub start : (i : ℕ) → Inv i (p i) (i ∷ [])
   start i =
@@ -98,7 +103,8 @@ module _ (p : ℕ → Place) (a : Area) (k most : ℕ) (t : Together p a k most)
         confirmedFrom = λ c m. (i, List·Memᴰ·head refl, m);
         confirmedAll = λ w d m n.
             any-map (λ c. c ≡ d) (λ c. ConfirmsAlso c d) (λ c e. rw e (better-self d)) (confirmedAt (p i))
-            (→has (confirmedAt (p i)) d (subst (λ (v : ℕ). List·Memᴰ d (confirmedAt (p v))) (List·Memᴰ·eq-of-singleton m) n));
+            (→has (confirmedAt (p i)) d (subst (λ (v : ℕ). List·Memᴰ d (confirmedAt (p v)))
+            (List·Memᴰ·eq-of-singleton m) n));
       }
 
   -- ---- a merge
@@ -111,12 +117,14 @@ module _ (p : ℕ → Place) (a : Area) (k most : ℕ) (t : Together p a k most)
     unfolding agree
     images-agree =
         ⊎-elim (λ e. rw e refl)
-        (λ m. ⊎-elim (λ e. rw e (agree-none eqb (q .list .image))) (λ n. rw (m .1, n .1) (t .images (m .0) (n .0))) (d .image)) (c .image)
+        (λ m. ⊎-elim (λ e. rw e (agree-none eqb (q .list .image))) (λ n. rw (m .1, n .1) (t .images (m .0) (n .0)))
+        (d .image)) (c .image)
 
     prints-agree : agree eqb (stated (q .list .fingerprint)) (stated (r .list .fingerprint)) ≡ true
     unfolding agree stated
     prints-agree =
-        ⊎-elim (λ f. rw (c .fingerprint, f i) refl) (λ f. rw (c .fingerprint, d .fingerprint, f .1 i, f .1 j) (eqb-self (f .0))) (t .fingerprint)
+        ⊎-elim (λ f. rw (c .fingerprint, f i) refl)
+        (λ f. rw (c .fingerprint, d .fingerprint, f .1 i, f .1 j) (eqb-self (f .0))) (t .fingerprint)
 
     same-ids : question42 (q .list) (r .list) ≡ true
     unfolding question42
@@ -132,7 +140,13 @@ module _ (p : ℕ → Place) (a : Area) (k most : ℕ) (t : Together p a k most)
     unfolding mergeNumber
     joins =
         let v = c .valid in let w = d .valid in
-        asks _ (both (v .one) (w .one), (both (v .two) (w .two), (both (v .three) (w .three), (both (v .four) (w .four), (same-area, (same-ids, (same-read, tt)))))))
+        asks _ (
+          both (v .one) (w .one),
+          (
+            both (v .two) (w .two),
+            (both (v .three) (w .three), (both (v .four) (w .four), (same-area, (same-ids, (same-read, tt))))),
+          ),
+        )
 
     abbrev list : Index
     list = merged (q .list) (r .list)
@@ -144,7 +158,8 @@ module _ (p : ℕ → Place) (a : Area) (k most : ℕ) (t : Together p a k most)
     of-scans : MergeOf (q .list .scan) (r .list .scan) (list .scan)
     of-scans = merge-takes (q .room) (r .room) (q .list) (r .list) list is-merged .scan
 
-    read-after : (w : ℕ) × (list .scan .checkpoints ≡ p w .list .scan .checkpoints) × (list .scan .ending ≡ p w .list .scan .ending)
+    read-after : (w : ℕ) × (list .scan .checkpoints ≡ p w .list .scan .checkpoints)
+        × (list .scan .ending ≡ p w .list .scan .ending)
     read-after =
         test (further (q .list .scan) (r .list .scan))
         (λ f. let s = of-scans .taken f .0 in (d .read .0, s .checkpoints ∙ d .read .1, s .ending ∙ d .read .2))
@@ -154,20 +169,25 @@ module _ (p : ℕ → Place) (a : Area) (k most : ℕ) (t : Together p a k most)
     unfolding merged orElse
     image-after = either (q .list .image) (r .list .image) (c .image) (d .image)
       where
-        either : (m n : Option ℕ) → (m ≡ none) ⊎ ((w : ℕ) × (m ≡ p w .list .image)) → (n ≡ none) ⊎ ((w : ℕ) × (n ≡ p w .list .image))
+        either : (m n : Option ℕ) → (m ≡ none) ⊎ ((w : ℕ) × (m ≡ p w .list .image))
+            → (n ≡ none) ⊎ ((w : ℕ) × (n ≡ p w .list .image))
             → (orElse m n ≡ none) ⊎ ((w : ℕ) × (orElse m n ≡ p w .list .image))
         either none n h g = g
         either (some v) n h g = h
 
     print-after : list .fingerprint ≡ q .list .fingerprint
     unfolding merged
-    print-after = ⊎-elim (λ f. rw (c .fingerprint, d .fingerprint, f i, f j) (unfold mergedFingerprint in unfold stated in unfold heldFrom in refl)) (λ f. rw (c .fingerprint, f .1 i) (unfold mergedFingerprint in refl)) (t .fingerprint)
+    print-after = ⊎-elim (λ f. rw (c .fingerprint, d .fingerprint, f i, f j)
+        (unfold mergedFingerprint in unfold stated in unfold heldFrom in refl))
+        (λ f. rw (c .fingerprint, f .1 i) (unfold mergedFingerprint in refl)) (t .fingerprint)
 
     own-is : HintingIs (q .list .scan .area) (q .list .fingerprint) (q .list .hinting)
-    own-is = hinting→ (q .list .scan .area) (q .list .fingerprint) (q .list .hinting) (holds-of (q .list) (c .valid .four))
+    own-is = hinting→ (q .list .scan .area) (q .list .fingerprint) (q .list .hinting)
+        (holds-of (q .list) (c .valid .four))
 
     other-is : HintingIs (r .list .scan .area) (r .list .fingerprint) (r .list .hinting)
-    other-is = hinting→ (r .list .scan .area) (r .list .fingerprint) (r .list .hinting) (holds-of (r .list) (d .valid .four))
+    other-is = hinting→ (r .list .scan .area) (r .list .fingerprint) (r .list .hinting)
+        (holds-of (r .list) (d .valid .four))
 
     area-after : list .scan .area ≡ q .list .scan .area
     unfolding merged mergedScan
@@ -189,7 +209,8 @@ module _ (p : ℕ → Place) (a : Area) (k most : ℕ) (t : Together p a k most)
       given-hints = all-there Given (hintsAt s) (λ h m. let o = e .hintsFrom h m in (o .0, o .2))
 
       inside-hints : All InHints (hintsAt s)
-      inside-hints = all-there InHints (hintsAt s) (λ h m. let o = e .hintsFrom h m in →has (t .hintLsns) (h .lsn) (t .hintsIn (o .0) h (o .2)))
+      inside-hints = all-there InHints (hintsAt s)
+          (λ h m. let o = e .hintsFrom h m in →has (t .hintLsns) (h .lsn) (t .hintsIn (o .0) h (o .2)))
 
       unmarked-hints : All Unmarked (hintsAt s)
       unmarked-hints = all-there Unmarked (hintsAt s) (λ h m. let o = e .hintsFrom h m in no-mark (o .0) h (o .2))
@@ -198,7 +219,8 @@ module _ (p : ℕ → Place) (a : Area) (k most : ℕ) (t : Together p a k most)
       given-confirmed = all-there Stated (confirmedAt s) (λ h m. let o = e .confirmedFrom h m in (o .0, o .2))
 
       inside-confirmed : All InConfirmed (confirmedAt s)
-      inside-confirmed = all-there InConfirmed (confirmedAt s) (λ h m. let o = e .confirmedFrom h m in →has (t .confirmedLsns) (h .lsn) (t .confirmedIn (o .0) h (o .2)))
+      inside-confirmed = all-there InConfirmed (confirmedAt s)
+          (λ h m. let o = e .confirmedFrom h m in →has (t .confirmedLsns) (h .lsn) (t .confirmedIn (o .0) h (o .2)))
 
     abbrev hintsAfter : List Hint
     hintsAfter = joinedHints a most (hintsAt q) (hintsAt r)
@@ -210,17 +232,20 @@ module _ (p : ℕ → Place) (a : Area) (k most : ℕ) (t : Together p a k most)
     module _ (h : Hint) where
       from-hints : List·Memᴰ h hintsAfter → List·Memᴰ h (hintsAt q) ⊎ List·Memᴰ h (hintsAt r)
       from-hints m =
-          joined-from a Given one-number (t .hintLsns) most (t .hintsFit) (t .above) (hintsAt q) (hintsAt r) (rw (c .area) at (own-is .hints)) (rw (d .area) at (other-is .hints))
+          joined-from a Given one-number (t .hintLsns) most (t .hintsFit) (t .above) (hintsAt q) (hintsAt r)
+          (rw (c .area) at (own-is .hints)) (rw (d .area) at (other-is .hints))
           (given-hints i q us c) (given-hints j r vs d) (inside-hints i q us c) (inside-hints j r vs d) h m
 
       own-hints : List·Memᴰ h (hintsAt q) → List·Memᴰ h hintsAfter
       own-hints m =
-          joined-own a Given one-number (t .hintLsns) most (t .hintsFit) (t .above) (hintsAt q) (hintsAt r) (rw (c .area) at (own-is .hints)) (rw (d .area) at (other-is .hints))
+          joined-own a Given one-number (t .hintLsns) most (t .hintsFit) (t .above) (hintsAt q) (hintsAt r)
+          (rw (c .area) at (own-is .hints)) (rw (d .area) at (other-is .hints))
           (given-hints i q us c) (given-hints j r vs d) (inside-hints i q us c) (inside-hints j r vs d) h m
 
       other-hints : List·Memᴰ h (hintsAt r) → List·Memᴰ h hintsAfter
       other-hints m =
-          joined-other a Given one-number (t .hintLsns) most (t .hintsFit) (t .above) (hintsAt q) (hintsAt r) (rw (c .area) at (own-is .hints)) (rw (d .area) at (other-is .hints))
+          joined-other a Given one-number (t .hintLsns) most (t .hintsFit) (t .above) (hintsAt q) (hintsAt r)
+          (rw (c .area) at (own-is .hints)) (rw (d .area) at (other-is .hints))
           (given-hints i q us c) (given-hints j r vs d) (inside-hints i q us c) (inside-hints j r vs d) h m
 
     -- ---- confirmations: none without a fingerprint
@@ -239,23 +264,32 @@ module _ (p : ℕ → Place) (a : Area) (k most : ℕ) (t : Together p a k most)
       kept-few : length (confirmedAt q) ≤ most
       kept-few = rw (c .limit) at (own-is .fewer)
 
-      from-confirmed : (e : Confirmation) → List·Memᴰ e confirmedAfter → List·Memᴰ e (confirmedAt q) ⊎ List·Memᴰ e (confirmedAt r)
+      from-confirmed : (e : Confirmation) → List·Memᴰ e confirmedAfter
+          → List·Memᴰ e (confirmedAt q) ⊎ List·Memᴰ e (confirmedAt r)
       from-confirmed e m =
-          kept-from a Stated one-digest (t .confirmedLsns) most (t .confirmedFit) (t .above) (confirmedAt q) (confirmedAt r) kept-few (rw (c .area) at (own-is .confirmed))
-          (rw (d .area) at (other-is .confirmed)) (given-confirmed i q us c) (given-confirmed j r vs d) (inside-confirmed i q us c) (inside-confirmed j r vs d) e
+          kept-from a Stated one-digest (t .confirmedLsns) most (t .confirmedFit) (t .above) (confirmedAt q)
+          (confirmedAt r) kept-few (rw (c .area) at (own-is .confirmed))
+          (rw (d .area) at (other-is .confirmed)) (given-confirmed i q us c) (given-confirmed j r vs d)
+          (inside-confirmed i q us c) (inside-confirmed j r vs d) e
           (rw checked at m)
 
-      own-confirmed : (e : Confirmation) → Any (λ y. ConfirmsAlso y e) (confirmedAt q) → Any (λ y. ConfirmsAlso y e) confirmedAfter
+      own-confirmed : (e : Confirmation) → Any (λ y. ConfirmsAlso y e) (confirmedAt q)
+          → Any (λ y. ConfirmsAlso y e) confirmedAfter
       own-confirmed e m =
           rw checked
-          (kept-own a Stated one-digest (t .confirmedLsns) most (t .confirmedFit) (t .above) (confirmedAt q) (confirmedAt r) kept-few (rw (c .area) at (own-is .confirmed))
-          (rw (d .area) at (other-is .confirmed)) (given-confirmed i q us c) (given-confirmed j r vs d) (inside-confirmed i q us c) (inside-confirmed j r vs d) e m)
+          (kept-own a Stated one-digest (t .confirmedLsns) most (t .confirmedFit) (t .above) (confirmedAt q)
+          (confirmedAt r) kept-few (rw (c .area) at (own-is .confirmed))
+          (rw (d .area) at (other-is .confirmed)) (given-confirmed i q us c) (given-confirmed j r vs d)
+          (inside-confirmed i q us c) (inside-confirmed j r vs d) e m)
 
-      other-confirmed : (e : Confirmation) → Any (λ y. ConfirmsAlso y e) (confirmedAt r) → Any (λ y. ConfirmsAlso y e) confirmedAfter
+      other-confirmed : (e : Confirmation) → Any (λ y. ConfirmsAlso y e) (confirmedAt r)
+          → Any (λ y. ConfirmsAlso y e) confirmedAfter
       other-confirmed e m =
           rw checked
-          (kept-other a Stated one-digest (t .confirmedLsns) most (t .confirmedFit) (t .above) (confirmedAt q) (confirmedAt r) kept-few (rw (c .area) at (own-is .confirmed))
-          (rw (d .area) at (other-is .confirmed)) (given-confirmed i q us c) (given-confirmed j r vs d) (inside-confirmed i q us c) (inside-confirmed j r vs d) e m)
+          (kept-other a Stated one-digest (t .confirmedLsns) most (t .confirmedFit) (t .above) (confirmedAt q)
+          (confirmedAt r) kept-few (rw (c .area) at (own-is .confirmed))
+          (rw (d .area) at (other-is .confirmed)) (given-confirmed i q us c) (given-confirmed j r vs d)
+          (inside-confirmed i q us c) (inside-confirmed j r vs d) e m)
 
     module _ (f : (n : ℕ) → p n .list .fingerprint ≡ Unknown) where
       unknown : confirmedAfter ≡ confirmedAt q
@@ -265,8 +299,10 @@ module _ (p : ℕ → Place) (a : Area) (k most : ℕ) (t : Together p a k most)
       nothing : (n : ℕ) → confirmedAt (p n) ≡ []
       unfolding stated isSome
       nothing n =
-          let e = hinting→ (p n .list .scan .area) (p n .list .fingerprint) (p n .list .hinting) (holds-of (p n .list) (t .valid n .four)) .known in
-          ⊎-elim (λ z. empty (confirmedAt (p n)) (eqb-true (length (confirmedAt (p n))) 0 z)) (λ z. never {b = false} (rw (f n) at z) refl)
+          let e = hinting→ (p n .list .scan .area) (p n .list .fingerprint) (p n .list .hinting)
+          (holds-of (p n .list) (t .valid n .four)) .known in
+          ⊎-elim (λ z. empty (confirmedAt (p n)) (eqb-true (length (confirmedAt (p n))) 0 z))
+          (λ z. never {b = false} (rw (f n) at z) refl)
           (or-cases (eqb (length (confirmedAt (p n))) 0) (isSome (stated (p n .list .fingerprint))) e)
         where
           empty : (xs : List Confirmation) → length xs ≡ 0 → xs ≡ []
@@ -277,23 +313,29 @@ module _ (p : ℕ → Place) (a : Area) (k most : ℕ) (t : Together p a k most)
     abbrev place : Place
     place = record { list = list; room = q .room }
 
-    widen : {A : Type 0} (f : Place → List A) (x : A) → (w : ℕ) × List·Memᴰ w us × List·Memᴰ x (f (p w)) → (w : ℕ) × List·Memᴰ w (us ++ vs) × List·Memᴰ x (f (p w))
+    widen : {A : Type 0} (f : Place → List A) (x : A) → (w : ℕ) × List·Memᴰ w us × List·Memᴰ x (f (p w)) → (w : ℕ)
+        × List·Memᴰ w (us ++ vs) × List·Memᴰ x (f (p w))
     widen f x o = (o .0, Memᴰ·append-left vs (o .1), o .2)
 
-    widen' : {A : Type 0} (f : Place → List A) (x : A) → (w : ℕ) × List·Memᴰ w vs × List·Memᴰ x (f (p w)) → (w : ℕ) × List·Memᴰ w (us ++ vs) × List·Memᴰ x (f (p w))
+    widen' : {A : Type 0} (f : Place → List A) (x : A) → (w : ℕ) × List·Memᴰ w vs × List·Memᴰ x (f (p w)) → (w : ℕ)
+        × List·Memᴰ w (us ++ vs) × List·Memᴰ x (f (p w))
     widen' f x o = (o .0, Memᴰ·append-right us (o .1), o .2)
 
-    confirmed-from : (e : Confirmation) → List·Memᴰ e (list .hinting .confirmed) → (w : ℕ) × List·Memᴰ w (us ++ vs) × List·Memᴰ e (confirmedAt (p w))
+    confirmed-from : (e : Confirmation) → List·Memᴰ e (list .hinting .confirmed) → (w : ℕ) × List·Memᴰ w (us ++ vs)
+        × List·Memᴰ e (confirmedAt (p w))
     confirmed-from e m =
         ⊎-elim (λ f. widen confirmedAt e (c .confirmedFrom e (rw (confirmed-are, unknown f) at m)))
-        (λ f. ⊎-elim (λ n. widen confirmedAt e (c .confirmedFrom e n)) (λ n. widen' confirmedAt e (d .confirmedFrom e n)) (from-confirmed (f .0) (f .1) e (rw confirmed-are at m)))
+        (λ f. ⊎-elim (λ n. widen confirmedAt e (c .confirmedFrom e n))
+        (λ n. widen' confirmedAt e (d .confirmedFrom e n)) (from-confirmed (f .0) (f .1) e (rw confirmed-are at m)))
         (t .fingerprint)
 
-    confirmed-all : (w : ℕ) (e : Confirmation) → List·Memᴰ w (us ++ vs) → List·Memᴰ e (confirmedAt (p w)) → Any (λ y. ConfirmsAlso y e) (list .hinting .confirmed)
+    confirmed-all : (w : ℕ) (e : Confirmation) → List·Memᴰ w (us ++ vs) → List·Memᴰ e (confirmedAt (p w))
+        → Any (λ y. ConfirmsAlso y e) (list .hinting .confirmed)
     confirmed-all w e m n =
         rw confirmed-are
         (⊎-elim (λ f. let z : List·Memᴰ e [] = rw (nothing f w) at n in absurd (List·Memᴰ·not-nil z))
-        (λ f. ⊎-elim (λ u. own-confirmed (f .0) (f .1) e (c .confirmedAll w e u n)) (λ u. other-confirmed (f .0) (f .1) e (d .confirmedAll w e u n)) (List·Memᴰ·append-cases us m))
+        (λ f. ⊎-elim (λ u. own-confirmed (f .0) (f .1) e (c .confirmedAll w e u n))
+        (λ u. other-confirmed (f .0) (f .1) e (d .confirmedAll w e u n)) (List·Memᴰ·append-cases us m))
         (t .fingerprint))
 
     pub merged-inv : Inv i place (us ++ vs)
@@ -306,8 +348,10 @@ module _ (p : ℕ → Place) (a : Area) (k most : ℕ) (t : Together p a k most)
           fingerprint = print-after ∙ c .fingerprint;
           image = image-after;
           read = read-after;
-          hintsFrom = λ h m. ⊎-elim (λ n. widen hintsAt h (c .hintsFrom h n)) (λ n. widen' hintsAt h (d .hintsFrom h n)) (from-hints h (rw hints-are at m));
-          hintsAll = λ w h m n. rw hints-are (⊎-elim (λ u. own-hints h (c .hintsAll w h u n)) (λ u. other-hints h (d .hintsAll w h u n)) (List·Memᴰ·append-cases us m));
+          hintsFrom = λ h m. ⊎-elim (λ n. widen hintsAt h (c .hintsFrom h n))
+              (λ n. widen' hintsAt h (d .hintsFrom h n)) (from-hints h (rw hints-are at m));
+          hintsAll = λ w h m n. rw hints-are (⊎-elim (λ u. own-hints h (c .hintsAll w h u n))
+              (λ u. other-hints h (d .hintsAll w h u n)) (List·Memᴰ·append-cases us m));
           confirmedFrom = confirmed-from;
           confirmedAll = confirmed-all;
         }
@@ -323,7 +367,8 @@ module _ (p : ℕ → Place) (a : Area) (k most : ℕ) (t : Together p a k most)
   pub step-good : (i j : ℕ) (s : State) → Good s → Good (step a (mergeCall i j) s)
   unfolding step
   step-good i j s g n =
-      test (eqb n i) (λ e. let e' : n ≡ i = eqb-true n i e in rw e (rw e' (after-merge i j (s .now i) (s .now j) (s .went i) (s .went j) (g i) (g j)))) (λ e. rw e (g n))
+      test (eqb n i) (λ e. let e' : n ≡ i = eqb-true n i e in rw e
+      (rw e' (after-merge i j (s .now i) (s .now j) (s .went i) (s .went j) (g i) (g j)))) (λ e. rw e (g n))
 
   run-good : (ms : List Merge) (s : State) → Good s → Good (run a (mergeCalls ms) s)
   unfolding run mergeCalls
@@ -336,11 +381,13 @@ module _ (p : ℕ → Place) (a : Area) (k most : ℕ) (t : Together p a k most)
   -- ---- from the invariant to the claim
   module _ (i : ℕ) (q : Place) (ws : List ℕ) (v : Inv i q ws) where
     hinted : HintingIs (q .list .scan .area) (q .list .fingerprint) (q .list .hinting)
-    hinted = hinting→ (q .list .scan .area) (q .list .fingerprint) (q .list .hinting) (holds-of (q .list) (v .valid .four))
+    hinted = hinting→ (q .list .scan .area) (q .list .fingerprint) (q .list .hinting)
+        (holds-of (q .list) (v .valid .four))
 
     pub hint-order : Rises hintLsn (q .list .scan .area .start) (hintsAt q)
     unfolding hintsOk
-    hint-order = rising→ hintLsn hintOk (q .list .scan .area .start) (q .list .scan .area .end) (hintsAt q) (hinted .hints) .order
+    hint-order = rising→ hintLsn hintOk (q .list .scan .area .start) (q .list .scan .area .end) (hintsAt q)
+        (hinted .hints) .order
 
     pub confirmed-order : Rises confirmedLsn 0 (confirmedAt q)
     confirmed-order = confirmed-rises (q .list .scan .area) (confirmedAt q) (hinted .confirmed)
@@ -377,7 +424,10 @@ hints-gathered p a k most t ms i =
     record {
       accepted = λ j. joins p a k most t i j (s .now i) (s .now j) (s .went i) (s .went j) (g i) (g j);
       hints = λ h. ((λ m. g i .hintsFrom h m), (λ m. g i .hintsAll (m .0) h (m .1) (m .2)));
-      confirmed = λ c. (lowest-there p a k most t i (s .now i) (s .went i) (g i) c, there-lowest p a k most t i (s .now i) (s .went i) (g i) c);
+      confirmed = λ c. (
+        lowest-there p a k most t i (s .now i) (s .went i) (g i) c,
+        there-lowest p a k most t i (s .now i) (s .went i) (g i) c,
+      );
     }
 
 pub order-free : OrderFree
@@ -385,14 +435,24 @@ order-free p a k most t ms ns i j same =
     let s = afterMerges a p ms in let u = afterMerges a p ns in
     let g = good p a k most t ms i in let h = good p a k most t ns j in
     let x = hints-gathered p a k most t ms i in let y = hints-gathered p a k most t ns j in
-    let low : (vs ws : List ℕ) → ((w : ℕ) → List·Memᴰ w vs → List·Memᴰ w ws) → ((w : ℕ) → List·Memᴰ w ws → List·Memᴰ w vs) → (c : Confirmation) → Lowest p vs c → Lowest p ws c =
-    λ vs ws f e c o. record { list = o .list; went = f (o .list) (o .went); is = o .is; lowest = λ w d m. o .lowest w d (e w m) } in (
-      same-members hintLsn (a .start) (hintsAt (s .now i)) (hintsAt (u .now j)) (rw (g .area) at (hint-order p a k most t i (s .now i) (s .went i) g))
+    let low : (vs ws : List ℕ) → ((w : ℕ) → List·Memᴰ w vs → List·Memᴰ w ws)
+    → ((w : ℕ) → List·Memᴰ w ws → List·Memᴰ w vs) → (c : Confirmation) → Lowest p vs c → Lowest p ws c =
+    λ vs ws f e c o. record {
+      list = o .list;
+      went = f (o .list) (o .went);
+      is = o .is;
+      lowest = λ w d m. o .lowest w d (e w m);
+    } in (
+      same-members hintLsn (a .start) (hintsAt (s .now i)) (hintsAt (u .now j))
+          (rw (g .area) at (hint-order p a k most t i (s .now i) (s .went i) g))
           (rw (h .area) at (hint-order p a k most t j (u .now j) (u .went j) h))
           (λ z m. let o = x .hints z .0 m in y .hints z .1 (o .0, same (o .0) .0 (o .1), o .2))
           (λ z m. let o = y .hints z .0 m in x .hints z .1 (o .0, same (o .0) .1 (o .1), o .2)),
-      same-members confirmedLsn 0 (confirmedAt (s .now i)) (confirmedAt (u .now j)) (confirmed-order p a k most t i (s .now i) (s .went i) g)
+      same-members confirmedLsn 0 (confirmedAt (s .now i)) (confirmedAt (u .now j))
+          (confirmed-order p a k most t i (s .now i) (s .went i) g)
           (confirmed-order p a k most t j (u .now j) (u .went j) h)
-          (λ z m. y .confirmed z .1 (low (s .went i) (u .went j) (λ w. same w .0) (λ w. same w .1) z (x .confirmed z .0 m)))
-          (λ z m. x .confirmed z .1 (low (u .went j) (s .went i) (λ w. same w .1) (λ w. same w .0) z (y .confirmed z .0 m))),
+          (λ z m. y .confirmed z .1 (low (s .went i) (u .went j) (λ w. same w .0) (λ w. same w .1) z
+          (x .confirmed z .0 m)))
+          (λ z m. x .confirmed z .1 (low (u .went j) (s .went i) (λ w. same w .1) (λ w. same w .0) z
+          (y .confirmed z .0 m))),
     )

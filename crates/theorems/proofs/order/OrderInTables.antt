@@ -41,7 +41,8 @@ module _ (p : ℕ → Place) (a : Area) (k most : ℕ) (t : Together p a k most)
       let i = m .into in let j = m .from in
       let n = merge-same a i j s (savable i _ _ (g i) (z i)) (savable j _ _ (g j) (z j)) kinds in
       let s' = tableStep a (mergeTables i j) s in
-      let g' : Good p a k most t (stateIn s') = subst (λ (σ : State). Good p a k most t σ) (sym (n .is)) (step-good p a k most t i j (stateIn s) g) in
+      let g' : Good p a k most t (stateIn s') = subst (λ (σ : State). Good p a k most t σ) (sym (n .is))
+      (step-good p a k most t i j (stateIn s) g) in
       let z' : Fit (stateIn s') = subst (λ (σ : State). Fit σ) (sym (n .is)) (step-fit i j (stateIn s) g z) in
       run-same ms s' g' (n .kinds) z' ∙ ap (run a (mergeCalls ms)) (n .is)
 
@@ -49,5 +50,6 @@ pub hints-gathered-in-tables : HintsGatheredInTables
 hints-gathered-in-tables p a k most l t ms i =
     let q : ℕ → Place = λ n. placeIn (p n) in
     let e : stateIn (afterTableMerges a p ms) ≡ run a (mergeCalls ms) (begin q) =
-    run-same q a k most t ms (beginTables p) (start q a k most t) (λ n. l n .kinds) (λ n. sized-in (p n .numbers) (p n .tables) (l n .lent .typed) (l n .lent .bytes)) in
+    run-same q a k most t ms (beginTables p) (start q a k most t) (λ n. l n .kinds)
+    (λ n. sized-in (p n .numbers) (p n .tables) (l n .lent .typed) (l n .lent .bytes)) in
     subst (λ (σ : State). Gathered q σ i) (sym e) (hints-gathered q a k most t ms i)

@@ -42,17 +42,31 @@ pub record More (ks gs : List ShelfRecord) (d : ShelfRecord) (rs : List ShelfRec
   pub here : Mem d gone
   pub forth : (e : ShelfRecord) → Mem e gs → Mem e gone
 
-pub one-more : {ks gs : List ShelfRecord} (p : List ShelfRecord) (d : ShelfRecord) (q : List ShelfRecord) → Parted ks gs (p ++ q) → More ks gs d (p ++ d ∷ q)
+pub one-more : {ks gs : List ShelfRecord} (p : List ShelfRecord) (d : ShelfRecord) (q : List ShelfRecord)
+    → Parted ks gs (p ++ q) → More ks gs d (p ++ d ∷ q)
 one-more {ks} {gs} [] d q h =
-    record { gone = d ∷ gs; parted = goes h; back = λ e m. List·Memᴰ·cases-cons m; here = List·Memᴰ·head refl; forth = λ e m. List·Memᴰ·tail m }
+    record {
+      gone = d ∷ gs;
+      parted = goes h;
+      back = λ e m. List·Memᴰ·cases-cons m;
+      here = List·Memᴰ·head refl;
+      forth = λ e m. List·Memᴰ·tail m;
+    }
 one-more (r ∷ p) d q (stays h) =
-    let i = one-more p d q h in record { gone = i .gone; parted = stays (i .parted); back = i .back; here = i .here; forth = i .forth }
+    let i = one-more p d q h in record {
+      gone = i .gone;
+      parted = stays (i .parted);
+      back = i .back;
+      here = i .here;
+      forth = i .forth;
+    }
 one-more (r ∷ p) d q (goes h) =
     let i = one-more p d q h in
     record {
       gone = r ∷ i .gone;
       parted = goes (i .parted);
-      back = λ e m. ⊎-elim (λ z. inr (List·Memᴰ·head z)) (λ n. ⊎-elim (λ z. inl z) (λ k. inr (List·Memᴰ·tail k)) (i .back e n)) (List·Memᴰ·cases-cons m);
+      back = λ e m. ⊎-elim (λ z. inr (List·Memᴰ·head z))
+          (λ n. ⊎-elim (λ z. inl z) (λ k. inr (List·Memᴰ·tail k)) (i .back e n)) (List·Memᴰ·cases-cons m);
       here = List·Memᴰ·tail (i .here);
       forth = λ e m. ⊎-elim (λ z. List·Memᴰ·head z) (λ n. List·Memᴰ·tail (i .forth e n)) (List·Memᴰ·cases-cons m);
     }
@@ -64,19 +78,24 @@ only-stay {ks} {gs} {rs} (stays {r} h) f = ap (λ (t : List ShelfRecord). r ∷ 
 only-stay (goes {r} h) f = absurd (f r (List·Memᴰ·head refl))
 
 -- ---- the order of two, with one more between
-mem-more : {s : ShelfRecord} (p : List ShelfRecord) (d : ShelfRecord) (q : List ShelfRecord) → Mem s (p ++ q) → Mem s (p ++ d ∷ q)
-mem-more p d q m = ⊎-elim (λ n. Memᴰ·append-left (d ∷ q) n) (λ n. Memᴰ·append-right p (List·Memᴰ·tail n)) (List·Memᴰ·append-cases p m)
+mem-more : {s : ShelfRecord} (p : List ShelfRecord) (d : ShelfRecord) (q : List ShelfRecord) → Mem s (p ++ q)
+    → Mem s (p ++ d ∷ q)
+mem-more p d q m = ⊎-elim (λ n. Memᴰ·append-left (d ∷ q) n) (λ n. Memᴰ·append-right p (List·Memᴰ·tail n))
+    (List·Memᴰ·append-cases p m)
 
-before-more : {r s : ShelfRecord} (p : List ShelfRecord) (d : ShelfRecord) (q : List ShelfRecord) → Before r s (p ++ q) → Before r s (p ++ d ∷ q)
+before-more : {r s : ShelfRecord} (p : List ShelfRecord) (d : ShelfRecord) (q : List ShelfRecord)
+    → Before r s (p ++ q) → Before r s (p ++ d ∷ q)
 before-more [] d q b = later b
 before-more (x ∷ p) d q (first m) = first (mem-more p d q m)
 before-more (x ∷ p) d q (later b) = later (before-more p d q b)
 
-pub older-more : {r s : ShelfRecord} (p : List ShelfRecord) (d : ShelfRecord) (q : List ShelfRecord) → Older (p ++ q) r s → Older (p ++ d ∷ q) r s
+pub older-more : {r s : ShelfRecord} (p : List ShelfRecord) (d : ShelfRecord) (q : List ShelfRecord)
+    → Older (p ++ q) r s → Older (p ++ d ∷ q) r s
 older-more p d q (inl l) = inl l
 older-more p d q (inr e) = inr (e .0, before-more p d q (e .1))
 
-before-at : {s : ShelfRecord} (p : List ShelfRecord) (d : ShelfRecord) (q : List ShelfRecord) → Mem s q → Before d s (p ++ d ∷ q)
+before-at : {s : ShelfRecord} (p : List ShelfRecord) (d : ShelfRecord) (q : List ShelfRecord) → Mem s q
+    → Before d s (p ++ d ∷ q)
 before-at [] d q m = first m
 before-at (x ∷ p) d q m = later (before-at p d q m)
 
@@ -87,7 +106,10 @@ pub record Lowest (rs : List ShelfRecord) (n o : ℕ) : Type 0 where
 
 lowest : (rs : List ShelfRecord) (n : ℕ) → Lowest rs n (oldestOf rs n)
 unfolding oldestOf older
-lowest rs zero = record { before = λ j l. let f : ⊥ = omega arith in absurd f; after = λ j l. let f : ⊥ = omega arith in absurd f }
+lowest rs zero = record {
+  before = λ j l. let f : ⊥ = omega arith in absurd f;
+  after = λ j l. let f : ⊥ = omega arith in absurd f;
+}
 lowest rs (suc n) =
     let h = lowest rs n in
     let b = oldest-le rs n in
@@ -96,7 +118,8 @@ lowest rs (suc n) =
     let l : stampAt rs n < stampAt rs (oldestOf rs n) = ltb-true _ _ e in
     record {
       before = λ j m. let q = h .after j m in omega arith;
-      after = λ j m. order j n (λ k. let q = h .after j k in omega arith) (λ k. let f : ⊥ = omega arith in absurd f) (λ k. rw k (omega arith));
+      after = λ j m. order j n (λ k. let q = h .after j k in omega arith) (λ k. let f : ⊥ = omega arith in absurd f)
+          (λ k. rw k (omega arith));
     })
     (λ e.
     let l : stampAt rs (oldestOf rs n) ≤ stampAt rs n = ltb-false _ _ e in
@@ -106,13 +129,16 @@ lowest rs (suc n) =
     })
 
 -- a member stands at a place
-pub place-of : (rs : List ShelfRecord) (s : ShelfRecord) → Mem s rs → (j : ℕ) × (j < length rs) × (s ≡ getD rs j noRecord)
+pub place-of : (rs : List ShelfRecord) (s : ShelfRecord) → Mem s rs → (j : ℕ) × (j < length rs)
+    × (s ≡ getD rs j noRecord)
 place-of [] s m = absurd (List·Memᴰ·not-nil m)
 place-of (r ∷ rs) s m =
-    ⊎-elim (λ e. (0, omega arith, e)) (λ k. let p = place-of rs s k in (suc (p .0), (let l = p .1 in omega arith), p .2)) (List·Memᴰ·cases-cons m)
+    ⊎-elim (λ e. (0, omega arith, e)) (λ k. let p = place-of rs s k
+    in (suc (p .0), (let l = p .1 in omega arith), p .2)) (List·Memᴰ·cases-cons m)
 
 -- the oldest is older than each of the others
-oldest-older : (rs : List ShelfRecord) (o : ℕ) → o < length rs → Lowest rs (length rs) o → (s : ShelfRecord) → Mem s (dropAt o rs)
+oldest-older : (rs : List ShelfRecord) (o : ℕ) → o < length rs → Lowest rs (length rs) o → (s : ShelfRecord)
+    → Mem s (dropAt o rs)
     → Older (take o rs ++ getD rs o noRecord ∷ drop (suc o) rs) (getD rs o noRecord) s
 unfolding dropAt
 oldest-older rs o l h s m =
@@ -130,10 +156,12 @@ oldest-older rs o l h s m =
     let p = place-of (drop (suc o) rs) s k in
     let i = p .1 in
     let t = length-drop (suc o) rs in
-    let e : getD (drop (suc o) rs) (p .0) noRecord ≡ getD rs (suc o + p .0) noRecord = getD-drop (suc o) rs (p .0) noRecord in
+    let e : getD (drop (suc o) rs) (p .0) noRecord
+    ≡ getD rs (suc o + p .0) noRecord = getD-drop (suc o) rs (p .0) noRecord in
     let q = h .after (suc o + p .0) (omega arith) in
     let z : stampAt rs (suc o + p .0) ≡ s .stamp = sym (ap (λ (r : ShelfRecord). r .stamp) (p .2 ∙ e)) in
-    order (stampAt rs o) (s .stamp) (λ d. inl d) (λ d. let f : ⊥ = omega arith in absurd f) (λ d. inr (d, before-at (take o rs) (getD rs o noRecord) (drop (suc o) rs) k)))
+    order (stampAt rs o) (s .stamp) (λ d. inl d) (λ d. let f : ⊥ = omega arith in absurd f)
+    (λ d. inr (d, before-at (take o rs) (getD rs o noRecord) (drop (suc o) rs) k)))
     (List·Memᴰ·append-cases (take o rs) m)
 
 -- ---- what making room leaves
@@ -163,7 +191,8 @@ made-fits room rs e =
       needed = inl (λ g m. List·Memᴰ·not-nil m);
     }
 
-made-drop : (room : ℕ) (rs ks : List ShelfRecord) (o : ℕ) → o < length rs → Lowest rs (length rs) o → roomy room rs ≡ false → Made room (dropAt o rs) ks → Made room rs ks
+made-drop : (room : ℕ) (rs ks : List ShelfRecord) (o : ℕ) → o < length rs → Lowest rs (length rs) o → roomy room rs
+    ≡ false → Made room (dropAt o rs) ks → Made room rs ks
 unfolding dropAt
 made-drop room rs ks o l h f m =
     let d = getD rs o noRecord in
@@ -176,7 +205,8 @@ made-drop room rs ks o l h f m =
     record {
       gone = w .gone;
       parted = rw z at (w .parted);
-      oldest = λ g k i j. ⊎-elim (λ e. rw e (old k (stay-mem (m .parted) j))) (λ n. up g k (m .oldest g k n j)) (w .back g i);
+      oldest = λ g k i j. ⊎-elim (λ e. rw e (old k (stay-mem (m .parted) j))) (λ n. up g k (m .oldest g k n j))
+          (w .back g i);
       fits = m .fits;
       needed =
           inr
@@ -201,7 +231,8 @@ made-drop room rs ks o l h f m =
             last =
                 λ g i.
                 ⊎-elim (λ e. inr (rw e (old (getD (t .back) (t .at) noRecord) (gone-mem (m .parted) (t .among)))))
-                (λ n. ⊎-elim (λ e. inl e) (λ y. inr (up g (getD (t .back) (t .at) noRecord) y)) (t .last g n)) (w .back g i);
+                (λ n. ⊎-elim (λ e. inl e) (λ y. inr (up g (getD (t .back) (t .at) noRecord) y)) (t .last g n))
+                (w .back g i);
             full = t .full;
           }) (m .needed));
     }
@@ -216,4 +247,5 @@ made-room (suc n) room rs e =
     (λ t.
     let o : oldest rs < length rs = rw e (oldest-lt rs n) in
     let k : length (dropAt (oldest rs) rs) ≡ n = let y = drop-length (oldest rs) rs o in omega arith in
-    rw (made-more n room rs t) (made-drop room rs (makeRoom n room (dropAt (oldest rs) rs)) (oldest rs) o (lowest rs (length rs)) t (made-room n room (dropAt (oldest rs) rs) k)))
+    rw (made-more n room rs t) (made-drop room rs (makeRoom n room (dropAt (oldest rs) rs)) (oldest rs) o
+    (lowest rs (length rs)) t (made-room n room (dropAt (oldest rs) rs) k)))
