@@ -1,4 +1,4 @@
-//! Calls on bytes and blocks alone: sum, first record, sizes, boundary, due, version.
+//! Calls on bytes and blocks alone: sum, first record, sizes, boundary, frontier, due, version.
 
 use crate::limits::Work;
 use crate::lists::{Area, list};
@@ -84,6 +84,8 @@ fn numbers(r: &Report) {
     let (mut answer, mut block, head) = ([0; BLOCK], [0; BLOCK], t.head);
     assert_eq!(tables::boundary(&head, 3_700, &mut answer), Some(1_000 + 64 * 3_700));
     row(r, "boundary", repeat(move || tables::boundary(black_box(&head), black_box(3_700), &mut answer)));
+    assert_eq!(tables::frontier(&head, &mut answer), Some(1_000 + 64 * 3_699));
+    row(r, "frontier", repeat(move || tables::frontier(black_box(&head), &mut answer)));
     assert_eq!(t.recorder(1_000, &mut block), 0, "a recorder is refused");
     assert_eq!(tables::due(&block, &mut answer), Some(1_000 + 64 * 3_700));
     row(r, "due", repeat(move || tables::due(black_box(&block), &mut answer)));

@@ -343,6 +343,13 @@ pub fn boundary(head: &[u8; BLOCK], number: u32, answer: &mut [u8; BLOCK]) -> Op
     (refused == 0 && word(answer, 0) != 0).then(|| word(answer, 1))
 }
 
+/// How far a list reaches.
+pub fn frontier(head: &[u8; BLOCK], answer: &mut [u8; BLOCK]) -> Option<u64> {
+    // Safety: as above.
+    let refused = unsafe { raw::seek_raw_frontier(head.as_ptr(), BLOCK, answer.as_mut_ptr(), BLOCK) };
+    (refused == 0).then(|| word(answer, 1))
+}
+
 /// The LSN that a recorder wants next.
 pub fn due(block: &[u8; BLOCK], answer: &mut [u8; BLOCK]) -> Option<u64> {
     // Safety: as above.
