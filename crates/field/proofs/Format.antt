@@ -99,7 +99,7 @@ module _ {A : Type 0} {w : ℕ} {d : List ℕ → A} {e : A → List ℕ} {Fits 
       → o' ≡ take (n * w) t ++ drop (n * w) o → o' ≡ bytes_of e (records w d n t) ++ drop (n * w) o
   written n t o b h c = c ∙ rw (bytes_records n t b h)
 
-  -- ---- the same records are the same bytes. The other way round: `records-same`
+  -- ---- the same records are the same bytes. The other way round: `records_same`
   pub same_stretch : (n : ℕ) (s t : List ℕ) → Bytes s → Bytes t → n * w ≤ length s → n * w ≤ length t
       → records w d n s ≡ records w d n t → take (n * w) s ≡ take (n * w) t
   same_stretch n s t a b h k q = sym (bytes_records n s a h) ∙ ap (bytes_of e) q ∙ bytes_records n t b k

@@ -1,4 +1,6 @@
 // Numbers in bytes, copies and comparisons, and lists of records in bytes.
+#![tactic(auto)]
+
 ghost use Rattle.std.specs.Prelude.{◌≡◌, ◌+◌, ◌*◌, ◌≤◌, ◌<◌, ◌%◌, min, ◌++◌, ◌&&◌, ◌||◌, not, length, take, drop, replicate};
 ghost use Rattle.field.specs.Number.{number_at, put, same_bytes};
 

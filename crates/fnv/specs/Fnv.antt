@@ -1,7 +1,7 @@
 -- FNV-1a at a width of w bits with the prime p: document 01, "Sum".
 use Rattle.std.specs.Prelude.{ℕ, ◌*◌, ◌%◌, ◌^◌, List, [], ◌∷◌, bit_xor}
 
--- one byte: it is xored into the hash, and the result is multiplied by the prime, modulo 2 ^ w; bitXor goes through
+-- one byte: it is xored into the hash, and the result is multiplied by the prime, modulo 2 ^ w; bit_xor goes through
 -- the digits of its first number, of which a byte has eight
 abbrev pub fnv_step : ℕ → ℕ → ℕ → ℕ → ℕ
 fnv_step w p h b = bit_xor b h * p % 2 ^ w

@@ -16,7 +16,7 @@ use Rattle.rules.specs.Sizes.{key_sized, frame_sized, scan_sized, known_sized, h
 use Rattle.laws.proofs.hint_lists.Closure.{HintingIs, hinting→}
 use Rattle.laws.specs.Statements.{Savable}
 use Rattle.rules.proofs.Tests.{all→, →all, each→, →each}
-use Rattle.laws.proofs.Ranges.{AreaFacts, areaOk→}
+use Rattle.laws.proofs.Ranges.{AreaFacts, area_ok→}
 
 -- question 2
 pub record NumberFacts (k budget : ℕ) : Type 0 where
@@ -126,7 +126,7 @@ unfolding question1 question2 question4
 facts x s =
     let g = all→ _ s.four in
     record {
-      area = areaOk→ x.scan.area s.one;
+      area = area_ok→ x.scan.area s.one;
       numbers = numbers_ok→ x.scan.interval x.scan.budget s.two;
       scan = scan_ok→ x.scan g.0;
       hinting = hinting→ x.scan.area x.fingerprint x.hinting g.1.0;

@@ -190,7 +190,7 @@ pub each_both : {A : Type 0} {P Q R : A → Type 0} → ((x : A) → P x → Q x
 each_both f nothing nothing = nothing
 each_both f (one {x = x} p ps) (one q qs) = one (f x p q) (each_both f ps qs)
 
--- ---- agree, agrees, orElse
+-- ---- agree, agrees, or_else
 pub agree_none : {A : Type 0} (same : A → A → Bool) (o : Option A) → agree same o none ≡ true
 unfolding agree
 agree_none same none = refl

@@ -1,4 +1,5 @@
 // Document 01 as definitions on values (specs), the types they speak of, and evaluated examples.
+#![tactic(auto)]
 
 // LIM: one more than the largest frame number of a first record.
 pub const MAX_NEXT_ACCEPTABLE: u32 = 1166881;
@@ -58,28 +59,28 @@ pub const CONFIRMED_HEADER: usize = 8;
 pub const CONFIRMED: usize = 16;
 
 // A frame number, and how far behind the sector's first byte its three bytes begin.
-#[derive(Drop)]
+#[derive(Clone, Copy)]
 pub struct TimeBytes {
     pub number: u32,
     pub offset: u32,
 }
 
 // Why a sector has no first record: no frame starts in it, or bytes are missing.
-#[derive(Drop)]
+#[derive(Clone, Copy)]
 pub enum Absence {
     NoFrame,
     Missing,
 }
 
 // The first record of a sector: its time bytes, or why there is none.
-#[derive(Drop)]
+#[derive(Clone, Copy)]
 pub enum First {
     Number(TimeBytes),
     Nothing(Absence),
 }
 
 // What tells areas apart in a file (source: AreaKey): the five numbers that question 26 compares.
-#[derive(Drop)]
+#[derive(Clone, Copy)]
 pub struct AreaKey {
     pub slot: u8,
     pub start: u32,
@@ -89,7 +90,7 @@ pub struct AreaKey {
 }
 
 // Area: its key, and its range of sectors, the end excluded.
-#[derive(Drop)]
+#[derive(Clone, Copy)]
 pub struct Area {
     pub key: AreaKey,
     pub start: u64,
@@ -97,7 +98,7 @@ pub struct Area {
 }
 
 // Checkpoint (source: next_acceptable and malformed_before for threshold and malformed).
-#[derive(Drop)]
+#[derive(Clone, Copy)]
 pub struct Checkpoint {
     pub threshold: u32,
     pub back: u32,
@@ -106,27 +107,27 @@ pub struct Checkpoint {
 }
 
 // The end state of a complete list.
-#[derive(Drop)]
+#[derive(Clone, Copy)]
 pub struct EndState {
     pub threshold: u32,
     pub malformed: u64,
 }
 
 // A list is complete where it has an end state.
-#[derive(Drop)]
+#[derive(Clone, Copy)]
 pub enum End {
     Open,
     Closed(EndState),
 }
 
-#[derive(Drop)]
+#[derive(Clone, Copy)]
 pub enum FrameKind {
     Dst,
     Dsd,
 }
 
 // Held part: the first len bytes of frame number frame, for checkpoint number at.
-#[derive(Drop)]
+#[derive(Clone, Copy)]
 pub struct Held {
     pub at: u32,
     pub frame: u32,
@@ -137,14 +138,14 @@ pub struct Held {
 }
 
 // A hint; its mark is 1 where it is kept, so that thinning passes over it, and else 0.
-#[derive(Drop)]
+#[derive(Clone, Copy)]
 pub struct Hint {
     pub lsn: u32,
     pub number: u32,
     pub mark: u8,
 }
 
-#[derive(Drop)]
+#[derive(Clone, Copy)]
 pub struct Confirmation {
     pub lsn: u32,
     pub threshold: u32,
@@ -152,21 +153,21 @@ pub struct Confirmation {
 }
 
 // A fingerprint is unknown, held, or held with the checked mark.
-#[derive(Drop)]
+#[derive(Clone, Copy)]
 pub enum Fingerprint {
     Unknown,
     Held(u64),
     Checked(u64),
 }
 
-#[derive(Drop)]
+#[derive(Clone, Copy)]
 pub enum ImageId {
     Anonymous,
     Id(u64),
 }
 
 // What a recorder is at: it records, it has the end state, or it is stopped.
-#[derive(Drop)]
+#[derive(Clone, Copy)]
 pub enum Mode {
     Running,
     Finished(EndState),
@@ -174,7 +175,7 @@ pub enum Mode {
 }
 
 // A held part as a plan names it: where its bytes lie in the lent store, and what it is of.
-#[derive(Drop)]
+#[derive(Clone, Copy)]
 pub struct HeldPart {
     pub kind: FrameKind,
     pub number: u32,
@@ -183,14 +184,14 @@ pub struct HeldPart {
     pub len: u32,
 }
 
-#[derive(Drop)]
+#[derive(Clone, Copy)]
 pub enum Assembly {
     Replayed,
     Stored(HeldPart),
 }
 
 // A jump that starts at a checkpoint.
-#[derive(Drop)]
+#[derive(Clone, Copy)]
 pub struct Resume {
     pub number: u32,
     pub lsn: u64,
@@ -199,7 +200,7 @@ pub struct Resume {
 }
 
 // Where a jump starts.
-#[derive(Drop)]
+#[derive(Clone, Copy)]
 pub enum Plan {
     Start,
     At(Resume),
@@ -207,7 +208,7 @@ pub enum Plan {
 }
 
 // The nineteen fields of a file's header, in the order of the file; counted is the end state's malformed count.
-#[derive(Drop)]
+#[derive(Clone, Copy)]
 pub struct Header {
     pub magic: u64,
     pub version: u32,
@@ -231,7 +232,7 @@ pub struct Header {
 }
 
 // The header of a file's hint section.
-#[derive(Drop)]
+#[derive(Clone, Copy)]
 pub struct HintHeader {
     pub fingerprint: u64,
     pub spacing: u32,
@@ -241,7 +242,7 @@ pub struct HintHeader {
 }
 
 // The numbers of an index (source: AreaIndex); its lists lie in lent tables, with these counts.
-#[derive(Drop)]
+#[derive(Clone, Copy)]
 pub struct AreaIndex {
     pub area: Area,
     pub interval: u32,
@@ -261,7 +262,7 @@ pub struct AreaIndex {
 
 // The numbers of a recorder (source: Recorder): its own stretch begins with checkpoint number first. Its lists lie in four lent tables, with these
 // counts.
-#[derive(Drop)]
+#[derive(Clone, Copy)]
 pub struct Recorder {
     pub area: Area,
     pub interval: u32,
@@ -275,7 +276,7 @@ pub struct Recorder {
 }
 
 // A frame under assembly where a checkpoint is recorded; its bytes are lent beside it.
-#[derive(Drop)]
+#[derive(Clone, Copy)]
 pub struct Assembling {
     pub start: u64,
     pub number: u32,
@@ -283,28 +284,28 @@ pub struct Assembling {
     pub remaining: i32,
 }
 
-#[derive(Drop)]
+#[derive(Clone, Copy)]
 pub enum UnderAssembly {
     Nothing,
     Frame(Assembling),
 }
 
 // The number of the hint listed last; none where none was ever listed.
-#[derive(Drop)]
+#[derive(Clone, Copy)]
 pub enum LastListed {
     Never,
     Number(u32),
 }
 
 // A hint recorder's tail.
-#[derive(Drop)]
+#[derive(Clone, Copy)]
 pub enum Tail {
     Empty,
     Hint(Hint),
 }
 
 // The numbers of a hint recorder (source: HintRecorder); its list lies in a lent table, with this count.
-#[derive(Drop)]
+#[derive(Clone, Copy)]
 pub struct HintRecorder {
     pub spacing: u32,
     pub last: LastListed,
@@ -313,7 +314,7 @@ pub struct HintRecorder {
 }
 
 // The answer of hint: LSN, frame number, upper end of the read, and whether a later hint gave it.
-#[derive(Drop)]
+#[derive(Clone, Copy)]
 pub struct Hinted {
     pub lsn: u32,
     pub number: u32,
@@ -322,35 +323,35 @@ pub struct Hinted {
 }
 
 // What a call answers that gives an index: a refusal number, or the numbers of the list that the tables then hold.
-#[derive(Drop)]
+#[derive(Clone, Copy)]
 pub enum Made {
     Refused(u32),
     Index(AreaIndex),
 }
 
 // A list's frontier, or the number 1.
-#[derive(Drop)]
+#[derive(Clone, Copy)]
 pub enum FrontierLsn {
     Refused(u32),
     Lsn(u64),
 }
 
 // What plan answers: a refusal number, or where the jump starts.
-#[derive(Drop)]
+#[derive(Clone, Copy)]
 pub enum Planned {
     Refused(u32),
     Plan(Plan),
 }
 
 // What saving answers: a refusal number, or the length of the file.
-#[derive(Drop)]
+#[derive(Clone, Copy)]
 pub enum Saved {
     Refused(u32),
     Length(u64),
 }
 
 // The bytes of each table.
-#[derive(Drop)]
+#[derive(Clone, Copy)]
 pub struct TableSizes {
     pub checkpoints: u64,
     pub frames: u64,
@@ -362,28 +363,28 @@ pub struct TableSizes {
 }
 
 // What the sizes of tables are told by: a refusal number, or the sizes.
-#[derive(Drop)]
+#[derive(Clone, Copy)]
 pub enum Sized {
     Refused(u32),
     Sizes(TableSizes),
 }
 
 // What a file is asked for its area: a refusal number, or the area.
-#[derive(Drop)]
+#[derive(Clone, Copy)]
 pub enum FileArea {
     Refused(u32),
     Area(Area),
 }
 
 // The refusal number, or the numbers of the recorder that the tables then hold.
-#[derive(Drop)]
+#[derive(Clone, Copy)]
 pub enum Recorded {
     Refused(u32),
     Recorder(Recorder),
 }
 
 // The number of question 1 or 2, nothing where there is no such boundary, or its LSN.
-#[derive(Drop)]
+#[derive(Clone, Copy)]
 pub enum Boundary {
     Refused(u32),
     Nothing,
@@ -391,7 +392,7 @@ pub enum Boundary {
 }
 
 // The refusal number, 0 where it is accepted, and the numbers of both afterwards.
-#[derive(Drop)]
+#[derive(Clone, Copy)]
 pub struct Absorbed {
     pub number: u32,
     pub index: AreaIndex,
@@ -399,7 +400,7 @@ pub struct Absorbed {
 }
 
 // The hint recorder of an index; none where spacing or M is 0.
-#[derive(Drop)]
+#[derive(Clone, Copy)]
 pub enum Created {
     Refused(u32),
     Nothing,
@@ -407,42 +408,42 @@ pub enum Created {
 }
 
 // What a sector says, and the recorder afterwards.
-#[derive(Drop)]
+#[derive(Clone, Copy)]
 pub struct SeenSector {
     pub first: First,
     pub recorder: HintRecorder,
 }
 
 // The answer of see.
-#[derive(Drop)]
+#[derive(Clone, Copy)]
 pub enum Saw {
     Refused(u32),
     Sector(SeenSector),
 }
 
 // A hint recorder after a call, or the number that refuses.
-#[derive(Drop)]
+#[derive(Clone, Copy)]
 pub enum Seen {
     Refused(u32),
     Recorder(HintRecorder),
 }
 
 // How many hints are taken, and the recorder afterwards.
-#[derive(Drop)]
+#[derive(Clone, Copy)]
 pub struct TakenList {
     pub count: u32,
     pub recorder: HintRecorder,
 }
 
 // What take answers: a refusal number, or how many hints are taken.
-#[derive(Drop)]
+#[derive(Clone, Copy)]
 pub enum Taken {
     Refused(u32),
     List(TakenList),
 }
 
 // The index afterwards, that nothing is kept, or the number that refuses.
-#[derive(Drop)]
+#[derive(Clone, Copy)]
 pub enum Kept {
     Refused(u32),
     Nothing,
@@ -450,7 +451,7 @@ pub enum Kept {
 }
 
 // In what the own list would change.
-#[derive(Drop)]
+#[derive(Clone, Copy)]
 pub struct Brings {
     pub checkpoints: bool,
     pub ending: bool,
@@ -463,14 +464,14 @@ pub struct Brings {
 }
 
 // The number that refuses the merge, or what it would bring.
-#[derive(Drop)]
+#[derive(Clone, Copy)]
 pub enum Added {
     Refused(u32),
     Brings(Brings),
 }
 
 // What a view answers: a refusal number, or its length.
-#[derive(Drop)]
+#[derive(Clone, Copy)]
 pub enum Viewed {
     Refused(u32),
     Length(u64),

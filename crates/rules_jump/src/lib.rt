@@ -1,11 +1,13 @@
 // Change request 7: the rule by which a plan or a hint gets its answer.
+#![tactic(auto)]
+
 ghost use Rattle.std.specs.Prelude.{◌≡◌};
 ghost use Rattle.rules_jump.specs.Names.{held_rule, plan_rule, plan_rule_number, start_rule_number, end_rule_number};
 
 use rules::{Assembly, Hinted, Plan};
 
 // Where a plan starts: the area's start, a checkpoint, a checkpoint with its held part, the end state.
-#[derive(Drop)]
+#[derive(Clone, Copy)]
 pub enum PlanRule {
     AreaStart,
     Checkpoint,
@@ -14,14 +16,14 @@ pub enum PlanRule {
 }
 
 // How a hint was chosen.
-#[derive(Drop)]
+#[derive(Clone, Copy)]
 pub enum HintStart {
     Confirmed,
     Nearest,
 }
 
 // Where a hint's upper end came from: a later hint, local spacing, the area's average; at the area's end that.
-#[derive(Drop)]
+#[derive(Clone, Copy)]
 pub enum HintEnd {
     Later,
     Local,
@@ -86,7 +88,7 @@ pub fn end_rule_number(rule: HintEnd) -> u64
 }
 
 // The read, how its hint was chosen, and where its upper end came from.
-#[derive(Drop)]
+#[derive(Clone, Copy)]
 pub struct NamedHint {
     pub hint: Hinted,
     pub start: HintStart,
@@ -94,7 +96,7 @@ pub struct NamedHint {
 }
 
 // A refusal number, that no hint is near, or the read.
-#[derive(Drop)]
+#[derive(Clone, Copy)]
 pub enum HintAnswer {
     Refused(u32),
     Nothing,

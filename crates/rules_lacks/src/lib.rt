@@ -1,7 +1,8 @@
 // What another list holds and the own one does not, as definitions.
+#![tactic(auto)]
 
 // How many of each thing are lacking; of what there is once at most, whether it is.
-#[derive(Drop)]
+#[derive(Clone, Copy)]
 pub struct Lacks {
     pub checkpoints: u32,
     pub ending: bool,
@@ -16,7 +17,7 @@ pub struct Lacks {
 }
 
 // The number that refuses, or what is lacking.
-#[derive(Drop)]
+#[derive(Clone, Copy)]
 pub enum Lacked {
     Refused(u32),
     Lacks(Lacks),

@@ -1,4 +1,5 @@
 // Change request 9 as definitions: one shelf for many discs.
+#![tactic(auto)]
 
 // The most records that a shelf has present.
 pub const MAX_SHELF: u64 = 64;
@@ -7,7 +8,7 @@ pub const MAX_COUNT: u64 = 18446744073709551615;
 
 // A saved list on the shelf: the seven numbers of its area, the length of its file and the stamp of its last jump. 56 bytes, for C.
 #[repr(C)]
-#[derive(Drop)]
+#[derive(Clone, Copy)]
 pub struct ShelfRecord {
     pub slot: u8,
     pub channels: u8,
@@ -22,7 +23,7 @@ pub struct ShelfRecord {
 
 // The numbers of a shelf: how many of its table's first records are present, the count of entries and jumps, the limit of bytes.
 #[repr(C)]
-#[derive(Drop)]
+#[derive(Clone, Copy)]
 pub struct Shelf {
     pub present: u64,
     pub count: u64,

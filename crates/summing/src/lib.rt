@@ -1,4 +1,6 @@
 // Bytes copied and summed in one pass, and the sum of a number's bytes.
+#![tactic(auto)]
+
 ghost use Rattle.std.specs.Prelude.{◌≡◌, ◌++◌, ◌+◌, ◌≤◌, length, take, drop};
 ghost use Rattle.field.specs.Number.{encode};
 ghost use Rattle.fnv.specs.Fnv.{fnv_from, prime64};

@@ -1,5 +1,5 @@
 -- A recorder keeps its questions. Assumes nothing.
-use mathlib.Core.Path.{◌≡◌, refl, ap}
+use mathlib.Core.Path.{subst, ◌≡◌, refl, ap}
 use mathlib.Core.Bool.{true, false}
 use mathlib.Core.List.{List, [], ◌∷◌, ◌++◌}
 use mathlib.Core.Option.{Option, none, some}
@@ -157,7 +157,7 @@ recorder_sound l x from r e =
     let h = accepted→ _ (empty_recorder x.scan from) r e in
     let q = asked _ refl h.0 in
     let w = (scan→ x.scan (all→ _ q.1.1.1.0).0).stretch.within in
-    rw h.1 at
+    subst Sound h.1
     (empty_sound (empty_recorder x.scan from) q.0 q.1.0 (omega arith) refl refl refl
     (choose (λ m. is_some (end_of m) ≡ false) (complete x.scan) Stopped Running (λ t. refl) (λ t. refl)))
 

@@ -6,8 +6,7 @@ use lib.ListN.{get_or}
 use Rattle.field.specs.Number.{number_at}
 use Rattle.field.proofs.Number.{number_more, number_none}
 use borrow.Author.Rules.{rules}
-use Rattle.field.proofs.read_u32.Statement.{statement}
-use Rattle.field.proofs.read_u32.Tie as tie
+use Rattle.field.proofs.read_u32.Goals as goal
 
 -- the number in the shape of the code
 four : (t : List ℕ) (i : ℕ) → number_at 4 t i ≡ get_or t i 0 + get_or t (i + 1) 0 * 256 + get_or t (i + 2) 0 * 65536 + get_or t (i + 3) 0 * 16777216
@@ -16,28 +15,5 @@ four t i =
     let e3 : i + 2 + 1 ≡ i + 3 = omega arith in
     rw (number_more 3 t i, number_more 2 t (i + 1), e2, number_more 1 t (i + 2), e3, number_more 0 t (i + 3), number_none) (omega arith)
 
-returns : tie.Need-returns
+pub returns : goal.returns
 returns c = rw four (search rules)
-
-pub read_u32_spec : {M : Type 1} → statement M
-read_u32_spec =
-    tie.close
-    (tie.spec
-    (λ c. search rules)
-    (λ c κs. search rules)
-    (λ c. search rules)
-    (λ c. search rules)
-    (λ c κs. search rules)
-    (λ c. search rules)
-    (λ c. search rules)
-    (λ c. search rules)
-    (λ c. search rules)
-    (λ c κs. search rules)
-    (λ c. search rules)
-    (λ c. search rules)
-    (λ c. search rules)
-    (λ c. search rules)
-    (λ c κs. search rules)
-    (λ c. search rules)
-    (λ c. search rules)
-    returns)
