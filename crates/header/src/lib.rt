@@ -1,4 +1,6 @@
 // The header of a file: its table of fields, read and written through it, and questions 23 to 30.
+#![tactic(auto)]
+
 pub mod questions;
 
 ghost use Rattle.std.specs.Prelude.{◌≡◌, ◌++◌, ◌^◌, ◌≤◌, ◌<◌, length, take, drop};
@@ -14,7 +16,7 @@ use rules::Header;
 use summing::{sum_u32, sum_u64};
 
 // Where a field lies, and how many bytes it has.
-#[derive(Drop)]
+#[derive(Clone, Copy)]
 pub struct Field {
     pub offset: usize,
     pub width: usize,

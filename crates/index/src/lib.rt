@@ -1,4 +1,6 @@
 // An index: its numbers by value, and its lists in seven lent tables. Questions 1 to 4, new, the fingerprint entry, and readers of its numbers.
+#![tactic(auto)]
+
 pub mod create;
 pub mod room;
 

@@ -83,6 +83,6 @@ unfoldable pub taken_of : {A : Type 0} → List ℕ → Answer (Read A) → Take
 taken_of s (Refused n) = taken.Refused n
 taken_of s (Accepted t) = taken.Behind (behind s t.rest)
 
--- malformed LSNs below front: readMalformed, where front is the frontier
+-- malformed LSNs below front: read_malformed, where front is the frontier
 abbrev pub read_lsns : Area → Header → ℕ → List ℕ → Answer (Read (List ℕ))
 read_lsns a h front b = read_each (read_record 4 decode_lsn (rising_ok own_lsn any_lsn front) 35) (risen own_lsn) h.malformed a.start b

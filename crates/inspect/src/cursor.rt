@@ -7,40 +7,40 @@ use rules::{Held, HintHeader};
 use tables::{kind_of, signed};
 
 // The place in the body that is read next.
-#[derive(Drop)]
+#[derive(Clone, Copy)]
 pub struct Cursor {
     pub at: usize,
 }
 
 // The refusal, or the number and the cursor behind it.
-#[derive(Drop)]
+#[derive(Clone, Copy)]
 pub enum Word {
     Refused(u32),
     Number(u32, Cursor),
 }
 
-#[derive(Drop)]
+#[derive(Clone, Copy)]
 pub enum Long {
     Refused(u32),
     Number(u64, Cursor),
 }
 
 // The refusal, or two numbers and the cursor behind them.
-#[derive(Drop)]
+#[derive(Clone, Copy)]
 pub enum Pair {
     Refused(u32),
     Numbers(u32, u32, Cursor),
 }
 
 // The refusal, or a held part and the cursor behind it.
-#[derive(Drop)]
+#[derive(Clone, Copy)]
 pub enum OneHeld {
     Refused(u32),
     Part(Held, Cursor),
 }
 
 // The refusal, or the hint section's header and the cursor behind what was read.
-#[derive(Drop)]
+#[derive(Clone, Copy)]
 pub enum Headed {
     Refused(u32),
     Header(HintHeader, Cursor),

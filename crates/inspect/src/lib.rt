@@ -1,4 +1,6 @@
 // Loading up to question 38: what a file says, from its bytes alone.
+#![tactic(auto)]
+
 mod cursor;
 mod hint_sections;
 mod questions;
@@ -32,14 +34,14 @@ use sections::{frontier_of, last_checkpoint};
 use tables::behind;
 
 // What an accepted file says: the numbers of its list, the bytes of all its frames, and its version.
-#[derive(Drop)]
+#[derive(Clone, Copy)]
 pub struct Found {
     pub index: AreaIndex,
     pub used: u64,
     pub version: u32,
 }
 
-#[derive(Drop)]
+#[derive(Clone, Copy)]
 pub enum Inspected {
     Refused(u32),
     Passed(Found),

@@ -14,28 +14,28 @@ use sections::records::{check_lsns, header_ok};
 use tables::{FrameHeader, behind, header_at};
 
 // The refusal, or the cursor behind a section.
-#[derive(Drop)]
+#[derive(Clone, Copy)]
 pub enum Taken {
     Refused(u32),
     Behind(Cursor),
 }
 
 // The refusal, or the header of a frame and the cursor behind its bytes.
-#[derive(Drop)]
+#[derive(Clone, Copy)]
 pub enum OneFrame {
     Refused(u32),
     Header(FrameHeader, Cursor),
 }
 
 // A part, and where its frame begins in the section of frames.
-#[derive(Drop)]
+#[derive(Clone, Copy)]
 pub struct Placed {
     pub part: Held,
     pub place: usize,
 }
 
 // The refusal, or a part and the cursor behind it.
-#[derive(Drop)]
+#[derive(Clone, Copy)]
 pub enum OnePart {
     Refused(u32),
     Part(Placed, Cursor),

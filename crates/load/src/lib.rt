@@ -1,4 +1,6 @@
 // Loading into lent tables: from_bytes.
+#![tactic(auto)]
+
 pub mod limit;
 mod places;
 
@@ -25,7 +27,7 @@ use tables::behind;
 use thin::thin_into;
 
 // The refusal number, or what a file says with the numbers of its limited list, for which there is room.
-#[derive(Drop)]
+#[derive(Clone, Copy)]
 pub enum Decided {
     Refused(u32),
     Ready(Found, AreaIndex),

@@ -11,7 +11,7 @@ use Rattle.field.specs.Records.{record_at}
 use Rattle.field.proofs.Records.{records_length, records_at}
 use Rattle.rules.specs.declared.Held.{Held}
 use Rattle.rules.specs.Tests.{all, last_or}
-use Rattle.rules.specs.Values.{no_held, max_frame, used}
+use Rattle.rules.specs.Values.{no_held, max_frame}
 use Rattle.rules.specs.PartRule.{Stored, Piece, opens, joins, growth, stores}
 use Rattle.rules.specs.File.{decode_held}
 use Rattle.rules.proofs.Tests.{and_assoc, or_none}

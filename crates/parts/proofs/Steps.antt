@@ -27,7 +27,7 @@ use Rattle.index.proofs.Back.{FrameFits, frames_back, headers_length}
 use Rattle.index.proofs.Standing.{held_records, kinds_held, over_length}
 use Rattle.index.proofs.Store.{store_length}
 use Rattle.parts.specs.declared.Counts.{Counts}
-use Rattle.parts.specs.Parts.{PartTables, stored_in, counts_of, stored_over, Held}
+use Rattle.parts.specs.Parts.{PartTables, stored_in, counts_of, stored_over}
 use Rattle.parts.specs.Steps.{Room}
 
 -- ---- what a part adds

@@ -1,4 +1,6 @@
 // The part rule over lent tables: which parts are stored, and how.
+#![tactic(auto)]
+
 pub mod admits;
 
 ghost use Rattle.std.specs.Prelude.{◌≡◌, true, false, ◌||◌, List, ℕ, ◌+◌, ◌-◌, ◌*◌, ◌≤◌, ◌<◌, eqb, ltb, length, take, drop};
@@ -16,7 +18,7 @@ use tables::part_records::{write_header, write_held};
 use tables::{FrameHeader, get_header, read_header, read_held};
 
 // How many frames and parts tables hold, and the bytes of the frames together.
-#[derive(Drop)]
+#[derive(Clone, Copy)]
 pub struct Counts {
     pub frames: u32,
     pub parts: u32,
@@ -24,7 +26,7 @@ pub struct Counts {
 }
 
 // A part as it is handed over, for checkpoint number at; its bytes are lent beside it.
-#[derive(Drop)]
+#[derive(Clone, Copy)]
 pub struct Piece {
     pub at: u32,
     pub start: u32,
@@ -35,7 +37,7 @@ pub struct Piece {
 
 // Where a part goes: the frame, how many of its bytes the frame holds, and the frame's length and the count of frames
 // afterwards.
-#[derive(Drop)]
+#[derive(Clone, Copy)]
 pub struct Placed {
     pub frame: u32,
     pub from: usize,
@@ -44,7 +46,7 @@ pub struct Placed {
 }
 
 // Where the bytes of frame number frame begin in a store.
-#[derive(Drop)]
+#[derive(Clone, Copy)]
 pub struct Source {
     pub frame: u32,
     pub offset: u64,

@@ -1,4 +1,6 @@
 // plan: where to start for a frame, and the bytes of a held part.
+#![tactic(auto)]
+
 mod search;
 
 ghost use Rattle.std.specs.Prelude.{◌≡◌, List, ℕ, ◌*◌, ◌≤◌, length};

@@ -16,7 +16,7 @@ use Rattle.tables.specs.Tables.{headers_in, frames_in}
 use Rattle.tables.proofs.Frames.{frames_by}
 use Rattle.laws.proofs.scans.Parts.{frames_used}
 use Rattle.rules.proofs.Tests.{and_left, and_right, all→}
-use Rattle.laws.proofs.Facts.{numbersOk→, scanOk→}
+use Rattle.laws.proofs.Facts.{numbers_ok→, scan_ok→}
 use Rattle.laws.proofs.Length.{saved_length_is}
 use Rattle.index.specs.Steps.{Passes, scan_in, hinting_in, hint_counts}
 use Rattle.index.proofs.Four.{kinded_index}
@@ -40,7 +40,7 @@ module _ (x : AreaIndex) (t : Tables) {n : ℕ} (e : n ≡ refusal x t) (z : n �
 
   frames_hold : frames_ok x.area x.budget (frames_in x.frames t.frames t.store) ≡ true
   unfolding scan_in
-  frames_hold = (scanOk→ (index_in x t).scan (and_left (scan_in x t) _ held)).frames
+  frames_hold = (scan_ok→ (index_in x t).scan (and_left (scan_in x t) _ held)).frames
 
   -- the budget fits the store
   budget_room : x.budget ≤ length t.store
@@ -53,7 +53,7 @@ module _ (x : AreaIndex) (t : Tables) {n : ℕ} (e : n ≡ refusal x t) (z : n �
       record {
         long = (passes_long pass).frames;
         rule = frames_by x.area x.budget hs [] ∙ sym (frames_by x.area x.budget hs t.store) ∙ frames_hold;
-        budgeted = (numbersOk→ x.interval x.budget pass.roomy.numbers).budgeted;
+        budgeted = (numbers_ok→ x.interval x.budget pass.roomy.numbers).budgeted;
       }
 
   pub scanned : Scanned x t.checkpoints t.frames t.store t.parts t.malformed

@@ -1,4 +1,6 @@
 // Saving an index: the file's bytes, section by section, into a lent output.
+#![tactic(auto)]
+
 pub mod layout;
 pub mod output;
 mod write;

@@ -17,7 +17,7 @@ pub fn is_hinting(hints: u32, spacing: u32, most: u32) -> bool
 }
 
 // How far an output is written, and the sum of all bytes up to there.
-#[derive(Drop)]
+#[derive(Clone, Copy)]
 pub struct Written {
     pub next: usize,
     pub sum: u64,

@@ -126,7 +126,7 @@ pub fn put_confirmations(out: &mut [u8], w: Written, table: &[u8], count: u32) -
 
 // ---- frames: start, length and the bytes
 // The length of a frame, and the sum up to its end.
-#[derive(Drop)]
+#[derive(Clone, Copy)]
 struct FrameEnd {
     len: usize,
     sum: u64,

@@ -67,12 +67,12 @@ pub first_passes : (qs rs : List Ask) → numbered qs ≡ true → first_no qs �
 unfolding first_no
 first_passes [] rs n h = refl
 first_passes (q ∷ qs) rs n h =
-    let a = (and-eq-true_iff _ _).0 n in pass-by q.ok q.number qs rs (not-true _ a.0) h (first_passes qs rs a.1)
+    let a = (and-eq-true_iff _ _).0 n in pass_by q.ok q.number qs rs (not-true _ a.0) h (first_passes qs rs a.1)
   where
-    pass-by : (b : Bool) (n : ℕ) (qs rs : List Ask) → eqb n 0 ≡ false → cond b (first_no qs) n ≡ 0 → (first_no qs ≡ 0 → first_no (qs ++ rs) ≡ first_no rs)
+    pass_by : (b : Bool) (n : ℕ) (qs rs : List Ask) → eqb n 0 ≡ false → cond b (first_no qs) n ≡ 0 → (first_no qs ≡ 0 → first_no (qs ++ rs) ≡ first_no rs)
         → cond b (first_no (qs ++ rs)) n ≡ first_no rs
-    pass-by true n qs rs e h g = g h
-    pass-by false n qs rs e h g = let z = eqb-false n 0 e in absurd (z h)
+    pass_by true n qs rs e h g = g h
+    pass_by false n qs rs e h g = let z = eqb-false n 0 e in absurd (z h)
 
 -- ---- the area
 pub record Ordered (a : Area) : Type 0 where

@@ -1,4 +1,6 @@
 // Rules that join the sections of a list: counts, held parts, frontier, end state and malformed LSNs; and questions asked in order.
+#![tactic(auto)]
+
 pub mod part_records;
 pub mod records;
 

@@ -152,7 +152,7 @@ pub fn check_confirmations(section: &[u8], n: usize, area: Area) -> bool
 }
 
 // What a check of frames answers: used only where ok.
-#[derive(Drop)]
+#[derive(Clone, Copy)]
 pub struct Filling {
     pub ok: bool,
     pub used: u64,

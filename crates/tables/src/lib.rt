@@ -1,4 +1,6 @@
 // The bridge from tables to lists: what a table's bytes stand for; readers and writers of records, and the kinds of parts.
+#![tactic(auto)]
+
 pub mod kinds;
 pub mod part_records;
 
@@ -13,7 +15,7 @@ use field::{read_u32, read_u64, write_u32};
 use rules::{Checkpoint, Confirmation, FrameKind, Held, Hint};
 
 // Start and length of a frame, as they lie in a table.
-#[derive(Drop)]
+#[derive(Clone, Copy)]
 pub struct FrameHeader {
     pub start: u32,
     pub len: u32,

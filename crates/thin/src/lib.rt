@@ -1,4 +1,6 @@
 // Thinning of hints without a second table: the cutoff gap by bisection, then one pass that keeps what stays.
+#![tactic(auto)]
+
 pub mod gaps;
 
 ghost use Rattle.std.specs.Prelude.{◌≡◌, ◌+◌, ◌<◌, ◌≤◌, ◌-◌, ◌*◌, min, length, cond};
@@ -45,7 +47,7 @@ fn count_below(t: &[u8], n: usize, g: u64) -> usize
 }
 
 // A cutoff: all gaps below `gap` go, and the first `rest` at it.
-#[derive(Drop)]
+#[derive(Clone, Copy)]
 struct Cut {
     gap: u64,
     rest: usize,
@@ -133,7 +135,7 @@ pub fn spent(left: usize, hit: bool) -> usize
 }
 
 // Where a pass is: how many more at the cutoff go, the number before, and how many hints are kept.
-#[derive(Drop)]
+#[derive(Clone, Copy)]
 struct PassState {
     left: usize,
     before: u32,

@@ -1,0 +1,18 @@
+use mathlib.Core.Path.{refl}
+use Rattle.sections.proofs.Questions.{asked_all}
+use Rattle.header.proofs.questions.key_number.Goals as goal
+
+pub returns : goal.returns
+returns c =
+    asked_all _ refl
+    (rw (
+      c.ask.ensures,
+      c.ask-n-3.ensures,
+      c.ask-n-2.ensures,
+      c.ask-n.ensures,
+      c.same_key-same.ensures,
+      c.key_of.ensures,
+      c.and-flags.ensures,
+      c.pick.ensures.0,
+      c.and-version.ensures,
+    ))

@@ -1,0 +1,26 @@
+use native.Mathlib.Omega.{arith}
+use Rattle.header.proofs.values_of.Goals as goal
+
+pub overflow_cast-result-8 : goal.overflow_cast-result-8
+overflow_cast-result-8 c = omega (arith, c.struct_known-8-1.given)
+
+pub overflow_cast-result-9 : goal.overflow_cast-result-9
+overflow_cast-result-9 c = omega (arith, c.struct_known-9-1.given)
+
+pub overflow_cast-result-10 : goal.overflow_cast-result-10
+overflow_cast-result-10 c = omega (arith, c.struct_known-10-1.given)
+
+pub overflow_cast-result-11 : goal.overflow_cast-result-11
+overflow_cast-result-11 c = omega (arith, c.struct_known-11-1.given)
+
+pub overflow_cast-result-12 : goal.overflow_cast-result-12
+overflow_cast-result-12 c = omega (arith, c.struct_known-12-1.given)
+
+pub overflow_cast-result-13 : goal.overflow_cast-result-13
+overflow_cast-result-13 c = omega (arith, c.struct_known-13-1.given)
+
+pub overflow_cast-result-14 : goal.overflow_cast-result-14
+overflow_cast-result-14 c = omega (arith, c.struct_known-14-1.given)
+
+pub overflow_cast-result-15 : goal.overflow_cast-result-15
+overflow_cast-result-15 c = omega (arith, c.struct_known-15-1.given)
