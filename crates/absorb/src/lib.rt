@@ -1,4 +1,6 @@
 // Absorbing a recorder into an index, in their tables.
+#![tactic(auto)]
+
 mod committed;
 mod modes;
 mod questions;

@@ -1,5 +1,5 @@
 -- add_hints on an index in its tables.
-use Rattle.std.specs.Prelude.{ℕ, ◌+◌, ◌-◌, ◌/◌, List, cond, eqb, length}
+use Rattle.std.specs.Prelude.{ℕ, ◌+◌, ◌/◌, List, cond, eqb, length}
 use Rattle.rules.specs.declared.AreaIndex.{AreaIndex}
 use Rattle.rules.specs.Hints.{add_hints}
 use Rattle.tables.specs.Index.{Tables, room_of, index_in, kinds_in, kinded, tables_cleared, MadeOut, made_out_of}

@@ -1,4 +1,6 @@
 // add_hints: a delivered list of hints joined to those of an index.
+#![tactic(auto)]
+
 pub mod choice;
 pub mod joined;
 mod packed;

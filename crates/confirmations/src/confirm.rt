@@ -47,7 +47,7 @@ pub fn write_confirmation(t: &mut [u8], j: usize, c: Confirmation)
 }
 
 // What a merge takes next, and where it goes on in both lists.
-#[derive(Drop)]
+#[derive(Clone, Copy)]
 struct Taken {
     confirmation: Confirmation,
     own: usize,
@@ -129,7 +129,7 @@ fn last_lsn(t: &[u8], i: usize) -> u64
 }
 
 // Where the last ones of two lists begin in each, and how many they are merged.
-#[derive(Drop)]
+#[derive(Clone, Copy)]
 struct Split {
     own: usize,
     other: usize,

@@ -1,4 +1,6 @@
 // keep_confirmation: one confirmation kept beside those of an index.
+#![tactic(auto)]
+
 pub mod confirm;
 
 ghost use Rattle.std.specs.Prelude.{◌≡◌, true, ◌&&◌, ltb};

@@ -1,4 +1,6 @@
 // The first record of a sector.
+#![tactic(auto)]
+
 ghost use Rattle.std.specs.Prelude.{◌≡◌, ◌+◌, ◌<◌, ◌≤◌, length};
 ghost use Rattle.rules.specs.FirstRecord.{first_record, frames, packets, time_at};
 

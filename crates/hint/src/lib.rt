@@ -1,4 +1,6 @@
 // hint: the hint that a read for a range of frames begins at, and the end of the read.
+#![tactic(auto)]
+
 mod density;
 mod nearest;
 

@@ -1,4 +1,6 @@
 // The hint recorder: its numbers by value, and its list in a lent table.
+#![tactic(auto)]
+
 mod spacing;
 
 ghost use Rattle.std.specs.Prelude.{◌≡◌};
@@ -49,7 +51,7 @@ fn list_or_keep(r: HintRecorder, h: Hint, list: &mut [u8]) -> HintRecorder
 }
 
 // A hint recorder in its step.
-#[derive(Drop)]
+#[derive(Clone, Copy)]
 struct Step {
     recorder: HintRecorder,
 }

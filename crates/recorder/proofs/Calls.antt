@@ -12,7 +12,7 @@ use Rattle.rules.specs.declared.EndState.{EndState}
 use Rattle.rules.specs.declared.Mode.{Mode}
 use Rattle.rules.specs.declared.Mode.TheVariants.{Finished}
 use Rattle.rules.specs.declared.Recorder.{Recorder}
-use Rattle.rules.specs.Tests.{each, Answer, Refused, Accepted, after, ask, first_no}
+use Rattle.rules.specs.Tests.{each, Answer, Accepted, after, ask, first_no}
 use Rattle.rules.specs.Values.{boundaries, last_checkpoint}
 use Rattle.rules.specs.Values as values
 use Rattle.rules.specs.Sections.{end_ok, ending_ok}

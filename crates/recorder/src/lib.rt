@@ -1,4 +1,6 @@
 // A recorder: its numbers by value, and its lists in four lent tables. Questions 1 to 4, the recorder of an index, record and finish.
+#![tactic(auto)]
+
 mod asked;
 pub mod boundary;
 mod modes;

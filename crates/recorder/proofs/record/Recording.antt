@@ -3,7 +3,7 @@ use mathlib.Core.Path.{◌≡◌, refl, sym, ap, ◌∙◌}
 use mathlib.Core.Bool.{Bool, true, ◌&&◌, cond, and-true}
 use mathlib.Core.List.{List, [], ◌∷◌, ◌++◌}
 use mathlib.Core.Option.{Option, none, some}
-use Prim.Native.Nat.{ℕ, ◌+◌, ◌-◌, ◌*◌, ◌/◌, ◌<◌, ◌≤◌}
+use Prim.Native.Nat.{ℕ, ◌+◌, ◌*◌, ◌/◌, ◌<◌, ◌≤◌}
 use native.Mathlib.Omega.{arith}
 use borrow.Author.Tests.{eq-eqb, ne_eqb, eqb-true, eqb-false, leb-true, ltb-true}
 use lib.Dec.{eqb, ltb}
@@ -17,7 +17,7 @@ use Rattle.rules.specs.declared.Checkpoint.{Checkpoint}
 use Rattle.rules.specs.declared.Recorder.{Recorder}
 use Rattle.rules.specs.declared.UnderAssembly.{UnderAssembly}
 use Rattle.rules.specs.declared.UnderAssembly.TheVariants.{Nothing, Frame}
-use Rattle.rules.specs.Tests.{all, each, Ask, ask, first_no, Refused, Accepted, after}
+use Rattle.rules.specs.Tests.{all, each, Ask, ask, first_no, Accepted, after}
 use Rattle.rules.specs.Values.{lsn_of, boundaries, last_checkpoint, used}
 use Rattle.rules.specs.Values as values
 use Rattle.rules.specs.Questions.{recorder_four_of, recorder_question4, scan_room}

@@ -1,0 +1,24 @@
+use Rattle.absorb.proofs.questions.Twelve.{moved_is, started}
+use native.Mathlib.Omega.{arith}
+use borrow.Author.Rules.{rules}
+use Rattle.absorb.proofs.questions.moved_ok.Goals as goal
+
+pub overflow_cast-h : goal.overflow_cast-h
+overflow_cast-h c = search (rules, c.struct_known-3-1.given)
+
+pub joined_last-last-requires : goal.joined_last-last-requires
+joined_last-last-requires c = (c.requires.checkpoints, c.requires.theirs)
+
+pub continues-goes-requires : goal.continues-goes-requires
+continues-goes-requires c = (c.requires.checkpoints, c.requires.theirs)
+
+pub ending_ok-ends-requires : goal.ending_ok-ends-requires
+ending_ok-ends-requires c = (started _ c.requires.area).0
+
+pub list_ok-lists-requires : goal.list_ok-lists-requires
+list_ok-lists-requires c = (omega arith, c.requires.malformed)
+
+pub returns : goal.returns
+returns c =
+    moved_is _ _ _ _ _ _ _ _ _ c.joined_last-last.ensures c.counted-count.ensures c.ending_ok-ends.ensures
+    c.continues-goes.ensures c.list_ok-lists.ensures cc

@@ -1,0 +1,4 @@
+use Rattle.absorb.proofs.takes.Goals as goal
+
+pub returns : goal.returns
+returns c = cc

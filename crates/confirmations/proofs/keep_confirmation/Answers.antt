@@ -1,0 +1,49 @@
+use mathlib.Core.Bool.{not}
+use mathlib.Core.Path.{ap}
+use mathlib.Core.Path.{sym, ◌∙◌}
+use native.Mathlib.Omega.{arith}
+use Rattle.index.proofs.Questions.{passes}
+use Rattle.confirmations.proofs.Keeping.{room_is, lsn_small, keep_no, keep_14, keep_unchecked, keep_zero}
+use Rattle.confirmations.proofs.Keeping.{keep_yes}
+use Rattle.confirmations.proofs.keep_confirmation.Goals as goal
+
+pub returns-then-number-ne0 : goal.returns-then-number-ne0
+returns-then-number-ne0 c = keep_no _ _ _ _ _ c.refuses-number.ensures c.if-number-ne0.true
+
+pub returns-then-not-question14 : goal.returns-then-not-question14
+returns-then-not-question14 c = keep_14 _ _ _ _ _ c.refuses-number.ensures c.if-number-ne0.false c.question14.ensures (ap not c.if-not-question14.true)
+
+pub returns-then-not-is_checked : goal.returns-then-not-is_checked
+returns-then-not-is_checked c =
+    keep_unchecked _ _ _ _ _ c.refuses-number.ensures c.if-number-ne0.false c.question14.ensures
+    (ap not c.if-not-question14.false)
+    c.is_checked.ensures (ap not c.if-not-is_checked.true)
+
+pub returns-then-x-eq0 : goal.returns-then-x-eq0
+returns-then-x-eq0 c =
+    keep_zero _ _ _ _ _ c.refuses-number.ensures c.if-number-ne0.false c.question14.ensures (ap not c.if-not-question14.false)
+    (omega (arith, c.if-x-eq0.true))
+
+pub overflow_cast-c : goal.overflow_cast-c
+overflow_cast-c c =
+    let p = passes _ _ (sym c.refuses-number.ensures ∙ c.if-number-ne0.false) in
+    omega (arith, lsn_small c.args.lsn c.args.threshold p c.question14.ensures (ap not c.if-not-question14.false))
+
+pub keep_one-count-requires : goal.keep_one-count-requires
+keep_one-count-requires c = room_is (passes _ _ (sym c.refuses-number.ensures ∙ c.if-number-ne0.false))
+
+pub returns : goal.returns
+returns c =
+    rw c.with_count.ensures
+    (keep_yes _ _ _ _ _ c.refuses-number.ensures c.if-number-ne0.false c.question14.ensures (ap not c.if-not-question14.false)
+    c.is_checked.ensures (ap not c.if-not-is_checked.false) (λ z. omega (arith, c.if-x-eq0.false))
+    (record {
+      checkpoints = λ i. (c.type_inv.checkpoints i).fits;
+      frames = λ i. (c.type_inv.frames i).fits;
+      store = λ i. (c.type_inv.store i).fits;
+      parts = λ i. (c.type_inv.parts i).fits;
+      malformed = λ i. (c.type_inv.malformed i).fits;
+      hints = λ i. (c.type_inv.hints i).fits;
+      confirmed = λ i. (c.slice_known-1.given i).fits;
+    })
+    c.keep_one-count.ensures)

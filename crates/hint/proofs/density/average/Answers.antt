@@ -1,0 +1,4 @@
+use Rattle.hint.proofs.density.average.Goals as goal
+
+pub returns : goal.returns
+returns c = cc

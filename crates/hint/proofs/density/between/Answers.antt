@@ -1,0 +1,4 @@
+use Rattle.hint.proofs.density.between.Goals as goal
+
+pub returns : goal.returns
+returns c = cc
