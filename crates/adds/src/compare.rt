@@ -15,7 +15,7 @@ use tables::{read_confirmation, read_hint};
 use thin::gaps::gap_of;
 
 // The gap at a place of a list of hints, and the place.
-#[derive(Drop)]
+#[derive(Clone, Copy)]
 pub struct Pair {
     pub gap: u64,
     pub place: u64,
@@ -23,7 +23,7 @@ pub struct Pair {
 
 // Of the hints passed so far: how many, the last one's number, the largest pair of a new one, the smallest of a
 // held one, and whether a held number is replaced.
-#[derive(Drop)]
+#[derive(Clone, Copy)]
 pub struct Weighed {
     pub place: u64,
     pub before: u32,
@@ -34,7 +34,7 @@ pub struct Weighed {
 
 // The next hint of two lists: whether it is new, which brings no mark, whether the other list has another number at its
 // LSN, the hint, and how many of each list are passed then.
-#[derive(Drop)]
+#[derive(Clone, Copy)]
 pub struct Turn {
     pub new: bool,
     pub replaced: bool,

@@ -1,4 +1,6 @@
 // What a merge of two lists would bring, from their tables, which are only read.
+#![tactic(auto)]
+
 pub mod compare;
 
 ghost use Rattle.std.specs.Prelude.{◌≡◌, ◌&&◌, not, ◌+◌, ◌*◌, ◌≤◌, eqb, ltb, length, take, drop};

@@ -1,4 +1,6 @@
 // A head: the numbers of an index, a recorder or a hint recorder in one lent block of 192 bytes, 24 words of eight bytes each.
+#![tactic(auto)]
+
 pub mod calls;
 pub mod read;
 
@@ -44,7 +46,7 @@ pub fn write_words(head: &mut [u8], words: [u64; 24])
 
 // ---- to words
 // A thing that may be unknown: its mark, and up to two numbers.
-#[derive(Drop)]
+#[derive(Clone, Copy)]
 pub struct Marked {
     pub mark: u64,
     pub first: u64,
@@ -250,7 +252,7 @@ pub fn recorder_words(x: Recorder) -> [u64; 24]
 }
 
 // The words that tell a first record: whether there is one, its frame number, its offset, and why there is none.
-#[derive(Drop)]
+#[derive(Clone, Copy)]
 pub struct Told {
     pub found: u64,
     pub number: u64,

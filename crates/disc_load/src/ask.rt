@@ -11,21 +11,21 @@ use rules::{Area, AreaIndex};
 use rules_disc::{Contents, Entry, SlotEntry};
 
 // The body of a slot, which no question refuses: the file has none, or its entry, what it says, and the numbers of its limited list.
-#[derive(Drop)]
+#[derive(Clone, Copy)]
 pub enum Body {
     Absent,
     At(Entry, Found, AreaIndex),
 }
 
 // What the questions of one body answer.
-#[derive(Drop)]
+#[derive(Clone, Copy)]
 pub enum Asked {
     Refused(u32),
     Passed(Body),
 }
 
 // The refusal number, or the bodies of slots 0 and 1.
-#[derive(Drop)]
+#[derive(Clone, Copy)]
 pub enum Decided {
     Refused(u32),
     Ready(Body, Body),

@@ -1,4 +1,6 @@
 // Loading a disc file under the areas of slots 0 and 1, each list into tables of its own: all lists or none.
+#![tactic(auto)]
+
 mod ask;
 pub mod contents;
 pub mod questions;

@@ -8,7 +8,7 @@ use borrow.Author.Tests.{leb-true, le-leb, lt-leb, lt-ltb, le-ltb, ne_eqb, eq-eq
 use lib.Dec.{leb}
 use lib.ListN.{length}
 use Rattle.rules.specs.declared.AreaIndex.{AreaIndex}
-use Rattle.rules.specs.Tests.{each, Ask, ask, first_no, Refused, Accepted, after}
+use Rattle.rules.specs.Tests.{each, Ask, ask, first_no, Accepted, after}
 use Rattle.rules.specs.Questions.{both, four_of, ask_four}
 use Rattle.rules.specs.Values.{Index, max32}
 use Rattle.rules.specs.File.{saved_length}

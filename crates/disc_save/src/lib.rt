@@ -1,4 +1,6 @@
 // Saving one list, or both lists of a disc, as a disc file.
+#![tactic(auto)]
+
 mod layout;
 pub mod length;
 

@@ -28,7 +28,7 @@ use Rattle.drawer.specs.declared.ask.Entry.{Entry}
 use Rattle.drawer.specs.declared.ask.File.{File}
 use Rattle.drawer.specs.declared.ask.File.TheVariants as file
 use Rattle.drawer.specs.declared.ask.Asked.{Asked}
-use Rattle.drawer.specs.Ask.{no_file, unasked, refused_by, bytes_at, list_at, FileLoads, HoldsAt, FileAsked, Loads, FilesAsked}
+use Rattle.drawer.specs.Ask.{no_file, unasked, refused_by, bytes_at, list_at, FileLoads, HoldsAt, FileAsked, FilesAsked}
 
 -- ---- one file
 abbrev entry_of : ℕ → ℕ → Found → AreaIndex → Entry

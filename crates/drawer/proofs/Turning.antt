@@ -30,7 +30,7 @@ use Rattle.load.specs.Steps.{Loadable}
 use Rattle.merge.specs.Merge.{hints_written, merge_in}
 use Rattle.merge.specs.Steps.{out_index}
 use Rattle.rules_drawer.specs.Drawer.{pair_number, pairs_with, pairs_number, merge_each}
-use Rattle.rules_drawer.proofs.Pairs.{first-of→, →first-of, mergeable→}
+use Rattle.rules_drawer.proofs.Pairs.{first_of→, →first_of, mergeable→}
 use Rattle.drawer.specs.declared.ask.Entry.{Entry}
 use Rattle.drawer.specs.declared.ask.Asked.{Asked}
 use Rattle.drawer.specs.Ask.{no_file, entries_in, bytes_at, list_at, lists_at, FileLoads}
@@ -115,7 +115,7 @@ module _ (x0 : AreaIndex) (t0 : Tables) (ys0 : List Index) where
 
     first_pair : pair_number own y ≡ 0
     unfolding pairs_number pairs_with
-    first_pair = (first-of→ _ _ (first-of→ _ _ k.pairs).0).0
+    first_pair = (first_of→ _ _ (first_of→ _ _ k.pairs).0).0
 
     pub merges : (m : Lengths) → Savable y → question3 m y ≡ true → merge_number (room_of t) own m y ≡ 0
     merges m w q = merge_none (room_of t) m own y k.savable k.room w q first_pair
@@ -133,8 +133,8 @@ module _ (x0 : AreaIndex) (t0 : Tables) (ys0 : List Index) where
       pairs_left : pairs_number (merged own y ∷ ys) ≡ 0
       unfolding pairs_number pairs_with
       pairs_left =
-          let p = first-of→ _ _ k.pairs in let q = first-of→ _ _ p.0 in let r = first-of→ _ _ p.1 in
-          →first-of (pairs_both own y (scan_is own k.savable) (scan_is y w) (mergeable→ own y q.0) ys q.1 r.0) r.1
+          let p = first_of→ _ _ k.pairs in let q = first_of→ _ _ p.0 in let r = first_of→ _ _ p.1 in
+          →first_of (pairs_both own y (scan_is own k.savable) (scan_is y w) (mergeable→ own y q.0) ys q.1 r.0) r.1
 
       same_left : turns_in (numbers_from (merged own y)) after_tables ys ≡ turns_in x t (y ∷ ys)
       unfolding turns_in merge_each merged_tables

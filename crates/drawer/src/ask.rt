@@ -16,7 +16,7 @@ use tables::behind;
 pub const MAX_FILES: usize = 16;
 
 // A file that loads: where it begins, its length, what it says, and the numbers of its limited list.
-#[derive(Drop)]
+#[derive(Clone, Copy)]
 pub struct Entry {
     pub from: usize,
     pub len: usize,
@@ -25,14 +25,14 @@ pub struct Entry {
 }
 
 // What the questions of one file answer: its entry, or a refusal number.
-#[derive(Drop)]
+#[derive(Clone, Copy)]
 pub enum File {
     Refused(u32),
     Loads(Entry),
 }
 
 // What the questions answer: where ok holds, the entries of the first count files, all that there are; else a refusal number.
-#[derive(Drop)]
+#[derive(Clone, Copy)]
 pub struct Asked {
     pub ok: bool,
     pub number: u32,

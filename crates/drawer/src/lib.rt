@@ -1,4 +1,6 @@
 // All lists of a drawer together (change request 1): every file and every pair is asked, then the lists are merged in turn.
+#![tactic(auto)]
+
 mod ask;
 
 ghost use Rattle.std.specs.Prelude.{◌≡◌, true};

@@ -1,4 +1,6 @@
 // What another list holds and the own one does not, decided over lent tables that are only read.
+#![tactic(auto)]
+
 ghost use Rattle.std.specs.Prelude.{◌≡◌, cond, ◌+◌, ◌-◌, ◌*◌, ◌<◌, ◌≤◌, length, take, drop};
 ghost use Rattle.tables.specs.Tables.{parts_in};
 ghost use Rattle.tables.specs.Index.{tables};
@@ -24,7 +26,7 @@ use rules_lacks::{Lacked, Lacks};
 use tables::{get_header, read_confirmation, read_held, read_hint, read_lsn};
 
 // How many of what lies in tables.
-#[derive(Drop)]
+#[derive(Clone, Copy)]
 pub struct Missing {
     pub checkpoints: u32,
     pub parts: u32,
@@ -34,7 +36,7 @@ pub struct Missing {
 }
 
 // The sections whose records begin with an LSN, in their order.
-#[derive(Drop)]
+#[derive(Clone, Copy)]
 pub enum Section {
     Malformed,
     Hints,
@@ -42,7 +44,7 @@ pub enum Section {
 }
 
 // Where a frame of each of two lists lies and, if known, how many bytes they begin with alike.
-#[derive(Drop)]
+#[derive(Clone, Copy)]
 pub struct Paired {
     pub known: bool,
     pub own: Source,
@@ -51,7 +53,7 @@ pub struct Paired {
 }
 
 // 0 where a part of the other list has one that stands for it, else 1; and the pair of frames that was looked at last.
-#[derive(Drop)]
+#[derive(Clone, Copy)]
 pub struct PartStep {
     pub lacks: u32,
     pub pair: Paired,

@@ -1,4 +1,6 @@
 // merge: two lists joined in their tables, and questions 41 to 43.
+#![tactic(auto)]
+
 pub mod common;
 pub mod goes_further;
 pub mod keys;

@@ -18,7 +18,7 @@ use Rattle.rules.specs.Questions.{area_ok, question1, question2, question4}
 use Rattle.rules.specs.File.{read_header}
 use Rattle.rules.specs.Load.{body_in, header_number, file_number, from_bytes}
 use Rattle.rules.proofs.Tests.{test, never, choose, all→, asked}
-use Rattle.laws.proofs.Facts.{numbersOk→, scanOk→}
+use Rattle.laws.proofs.Facts.{numbers_ok→, scan_ok→}
 use Rattle.laws.proofs.Loaded.{loaded_valid}
 use Rattle.laws.proofs.scans.Parts.{frames_used}
 use Rattle.inspect.specs.declared.Found.{Found}
@@ -105,8 +105,8 @@ pub held_small : (a : Area) (b : List ℕ) (x : Index) → Bytes b → area_ok a
 unfolding question2 question4
 held_small a b x y o e =
     let v = loaded_valid a b x y o e in
-    let n = numbersOk→ x.scan.interval x.scan.budget v.two in
-    let f = scanOk→ x.scan (all→ _ v.four).0 in
+    let n = numbers_ok→ x.scan.interval x.scan.budget v.two in
+    let f = scan_ok→ x.scan (all→ _ v.four).0 in
     let u = frames_used x.scan.area x.scan.budget x.scan.frames f.frames in
     omega arith
 

@@ -7,13 +7,13 @@ ghost use Rattle.sheet.specs.Lines.{word_length, number_of, parsed_from, line_in
 use field::and;
 
 // The length of the name, start and end; or another shape, which is 46.
-#[derive(Drop)]
+#[derive(Clone, Copy)]
 pub enum Parsed {
     Broken,
     Line(usize, u64, u64),
 }
 
-#[derive(Drop)]
+#[derive(Clone, Copy)]
 pub enum Number {
     Nothing,
     Value(u64),

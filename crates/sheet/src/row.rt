@@ -13,7 +13,7 @@ use rules::{Area, AreaKey, MAX_U32};
 use sections::area_boundaries;
 
 // The number that refuses a file; or checkpoints, boundaries and held bytes.
-#[derive(Drop)]
+#[derive(Clone, Copy)]
 pub enum RowAnswer {
     Refused(u32),
     Accepted(u32, u32, u32),

@@ -1,4 +1,6 @@
 // Views of a list (change request 10): what a listener and what the workshop sees of it, as bytes in a lent output.
+#![tactic(auto)]
+
 pub mod write;
 
 ghost use Rattle.std.specs.Prelude.{◌≡◌, true, [], ◌+◌, ◌*◌, ◌≤◌, length};

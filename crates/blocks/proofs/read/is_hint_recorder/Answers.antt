@@ -1,0 +1,10 @@
+use Rattle.blocks.proofs.Words.{no_block, some_block}
+use Rattle.blocks.proofs.read.is_hint_recorder.Goals as goal
+
+pub returns-then-head-lt-HEAD_BYTES : goal.returns-then-head-lt-HEAD_BYTES
+returns-then-head-lt-HEAD_BYTES c = no_block _ _ c.if-head-lt-HEAD_BYTES.true
+
+pub returns : goal.returns
+returns c =
+    some_block _ _ _ _ _ c.if-head-lt-HEAD_BYTES.false c.same_words.ensures c.read_words-words.ensures
+    (rw (c.hint_recorder_words-again.ensures, c.hint_recorder_from.ensures) at c.with_free.ensures)

@@ -1,0 +1,10 @@
+use Rattle.rules.specs.File.{bit}
+use Rattle.view.proofs.write.bit.Goals as goal
+
+pub returns-then-b : goal.returns-then-b
+unfolding bit
+returns-then-b c = rw c.if-b.true
+
+pub returns-else-b : goal.returns-else-b
+unfolding bit
+returns-else-b c = rw c.if-b.false
