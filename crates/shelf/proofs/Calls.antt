@@ -4,11 +4,12 @@ use mathlib.Core.Bool.{true, false}
 use mathlib.Core.List.{List, [], ◌∷◌, ◌++◌}
 use mathlib.Core.Logic.{◌⊎◌, inl, inr, ⊎_elim}
 use mathlib.Core.Option.{Option, none, some}
-use Prim.Native.Nat.{ℕ, zero, suc, ◌+◌, ◌-◌, ◌<◌, ◌≤◌, min}
+use Prim.Native.Nat.{ℕ, zero, suc, ◌+◌, ◌<◌, ◌≤◌, min}
 use native.Mathlib.Omega.{arith}
 use borrow.Author.Tests.{leb-true, ne_eqb}
 use lib.Dec.{leb}
-use lib.ListN.{length, get_or, take, drop, length-set, length-take, take-append-drop}
+use native.Mathlib.Numerals.{add-one}
+use lib.ListN.{length, get_or, take, drop, set, length-set, length-take, take-append-drop}
 use lib.Seq.{take-suc, take-suc-set, drop-set-lt}
 use Rattle.rules.specs.declared.Area.{Area}
 use Rattle.rules.specs.Tests.{all, Ask, ask, first_no, Answer, Refused, Accepted, after, bind}
@@ -20,7 +21,7 @@ use Rattle.rules_shelf.specs.Shelf.{no_record, area_of, present_records, drop_at
 use Rattle.shelf.specs.declared.Change.{Change}
 use Rattle.shelf.specs.declared.Kept.{Kept}
 use Rattle.shelf.specs.declared.ShelfAnswer.{ShelfAnswer}
-use Rattle.shelf.specs.Shelf.{answer, some_of, clamp, ShelfOut, shelf_out, shelf_out_of, enter_call, jump_call}
+use Rattle.shelf.specs.Shelf.{some_of, clamp, ShelfOut, shelf_out, shelf_out_of, enter_call, jump_call}
 use Rattle.shelf.specs.Steps.{told, new_of, Changes, Sound, Stands, list_of, written}
 use Rattle.shelf.proofs.Laws.{list_length}
 
@@ -29,6 +30,12 @@ pub length_written : (n : ℕ) (l t : List ShelfRecord) → length (written n l 
 unfolding written
 length_written zero l t = refl
 length_written (suc n) l t = length-set (written n l t) n (get_or l n no_record) ∙ length_written n l t
+
+-- one record more
+pub written_more : (i : ℕ) (l t : List ShelfRecord) {zs : List ShelfRecord} {r : ShelfRecord} → zs ≡ written i l t
+    → r ≡ get_or l i no_record → set zs i r ≡ written (i + 1) l t
+unfolding written
+written_more i l t e d = rw (add-one i, e, d) refl
 
 written_first : (n : ℕ) (l t : List ShelfRecord) → n ≤ length l → n ≤ length t → take n (written n l t) ≡ take n l
 unfolding written

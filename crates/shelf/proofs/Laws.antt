@@ -8,7 +8,7 @@ use native.Mathlib.Omega.{arith}
 use native.Mathlib.Numerals.{add-one}
 use borrow.Author.Tests.{ltb-true, ltb-false, leb-true, eqb-true, eqb-false, ne_eqb, lt-ltb, le-ltb, le-leb, lt-leb}
 use lib.Dec.{eqb, leb, ltb}
-use lib.ListN.{length, get_or, take, drop, set, replicate, length-set, length-take, length-drop, length-replicate}
+use lib.ListN.{length, get_or, take, drop, set, length-set, length-take, length-drop}
 use lib.ListN.{drop_of_length-le}
 use lib.Seq.{take-suc, take-suc-set, get_or-take, take_all, take-set-lt}
 use Rattle.rules.specs.declared.Area.{Area}
@@ -48,28 +48,6 @@ push_stands a rs r b h l p =
 pub record Taken (i : ℕ) (ys : List ShelfRecord) (a : Kept) : Type 0 where
   pub stands : Stands a (take i ys)
   pub count : a.n ≡ i
-
-pub none_taken : (ys : List ShelfRecord) (a : Kept) → (a.all ≡ replicate 64 no_record) × (a.n ≡ 0) → Taken 0 ys a
-none_taken ys a e =
-    let z : a.n ≡ 0 = e.1 in
-    record {
-      stands = record {
-        sound = record { few = omega arith; wide = ap length e.0 ∙ length-replicate 64 no_record };
-        same = rw z refl;
-      };
-      count = z;
-    }
-
-pub one_taken : (i : ℕ) (ys : List ShelfRecord) (a b : Kept) → i < length ys → Taken i ys a → a.n < 64
-    → Pushed a (get_or ys i no_record) b → Taken (suc i) ys b
-one_taken i ys a b l h few p =
-    let c : a.n ≡ i = h.count in
-    let m : b.n ≡ a.n + 1 = p.1 in
-    record {
-      stands = rw (take-suc ys i no_record l) (push_stands a (take i ys) (get_or ys i no_record) b h.stands few
-          p);
-      count = omega arith;
-    }
 
 -- ---- the records of a value
 pub list_length : (k : Kept) → Sound k → length (list_of k) ≡ k.n

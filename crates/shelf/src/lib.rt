@@ -1,4 +1,6 @@
 // A shelf of saved lists: entering a list and jumping in it, over a lent table of records.
+#![tactic(auto)]
+
 pub mod table;
 
 ghost use Rattle.std.specs.Prelude.{◌≡◌, cond, [], ◌∷◌, ◌+◌, ◌-◌, ◌<◌, ◌≤◌, leb, ltb, get_or, drop, set, replicate};
@@ -15,7 +17,7 @@ use rules_shelf::{MAX_COUNT, MAX_SHELF, Shelf, ShelfRecord};
 use sections::ask;
 
 // At most 64 records by value: the first n of all.
-#[derive(Drop)]
+#[derive(Clone, Copy)]
 pub struct Kept {
     pub all: [ShelfRecord; 64],
     pub n: usize,
@@ -24,7 +26,7 @@ pub struct Kept {
 // What a call answers to C: a refusal number or 0, 1 where the area is absent, and the shelf's
 // numbers afterwards. 24 bytes.
 #[repr(C)]
-#[derive(Drop)]
+#[derive(Clone, Copy)]
 pub struct ShelfAnswer {
     pub number: u32,
     pub absent: u32,
@@ -33,7 +35,7 @@ pub struct ShelfAnswer {
 }
 
 // The records that a call writes over the start of the table, and its answer.
-#[derive(Drop)]
+#[derive(Clone, Copy)]
 pub struct Change {
     pub all: [ShelfRecord; 64],
     pub n: usize,

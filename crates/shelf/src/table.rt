@@ -67,12 +67,7 @@ pub fn drop_record(s: &mut [ShelfRecord], n: usize, i: usize) -> usize
 
 // ---- what C calls
 // The list of area and length of g is entered; its stamp is not read.
-#[unsafe(no_mangle)]
-pub extern "C" fn seek_raw_shelf_enter(
-    s: &mut [ShelfRecord],
-    shelf: Shelf,
-    g: ShelfRecord,
-) -> ShelfAnswer
+pub fn seek_raw_shelf_enter(s: &mut [ShelfRecord], shelf: Shelf, g: ShelfRecord) -> ShelfAnswer
     ensures { shelf_out result s.new ≡ enter_call shelf s.old g }
 {
     let room = s.len();
@@ -86,12 +81,7 @@ pub extern "C" fn seek_raw_shelf_enter(
 }
 
 // A jump in the area of g; nothing else of it is read.
-#[unsafe(no_mangle)]
-pub extern "C" fn seek_raw_shelf_jump(
-    s: &mut [ShelfRecord],
-    shelf: Shelf,
-    g: ShelfRecord,
-) -> ShelfAnswer
+pub fn seek_raw_shelf_jump(s: &mut [ShelfRecord], shelf: Shelf, g: ShelfRecord) -> ShelfAnswer
     ensures { shelf_out result s.new ≡ jump_call shelf s.old g }
 {
     let room = s.len();

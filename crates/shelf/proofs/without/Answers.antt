@@ -1,0 +1,13 @@
+use native.Mathlib.Omega.{arith}
+use Rattle.shelf.proofs.Laws.{without_some, without_none}
+use Rattle.shelf.proofs.without.Goals as goal
+
+pub returns-then-i-a : goal.returns-then-i-a
+returns-then-i-a c =
+    without_some c.args.a _
+    (c.place-i.ensures.0) c.dropped.ensures.0
+
+pub returns : goal.returns
+returns c =
+    without_none _ _ (c.place-i.ensures.0)
+    (c.requires) (omega arith)
