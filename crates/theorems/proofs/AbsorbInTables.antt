@@ -74,11 +74,11 @@ joined_sized x r ms h z =
     →all _ (a.0, (c, (m.1.1.0, (m.1.1.1.0, tt))))
 
 -- ---- a number that is not 1 to 4 is that of the rules
-kinded-both→ : (ok : Bool) (x : Index) (r : values.Recorder) (a : Absorbed) (n : ℕ) → (1 ≤ n → n ≤ 4 → ⊥)
+kinded_both→ : (ok : Bool) (x : Index) (r : values.Recorder) (a : Absorbed) (n : ℕ) → (1 ≤ n → n ≤ 4 → ⊥)
     → (kinded_both ok x r a).number ≡ n → (ok ≡ true) × (a.number ≡ n)
 unfolding kinded_both
-kinded-both→ true x r a n h e = (refl, e)
-kinded-both→ false x r a n h e =
+kinded_both→ true x r a n h e = (refl, e)
+kinded_both→ false x r a n h e =
     let b = or_four_lemma a.number in let q : or_four a.number
     ≡ n = e in let f : ⊥ = h (rw q at b.0) (rw q at b.1) in absurd f
 
@@ -105,7 +105,7 @@ module _ (x : AreaIndex) (t : Tables) (image : ImageId) (given : List ℕ) (r : 
       → ((kinds_in x t && recorder_kinds r u) ≡ true) × (answer.number ≡ n) × (left ≡ absorbed_out_of t answer)
   unfolding absorb_in absorbed_out_of
   rules_answer n h e =
-      let k = kinded-both→ (kinds_in x t && recorder_kinds r u) own read answer n h e
+      let k = kinded_both→ (kinds_in x t && recorder_kinds r u) own read answer n h e
       in (k.0, k.1, ap (absorbed_out_of t) (kinded_yes (kinds_in x t && recorder_kinds r u) own read answer k.0))
 
   -- the recorder that it leaves stands in the recorder's tables

@@ -23,7 +23,7 @@ use Rattle.rules_drawer.specs.Drawer.{question44, load_files, pair_number, pairs
 use Rattle.theorems.specs.Terms.{Valid}
 use Rattle.theorems.specs.Drawer.{FileLoads, EachLoads, SetAsked, merge_turns, SetIsTurns, room_at, SetIsPairs, SetValid, Loaded, FileFails, past, refused, SetNumber}
 use Rattle.theorems.proofs.Closure.{closure}
-use Rattle.rules_drawer.proofs.Pairs.{first-of→, →first-of, pairs_at, pairs_of, pairs_first, mergeable→}
+use Rattle.rules_drawer.proofs.Pairs.{first_of→, →first_of, pairs_at, pairs_of, pairs_first, mergeable→}
 use Rattle.rules_drawer.proofs.Files.{behind→, →behind, first_file, next_file, file_inside, no_first}
 use Rattle.drawer.proofs.Joining.{pairs_both, pairs_each}
 
@@ -63,24 +63,24 @@ module _ (l m : Lengths) where
   unfolding pairs_number pairs_with merge_turns merge_each
   to_turns x v nothing e = refl
   to_turns x v (one {x = y} {xs = ys} w ws) e =
-      let a = first-of→ _ _ e in let b = first-of→ _ _ a.0 in let c = first-of→ _ _ a.1 in
+      let a = first_of→ _ _ e in let b = first_of→ _ _ a.0 in let c = first_of→ _ _ a.1 in
       let k = merge_accepts l m x y v w b.0 in
       let u : pairs_with (merged x y) ys ≡ 0 = pairs_both x y (scan_is x v) (scan_is y w) (mergeable→ x y b.0) ys
       b.1 c.0 in
-      →bind _ k (to_turns (merged x y) (closure.merged l m x y (merged x y) k) ws (→first-of u c.1))
+      →bind _ k (to_turns (merged x y) (closure.merged l m x y (merged x y) k) ws (→first_of u c.1))
 
   of_turns : (x z : Index) {ys : List Index} → Valid l x → Each (Valid m) ys → merge_turns l x m ys ≡ Accepted z
       → (pairs_number (x ∷ ys) ≡ 0) × (merge_each x ys ≡ z)
   unfolding pairs_number pairs_with merge_turns merge_each
-  of_turns x z v nothing e = (→first-of refl refl, accepted_eq x z e)
+  of_turns x z v nothing e = (→first_of refl refl, accepted_eq x z e)
   of_turns x z v (one {x = y} {xs = ys} w ws) e =
       let t = bind→ (merge l x m y) _ z e in
       let k = merge_accepted l m x y t.value t.first in
       let r = of_turns t.value z (closure.merged l m x y t.value t.first) ws t.second in
-      let a = first-of→ (pairs_with t.value ys) (pairs_number ys) r.0 in
+      let a = first_of→ (pairs_with t.value ys) (pairs_number ys) r.0 in
       let b : pairs_with (merged x y) ys ≡ 0 = ap (λ (u : Index). pairs_with u ys) k.1 ∙ a.0 in
       let s = pairs_each x y (scan_is x v) (scan_is y w) (mergeable→ x y k.0) ys b in
-      (→first-of (→first-of k.0 s.0) (→first-of s.1 a.1), ap (λ (u : Index). merge_each u ys) k.1 ∙ r.1)
+      (→first_of (→first_of k.0 s.0) (→first_of s.1 a.1), ap (λ (u : Index). merge_each u ys) k.1 ∙ r.1)
 
 -- ---- the files
 module _ (m : Lengths) (a : Area) (limit : ℕ) where

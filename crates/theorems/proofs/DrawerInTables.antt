@@ -24,7 +24,7 @@ use Rattle.laws.specs.Statements.{Savable}
 use Rattle.laws.proofs.Facts.{facts}
 use Rattle.laws.proofs.Limit.{limited_load}
 use Rattle.rules_drawer.specs.Drawer.{lengths_in, load_files, pair_number, pairs_with, pairs_number, merge_each, merge_all}
-use Rattle.rules_drawer.proofs.Pairs.{first-of→, →first-of, mergeable→}
+use Rattle.rules_drawer.proofs.Pairs.{first_of→, →first_of, mergeable→}
 use Rattle.rules_drawer.proofs.Files.{behind→, →behind, refused_after}
 use Rattle.rules.specs.declared.Made.TheVariants as made
 use Rattle.tables.specs.Index.{Tables, room_of, index_in, kinds_in, kinded_number, refusal, numbers_from, tables_from, tables_cleared, made_out, made_out_of}
@@ -90,11 +90,11 @@ module _ (l m : Lengths) where
   unfolding merge_each merged_tables pairs_number pairs_with
   stood_each v t k nothing nothing e = k
   stood_each v t k (one {x = y} {xs = ys} w ws) (one s ss) e =
-      let a = first-of→ _ _ e in let b = first-of→ _ _ a.0 in let c = first-of→ _ _ a.1 in
+      let a = first_of→ _ _ e in let b = first_of→ _ _ a.0 in let c = first_of→ _ _ a.1 in
       let u : pairs_with (merged v y) ys ≡ 0 = pairs_both v y (scan_is v k.valid) (scan_is y w)
       (mergeable→ v y b.0) ys b.1 c.0 in
       stood_each (merged v y) (tables_cleared (hints_written (numbers_from v) (numbers_from y)) (merged v y) t)
-      (stood_one v y t k w s b.0) ws ss (→first-of u c.1)
+      (stood_one v y t k w s b.0) ws ss (→first_of u c.1)
 
 files_savable : (m : Lengths) (a : Area) (limit : ℕ) (ns b : List ℕ) (ys : List Index) → Bytes b
     → load_files m a ns b limit ≡ Accepted ys → Each Savable ys

@@ -5,7 +5,7 @@ use mathlib.Core.Bool.{true, false, cond}
 use mathlib.Core.Logic.{inl, inr}
 use mathlib.Core.List.{List, [], ◌∷◌, ◌++◌, Memᴰ}
 use mathlib.Core.Option.{Option, none, some}
-use Prim.Native.Nat.{ℕ, zero, suc, ◌-◌, ◌/◌, ◌≤◌}
+use Prim.Native.Nat.{ℕ, zero, suc, ◌-◌, ◌/◌, ◌<◌, ◌≤◌}
 use native.Mathlib.Omega.{arith}
 use lib.Dec.{eqb}
 use lib.IntN.{pos, negsuc}
@@ -31,7 +31,7 @@ use Rattle.rules.specs.Sizes.{key_sized, frame_sized, scan_sized, known_sized, h
 use Rattle.rules.specs.File.{encode_checkpoint, encode_frame_header, encode_held, encode_lsn, encode_confirmation, over}
 use Rattle.tables.specs.Tables.{encode_kept}
 use Rattle.tables.proofs.Kept.{kept_layout}
-use Rattle.rules.specs.Run.{Reading, Cut, Place, counted_from, Call, merge_refusal}
+use Rattle.rules.specs.Run.{Reading, Cut, content_of, Place, counted_from, Call, merge_refusal}
 use Rattle.rules.proofs.Tests.{test, choose}
 use Rattle.laws.specs.Statements.{Savable}
 use Rattle.laws.proofs.Facts.{SizeFacts, sized→, facts}
@@ -129,6 +129,12 @@ short_cut =
       parts = λ i l. let z : ⊥ = omega arith in absurd z;
     }
 
+whole_parts : (i : ℕ) → i < length whole.scan.parts
+    → content_of whole.scan.frames (get_or whole.scan.parts i no_held) ≡ reading.part (get_or whole.scan.parts i no_held).at
+whole_parts zero l = refl
+whole_parts (suc zero) l = refl
+whole_parts (suc (suc i)) l = let z : ⊥ = omega arith in absurd z
+
 whole_cut : Cut reading whole
 unfolding all each walk last_or is_some boundaries frontier_of counted stated same_kind counts_ok checkpoint_ok checkpoints_ok frame_ok frames_ok follows belongs part_ok reached parts_ok end_ok ending_ok rising_ok rising malformed_ok hints_ok is_kept kept_count marks_ok confirmations_ok area_ok numbers_ok held_ok scan_ok hinting_ok question1 question2 question4 below key_sized frame_sized scan_sized known_sized hinting_sized sized counted_from
 whole_cut =
@@ -142,11 +148,7 @@ whole_cut =
       checkpoints = refl;
       ending = inr (refl, refl);
       malformed = refl;
-      parts = elim [
-        | zero ↦ λ l. refl
-        | suc i ↦ elim i
-            [ zero ↦ λ l. refl | suc j ↦ λ l. let z : ⊥ = omega arith in absurd z ]
-      ];
+      parts = whole_parts;
     }
 
 -- place 0 has the short list, every other place the whole one

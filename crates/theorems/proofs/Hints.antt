@@ -102,7 +102,7 @@ lsn_all n a hs (x ∷ xs) i h =
     let j : in_area a x.lsn ≡ true = ap (in_area a) e ∙ i in
     rw j (any_all (λ y. y.lsn ≡ n) a (insert hint_lsn arrived_hint x hs) xs (lsns_stay n xs)
     (any_new (λ y. y.lsn ≡ n) (λ y z p. p) x hs e)))
-    (λ r. lsn_all n a _ xs i r) h
+    (λ r. lsn_all n a (cond (in_area a x.lsn) (insert hint_lsn arrived_hint x hs) hs) xs i r) h
 
 -- and no other comes in
 abbrev From : Area → List Hint → List Hint → ℕ → Type 0

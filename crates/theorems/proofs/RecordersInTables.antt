@@ -39,9 +39,9 @@ use Rattle.rules.specs.File.{decode_checkpoint, decode_held, decode_hint}
 use Rattle.rules.proofs.Tests.{choose, each_none, each_cons, each_append, each_of, each→, →each, each_map, each_both, accepted→}
 use Rattle.rules.proofs.Walk.{walk_each}
 use Rattle.laws.specs.Kept.{Sound}
-use Rattle.laws.proofs.Facts.{numbersOk→, SizeFacts, sized→}
+use Rattle.laws.proofs.Facts.{numbers_ok→, SizeFacts, sized→}
 use Rattle.laws.proofs.Layouts.{CheckpointFits, HeldFits, checkpoint_layout}
-use Rattle.laws.proofs.Ranges.{AreaFacts, areaOk→, boundaries_small, checkpoints_fit, Placed, frames_placed, frames_fit}
+use Rattle.laws.proofs.Ranges.{AreaFacts, area_ok→, boundaries_small, checkpoints_fit, Placed, frames_placed, frames_fit}
 use Rattle.laws.proofs.scans.Parts.{keep, part→, held_counts}
 use Rattle.laws.proofs.scans.Record.{recorder_sound, record_sound, finish_sound}
 use Rattle.laws.proofs.scans.Scans.{RecorderIs, recorder→}
@@ -166,11 +166,11 @@ module _ (r : values.Recorder) (s : Sound r) (z : RecorderSized r) where
 
   area_is : AreaFacts r.area
   unfolding recorder_question1
-  area_is = areaOk→ r.area s.0
+  area_is = area_ok→ r.area s.0
 
   interval_is : 1 ≤ r.interval
   unfolding recorder_question2
-  interval_is = (numbersOk→ r.interval r.budget s.1).low
+  interval_is = (numbers_ok→ r.interval r.budget s.1).low
 
   checkpoints_fits : Each CheckpointFits r.checkpoints
   unfolding checkpoints_ok

@@ -8,7 +8,7 @@ use native.Mathlib.Omega.{arith}
 use lib.Dec.{eqb, leb}
 use lib.ListN.{length, take, drop, get_or}
 use lib.Seq.{take_at, drop_at}
-use borrow.Author.Tests.{eqb-true, eq_eqb, leb-true, ltb-true}
+use borrow.Author.Tests.{eqb-true, eq-eqb, leb-true, ltb-true}
 use Rattle.field.specs.Number.{encode, decode}
 use Rattle.field.specs.Records.{records, bytes_of}
 use Rattle.field.specs.Fields.{fields_at, FieldsFit}
@@ -139,7 +139,7 @@ listener_told v f =
     (h, head_count listener v) (seen_length listener v) in
     let t : all (eqb (read_head (seen_bytes listener v)).role listener
     ∷ eqb (length (seen_bytes listener v)) (88 + (read_head (seen_bytes listener v)).count * 8) ∷ []) ≡ true =
-    →all _ (eq_eqb _ _ (ap (λ (h : Head). h.role) h ∙ head_role listener v), (eq_eqb _ _ n, tt)) in
+    →all _ (eq-eqb _ _ (ap (λ (h : Head). h.role) h ∙ head_role listener v), (eq-eqb _ _ n, tt)) in
     rw (t, s)
 
 -- ---- the numbers of a list fit
@@ -373,8 +373,8 @@ module _ (w : Workshop) where
         ∷ eqb (length all_bytes) (workshop_size (read_head all_bytes).count (read_totals (behind_seen all_bytes))) ∷ [])
         ≡ true =
         →all _ (
-          eq_eqb _ _ (ap (λ (h : Head). h.role) head_is ∙ head_role workshop w.seen),
-          (eq_eqb _ _ (workshop_length w f.same ∙ sym (ap₂ workshop_size count_is counts_is)), tt),
+          eq-eqb _ _ (ap (λ (h : Head). h.role) head_is ∙ head_role workshop w.seen),
+          (eq-eqb _ _ (workshop_length w f.same ∙ sym (ap₂ workshop_size count_is counts_is)), tt),
         ) in
         let v : workshop_from (seen_in all_bytes) (read_head all_bytes).count (read_totals (behind_seen all_bytes))
         (drop 48 (behind_seen all_bytes)) ≡ w =

@@ -18,7 +18,7 @@ use Rattle.merge.specs.Merge.{merge_in}
 use Rattle.theorems.specs.Demand3.{Outcome, PartsLeft}
 use Rattle.theorems.specs.TableRun.{TablePlace, TableCall, table_step, LentIn, AllCutIn, after_table_calls, place_in, call_of, state_in, merging, is_accepted}
 
--- every place, after any calls, read through indexIn
+-- every place, after any calls, read through index_in
 abbrev pub OutcomesInTables : Type 0
 OutcomesInTables =
     (R : Reading) (p : ℕ → TablePlace) → AllCutIn R p → (calls : List TableCall) (i : ℕ)

@@ -86,10 +86,10 @@ pub record RefusesNothing : Type 0 where
         list = r.list;
         recorder = record { spacing = r.spacing; last = r.last; tail = r.tail; list = [] };
       })
-  pub addsHints :
+  pub adds_hints :
       (l : Lengths) (x : Index) (list : List Hint) → Valid l x → question13 list ≡ true
       → add_hints l x list ≡ Accepted (with_hinting x (with_hints x.scan.area x.hinting list))
-  pub keepsHints :
+  pub keeps_hints :
       (l : Lengths) (x : Index) (lsn : ℕ) → Valid l x → question53 x.hinting lsn ≡ true → keep_hint l x lsn
       ≡ Accepted (with_hinting x (with_mark x.hinting lsn))
   pub confirms :
@@ -98,7 +98,7 @@ pub record RefusesNothing : Type 0 where
       → keep_confirmation l x c ≡ Accepted (some (with_hinting x
       (with_confirmed x.hinting (keep true x.hinting.most x.hinting.confirmed c))))
   -- nothing is kept, and that is the answer
-  pub keepsNone :
+  pub keeps_none :
       (l : Lengths) (x : Index) (c : Confirmation) → Valid l x → question14 x.scan.area c ≡ true
       → keeps_nothing (is_checked x.fingerprint) x.hinting.most ≡ true → keep_confirmation l x c ≡ Accepted none
   pub hints : (l : Lengths) (x : Index) (first end playtime : ℕ) → Valid l x → first ≤ end
@@ -122,7 +122,7 @@ pub record RefusesNothing : Type 0 where
       → question42 own other ≡ true → question43 own other ≡ true
       → lacking.lacks l own m other ≡ Accepted (lacking.lacking own other)
   -- change request 1
-  pub mergesAll :
+  pub merges_all :
       (l : Lengths) (x : Index) (m : Lengths) (ns b : List ℕ) (limit : ℕ) (ys : List Index) → Valid l x
       → question44 ns ≡ true
       → load_files m x.scan.area ns b limit ≡ Accepted ys → pairs_number (x ∷ ys) ≡ 0 → merge_all l x m ns b limit

@@ -31,7 +31,7 @@ use Rattle.theorems.proofs.RoundTripInTables.{wrote}
 use Rattle.theorems.proofs.TableRun.{kinds_pass}
 use Rattle.theorems.proofs.disc.DiscFile.{saved_bodies, bodies_load}
 use Rattle.theorems.proofs.disc.InTables.{placed}
-use Rattle.theorems.proofs.disc.RoundTripInC.{in-head→, →in-head, saved-one→, saved-both→, loaded→}
+use Rattle.theorems.proofs.disc.RoundTripInC.{in_head→, →in_head, saved_one→, saved_both→, loaded→}
 
 -- ---- saved
 list_file_in : (x : AreaIndex) (t : Tables) (o : Option (List ℕ)) → kinds_in x t ≡ true
@@ -74,7 +74,7 @@ list_file_c : (head : List ℕ) (t : Tables) (o : Option (List ℕ)) → is_inde
 unfolding save_call saved_number
 list_file_c head t o z f = record {
   file = f.file;
-  saves = λ old l. →in-head (is_index head) (called 3 old) _ _ z (rw (f.saves old l) refl);
+  saves = λ old l. →in_head (is_index head) (called 3 old) _ _ z (rw (f.saves old l) refl);
 }
 
 pub saved_bodies_in_c : SavedBodiesInC
@@ -82,20 +82,20 @@ unfolding disc_save_both_call disc_save_call
 saved_bodies_in_c =
     record {
       both = λ head other t u old k new e l.
-          let p = in-head→ (λ (c : Called). c.number) (is_index head) (called 3 old) _ (called k new) refl
+          let p = in_head→ (λ (c : Called). c.number) (is_index head) (called 3 old) _ (called k new) refl
           (λ z. omega (arith, z, l)) e in
-          let q = in-head→ (λ (c : Called). c.number) (is_index other) (called 3 old) _ (called k new) refl
+          let q = in_head→ (λ (c : Called). c.number) (is_index other) (called 3 old) _ (called k new) refl
           (λ z. omega (arith, z, l)) p.1 in
           let s = saved_bodies_in.both (head_index head) (head_index other) t u old k new
-          (saved-both→ head other t u old k new l e) in
+          (saved_both→ head other t u old k new l e) in
           (list_file_c head t _ p.0 s.0, list_file_c other u _ q.0 s.1);
       one = λ head t old k new e l.
-          let p = in-head→ (λ (c : Called). c.number) (is_index head) (called 3 old) _ (called k new) refl
+          let p = in_head→ (λ (c : Called). c.number) (is_index head) (called 3 old) _ (called k new) refl
           (λ z. omega (arith, z, l)) e in
           list_file_c head t _ p.0 (saved_bodies_in.one (head_index head) t old k new
-          (saved-one→ head t old k new l e));
+          (saved_one→ head t old k new l e));
       other = λ head t old k new s e l h. saved_bodies_in.other (head_index head) t old k new s
-          (saved-one→ head t old k new l e) h;
+          (saved_one→ head t old k new l e) h;
     }
 
 -- ---- loaded
@@ -146,13 +146,13 @@ bodies_load_in_c =
           let s = bodies_load_in.first a0 a1 b limit t u r.first r.second t' u' c r.below h in
           let w : over (block_of (index_words s.numbers)) head
           ≡ head' = sym (ap (λ (p : Listed). (listed_into head p).block) s.is) ∙ r.block0 in
-          →in-head (is_block head) (called_over 3 head t) _ _ r.long0 (rw s.loads (λ i. called_over 0 (w i) t'));
+          →in_head (is_block head) (called_over 3 head t) _ _ r.long0 (rw s.loads (λ i. called_over 0 (w i) t'));
       second = λ head other answer a0 a1 b limit t u head' other' answer' t' u' d e h.
           let r = loaded→ head other answer a0 a1 b limit t u head' other' answer' t' u' e in
           let s = bodies_load_in.second a0 a1 b limit t u r.first r.second t' u' d r.below h in
           let w : over (block_of (index_words s.numbers)) other
           ≡ other' = sym (ap (λ (p : Listed). (listed_into other p).block) s.is) ∙ r.block1 in
-          →in-head (is_block other) (called_over 3 other u) _ _ r.long1 (rw s.loads (λ i. called_over 0 (w i) u'));
+          →in_head (is_block other) (called_over 3 other u) _ _ r.long1 (rw s.loads (λ i. called_over 0 (w i) u'));
       no_first = λ head other answer a0 a1 b limit t u head' other' answer' t' u' e h.
           let r = loaded→ head other answer a0 a1 b limit t u head' other' answer' t' u' e in
           let n = bodies_load_in.no_first a0 a1 b limit t u r.first r.second t' u' r.below h in

@@ -31,7 +31,7 @@ use Rattle.theorems.proofs.TableRun.{kinds_pass}
 use Rattle.theorems.proofs.disc.Tables.{first→}
 use Rattle.theorems.proofs.disc.DiscFile.{equal_slots}
 use Rattle.theorems.proofs.disc.Accepts.{up}
-use Rattle.theorems.proofs.disc.RoundTripInC.{→in-head, loads_c}
+use Rattle.theorems.proofs.disc.RoundTripInC.{→in_head, loads_c}
 
 -- a body that is refused
 body_refused : (l : Lengths) (a : Area) (limit : ℕ) (o : Option (List ℕ)) (c : List ℕ) (n : ℕ) → o ≡ some c
@@ -54,13 +54,13 @@ too_wide x y w =
     (λ h.
     let f = first→ 0 28 x (y ∷ []) h in
     let g = first→ (slot_of x + 1) (28 + saved_length x) y [] f.rest in
-    let z : ⊥ = not-both w g.offset g.len in absurd z)
+    let z : ⊥ = not_both w g.offset g.len in absurd z)
     (λ h. h)
   where
-    not-both : ((max32 < 28 + length (saved x)) ⊎ (max32 < length (saved y))) → 28 + saved_length x ≤ max32
+    not_both : ((max32 < 28 + length (saved x)) ⊎ (max32 < length (saved y))) → 28 + saved_length x ≤ max32
         → saved_length y ≤ max32 → ⊥
-    not-both (inl a) p q = omega (arith, a, p, (saved_length_is x).0)
-    not-both (inr a) p q = omega (arith, a, q, (saved_length_is y).0)
+    not_both (inl a) p q = omega (arith, a, p, (saved_length_is x).0)
+    not_both (inr a) p q = omega (arith, a, q, (saved_length_is y).0)
 
 too_wide_one : (x : Index) → max32 < length (saved x) → entries_ok 0 (contents_of (x ∷ [])) ≡ false
 too_wide_one x w =
@@ -80,7 +80,7 @@ disc_refusals =
           →asked (ask (slot_area 0 a0 && slot_area 1 a1) 1 ∷ ask (contents_ok b) 54 ∷ []) (both p q, (k, tt))
           (→bind _ e (refused_bind _ n (body_refused m a1 limit _ d n f g)));
       share = λ l m x y out v w e.
-          let n : ltb (slot_of x) (slot_of y) ≡ false = same-slot x y e in
+          let n : ltb (slot_of x) (slot_of y) ≡ false = same_slot x y e in
           rw n (lists_refused _ (y ∷ x ∷ []) out (both v.one w.one) (both v.two w.two)
           (both v.three w.three) (both v.four w.four) (equal_slots y x (sym e)));
       wide = λ l m x y out v w s t e.
@@ -89,8 +89,8 @@ disc_refusals =
       wide_one = λ l x out v e. lists_refused _ (x ∷ []) out v.one v.two v.three v.four (too_wide_one x e);
     }
   where
-    same-slot : (x y : Index) → slot_of x ≡ slot_of y → ltb (slot_of x) (slot_of y) ≡ false
-    same-slot x y e =
+    same_slot : (x y : Index) → slot_of x ≡ slot_of y → ltb (slot_of x) (slot_of y) ≡ false
+    same_slot x y e =
         test (ltb (slot_of x) (slot_of y)) (λ h. let z : ⊥ = omega (arith, ltb-true (slot_of x) (slot_of y) h, e)
         in absurd z) (λ h. h)
 
@@ -119,10 +119,10 @@ disc_refusals_in_c =
     record {
       loads = λ head other answer a0 a1 b limit t u n d e. loads_c head other answer a0 a1 b limit t u d
           ∙ rw (disc_refusals_in.loads a0 a1 b limit t u n e) refl;
-      saves = λ head t old n d v e. →in-head (is_index head) (called 3 old) _ _ d
+      saves = λ head t old n d v e. →in_head (is_index head) (called 3 old) _ _ d
           (rw (disc_refusals_in.saves (head_index head) t old n v e) refl);
       saves_both = λ head other t u old n d k v w e.
-          →in-head (is_index head) (called 3 old) _ _ d
-          (→in-head (is_index other) (called 3 old) _ _ k
+          →in_head (is_index head) (called 3 old) _ _ d
+          (→in_head (is_index other) (called 3 old) _ _ k
           (rw (disc_refusals_in.saves_both (head_index head) (head_index other) t u old n v w e) refl));
     }

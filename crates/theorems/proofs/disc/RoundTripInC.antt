@@ -57,15 +57,15 @@ pub three_long : (b c d : List ℕ) → long (b ∷ c ∷ d ∷ []) ≡ true →
 three_long b c d e = let r = two_long c d (and_right (is_block b) _ e) in (and_left (is_block b) _ e, r.0, r.1)
 
 -- a call whose number is not 3 was lent a block that passes
-pub in-head→ : {S : Type 0} (number : S → ℕ) (ok : Bool) (none r o : S) → number none ≡ 3 → (3 ≡ number o → ⊥)
+pub in_head→ : {S : Type 0} (number : S → ℕ) (ok : Bool) (none r o : S) → number none ≡ 3 → (3 ≡ number o → ⊥)
     → in_head ok none r ≡ o → (ok ≡ true) × (r ≡ o)
 unfolding in_head
-in-head→ number ok none r o s h e =
+in_head→ number ok none r o s h e =
     test ok (λ z. (z, rw z at e)) (λ z. let q : none ≡ o = rw z at e in let f : ⊥ = h (sym s ∙ ap number q) in absurd f)
 
-pub →in-head : {S : Type 0} (ok : Bool) (none r o : S) → ok ≡ true → r ≡ o → in_head ok none r ≡ o
+pub →in_head : {S : Type 0} (ok : Bool) (none r o : S) → ok ≡ true → r ≡ o → in_head ok none r ≡ o
 unfolding in_head
-→in-head ok none r o z e = rw z e
+→in_head ok none r o z e = rw z e
 
 -- ---- saving
 -- a length that is told was answered below
@@ -82,40 +82,40 @@ told→ s k new h l e = answer s.answer s.out h e
         let w : n ≡ k = ap (λ (c : Called). c.number) q in let v : o
         ≡ new = ap (λ (c : Called). c.block) q in λ i. saving.made (told.Length (w i)) (v i)
 
-pub saved-one→ : (head : List ℕ) (t : Tables) (old : List ℕ) (k : ℕ) (new : List ℕ) → 88 ≤ k
+pub saved_one→ : (head : List ℕ) (t : Tables) (old : List ℕ) (k : ℕ) (new : List ℕ) → 88 ≤ k
     → disc_save_call head t old ≡ called k new
     → save_one_in (head_index head) t old ≡ saving.made (told.Length k) new
 unfolding disc_save_call
-saved-one→ head t old k new l e =
+saved_one→ head t old k new l e =
     told→ (save_one_in (head_index head) t old) k new (λ n. disc_save_number.one (head_index head) t old n) l
-    (in-head→ (λ (c : Called). c.number) (is_index head) (called 3 old) _ (called k new) refl
+    (in_head→ (λ (c : Called). c.number) (is_index head) (called 3 old) _ (called k new) refl
     (λ z. omega (arith, z, l)) e).1
 
-pub saved-both→ : (head other : List ℕ) (t u : Tables) (old : List ℕ) (k : ℕ) (new : List ℕ) → 88 ≤ k
+pub saved_both→ : (head other : List ℕ) (t u : Tables) (old : List ℕ) (k : ℕ) (new : List ℕ) → 88 ≤ k
     → disc_save_both_call head other t u old ≡ called k new
     → save_both_in (head_index head) t (head_index other) u old ≡ saving.made (told.Length k) new
 unfolding disc_save_both_call
-saved-both→ head other t u old k new l e =
-    let c = (in-head→ (λ (c : Called). c.number) (is_index head) (called 3 old) _ (called k new) refl
+saved_both→ head other t u old k new l e =
+    let c = (in_head→ (λ (c : Called). c.number) (is_index head) (called 3 old) _ (called k new) refl
     (λ z. omega (arith, z, l)) e).1 in
     told→ (save_both_in (head_index head) t (head_index other) u old) k new
     (λ n. disc_save_number.both (head_index head) t (head_index other) u old n) l
-    (in-head→ (λ (c : Called). c.number) (is_index other) (called 3 old) _ (called k new) refl
+    (in_head→ (λ (c : Called). c.number) (is_index other) (called 3 old) _ (called k new) refl
     (λ z. omega (arith, z, l)) c).1
 
-→saved-one : (head : List ℕ) (t : Tables) (old : List ℕ) (k : ℕ) (new : List ℕ) → is_index head ≡ true
+→saved_one : (head : List ℕ) (t : Tables) (old : List ℕ) (k : ℕ) (new : List ℕ) → is_index head ≡ true
     → save_one_in (head_index head) t old ≡ saving.made (told.Length k) new → disc_save_call head t old ≡ called k new
 unfolding disc_save_call saved_number
-→saved-one head t old k new z e = →in-head (is_index head) (called 3 old) _ (called k new) z (rw e refl)
+→saved_one head t old k new z e = →in_head (is_index head) (called 3 old) _ (called k new) z (rw e refl)
 
-→saved-both : (head other : List ℕ) (t u : Tables) (old : List ℕ) (k : ℕ) (new : List ℕ) → is_index head ≡ true
+→saved_both : (head other : List ℕ) (t u : Tables) (old : List ℕ) (k : ℕ) (new : List ℕ) → is_index head ≡ true
     → is_index other ≡ true
     → save_both_in (head_index head) t (head_index other) u old ≡ saving.made (told.Length k) new
     → disc_save_both_call head other t u old ≡ called k new
 unfolding disc_save_both_call saved_number
-→saved-both head other t u old k new z w e =
-    →in-head (is_index head) (called 3 old) _ (called k new) z
-    (→in-head (is_index other) (called 3 old) _ (called k new) w (rw e refl))
+→saved_both head other t u old k new z w e =
+    →in_head (is_index head) (called 3 old) _ (called k new) z
+    (→in_head (is_index other) (called 3 old) _ (called k new) w (rw e refl))
 
 -- ---- saving, then loading
 -- the head of a list as a file holds it is read as its numbers
@@ -181,7 +181,7 @@ saved_disc_loads_in_c =
       both = λ head other t u old k new limit head' other' answer t' u' a b p q e l g h m n d.
           let x = head_index head in
           let y = head_index other in
-          let s = saved-both→ head other t u old k new l e in
+          let s = saved_both→ head other t u old k new l e in
           let tx = head_typed head a.bytes in
           let ty = head_typed other b.bytes in
           let v = both_savable x y t u old k new tx ty a.tables b.tables s in
@@ -190,14 +190,14 @@ saved_disc_loads_in_c =
           (saved_disc_loads_in.both x y t u old k new limit t' u' tx ty a.tables b.tables p q s g h m n);
       first = λ head t o old k new limit head' other' answer t' u' a p q e l g m d.
           let x = head_index head in
-          let s = saved-one→ head t old k new l e in
+          let s = saved_one→ head t old k new l e in
           let tx = head_typed head a.bytes in
           first_c head' other' answer x.area o (take k new) limit t' u' d (index_in x t)
           (one_savable x t old k new tx a.tables s)
           (saved_disc_loads_in.first x t o old k new limit t' u' tx a.tables p q s g m);
       second = λ other u o old k new limit head' other' answer t' u' b p q e l g m d.
           let y = head_index other in
-          let s = saved-one→ other u old k new l e in
+          let s = saved_one→ other u old k new l e in
           let ty = head_typed other b.bytes in
           second_c head' other' answer o y.area (take k new) limit t' u' d (index_in y u)
           (one_savable y u old k new ty b.tables s)
@@ -227,9 +227,9 @@ loaded→ head other answer a0 a1 b limit t u head' other' answer' t' u' e =
     let short = called_disc (called_lists 3 head other answer) t u in
     let number : CalledDisc → ℕ = λ c. c.call.number in
     let end = called_disc (called_lists 0 head' other' answer') t' u' in
-    let x = in-head→ number (is_block head) short _ end refl (λ z. omega (arith, z)) e in
-    let y = in-head→ number (is_block other) short _ end refl (λ z. omega (arith, z)) x.1 in
-    let z = in-head→ number (is_block answer) short (disc_into head other answer o) end refl (λ z. omega (arith, z))
+    let x = in_head→ number (is_block head) short _ end refl (λ z. omega (arith, z)) e in
+    let y = in_head→ number (is_block other) short _ end refl (λ z. omega (arith, z)) x.1 in
+    let z = in_head→ number (is_block answer) short (disc_into head other answer o) end refl (λ z. omega (arith, z))
     y.1 in
     by o.answer refl (λ n q. (demand1.load_disc a0 a1 b limit t u).number n q) x.0 y.0 z.1
   where
@@ -335,7 +335,7 @@ loaded_disc_saves_in_c =
           r x.numbers x.is in
           let q = second_read head other answer a0 a1 b limit t u head' other' t' u' g 1 1 (omega arith)
           (omega arith) r y.numbers y.is in
-          →saved-both head' other' t' u' old (length b) (over b old) p.1 q.1
+          →saved_both head' other' t' u' old (length b) (over b old) p.1 q.1
           (rw (p.0, q.0)
           (loaded_disc_saves_in.both a0 a1 b limit t u x.numbers y.numbers t' u' old g w
           (r.below ∙ (λ z. disc_out (loaded.Lists (x.is z) (y.is z)) t' u')) n));
@@ -346,7 +346,7 @@ loaded_disc_saves_in_c =
           let y = absent other r.second k.1 in
           let p = first_read head other answer a0 a1 b limit t u head' other' t' u' g 1 0 (omega arith) (omega arith)
           r x.numbers x.is in
-          →saved-one head' t' old (length b) (over b old) p.1
+          →saved_one head' t' old (length b) (over b old) p.1
           (rw p.0
           (loaded_disc_saves_in.first a0 a1 b limit t u x.numbers t' u' old g w
           (r.below ∙ (λ z. disc_out (loaded.Lists (x.is z) (y z)) t' u')) n));
@@ -357,7 +357,7 @@ loaded_disc_saves_in_c =
           let y = there other r.second k.1 in
           let q = second_read head other answer a0 a1 b limit t u head' other' t' u' g 0 1 (omega arith)
           (omega arith) r y.numbers y.is in
-          →saved-one other' u' old (length b) (over b old) q.1
+          →saved_one other' u' old (length b) (over b old) q.1
           (rw q.0
           (loaded_disc_saves_in.second a0 a1 b limit t u y.numbers t' u' old g w
           (r.below ∙ (λ z. disc_out (loaded.Lists (x z) (y.is z)) t' u')) n));
@@ -380,9 +380,9 @@ one_disc_file_in_c =
           (record { typed = head_typed other b.bytes; bytes = b.tables })
           (record { typed = head_typed head' a'.bytes; bytes = a'.tables })
           (record { typed = head_typed other' b'.bytes; bytes = b'.tables }) e f in
-          →in-head (is_index head) (called 3 old) _ _ m
-          (→in-head (is_index other) (called 3 old) _ _ n (ap (λ (o : SaveOut). saved_into o.answer o.out) s))
-          ∙ sym (→in-head (is_index head') (called 3 old) _ _ m' (→in-head (is_index other') (called 3 old) _ _ n' refl));
+          →in_head (is_index head) (called 3 old) _ _ m
+          (→in_head (is_index other) (called 3 old) _ _ n (ap (λ (o : SaveOut). saved_into o.answer o.out) s))
+          ∙ sym (→in_head (is_index head') (called 3 old) _ _ m' (→in_head (is_index other') (called 3 old) _ _ n' refl));
       swapped = λ head other t u old.
           ap (λ (o : SaveOut). in_head (is_index head) (called 3 old)
           (in_head (is_index other) (called 3 old) (saved_into o.answer o.out)))

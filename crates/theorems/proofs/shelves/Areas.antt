@@ -64,10 +64,10 @@ no_two_cons r rs e = (
   and_right (not (among (area_of r) rs)) (no_two rs) e,
 )
 
-no-two→ : (r : ShelfRecord) (rs : List ShelfRecord) → among (area_of r) rs ≡ false → no_two rs ≡ true → no_two (r ∷ rs)
+no_two→ : (r : ShelfRecord) (rs : List ShelfRecord) → among (area_of r) rs ≡ false → no_two rs ≡ true → no_two (r ∷ rs)
     ≡ true
 unfolding no_two
-no-two→ r rs e h = rw e h
+no_two→ r rs e h = rw e h
 
 -- where nothing of an area is among them, it is not
 not_among : (rs : List ShelfRecord) (b : Area) → ((r : ShelfRecord) → Mem r rs → area_of r ≢ b) → among b rs ≡ false
@@ -77,15 +77,15 @@ pub stay_no_two : {ks gs rs : List ShelfRecord} → Parted ks gs rs → no_two r
 stay_no_two nothing e = e
 stay_no_two (stays {r} {ks} {gs} {rs} h) e =
     let n = no_two_cons r rs e in
-    no-two→ r ks (not_among ks (area_of r) (λ q m. none_of rs (area_of r) n.0 q (stay_mem h m))) (stay_no_two h n.1)
+    no_two→ r ks (not_among ks (area_of r) (λ q m. none_of rs (area_of r) n.0 q (stay_mem h m))) (stay_no_two h n.1)
 stay_no_two (goes {r} {ks} {gs} {rs} h) e = stay_no_two h (no_two_cons r rs e).1
 
 pub last_no_two : (ks : List ShelfRecord) (n : ShelfRecord) → no_two ks ≡ true
     → ((r : ShelfRecord) → Mem r ks → area_of r ≢ area_of n) → no_two (ks ++ n ∷ []) ≡ true
-last_no_two [] n e f = no-two→ n [] (not_among [] (area_of n) (λ q m. absurd (Memᴰ.not-nil m))) e
+last_no_two [] n e f = no_two→ n [] (not_among [] (area_of n) (λ q m. absurd (Memᴰ.not-nil m))) e
 last_no_two (r ∷ ks) n e f =
     let h = no_two_cons r ks e in
-    no-two→ r (ks ++ n ∷ [])
+    no_two→ r (ks ++ n ∷ [])
     (not_among (ks ++ n ∷ []) (area_of r)
     (λ q m z.
     ⊎_elim (λ k. none_of ks (area_of r) h.0 q k z)
