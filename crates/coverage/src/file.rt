@@ -2,16 +2,17 @@
 ghost use Rattle.std.specs.Prelude.{◌+◌, ◌≤◌, ◌≡◌, length};
 ghost use Rattle.coverage.specs.Input.{read};
 
-use crate::input::least;
+use std::fs::File;
+use std::io::Read;
 
 // How many bytes were read, and whether up to the end of the file or of the buffer.
-#[derive(Drop)]
+#[derive(Clone, Copy)]
 pub struct Content {
     pub whole: bool,
     pub n: usize,
 }
 
-#[derive(Drop)]
+#[derive(Clone, Copy)]
 enum Step {
     Failed,
     Bytes(usize),
@@ -24,23 +25,22 @@ fn failed() -> Content
 }
 
 // One read, behind the first n bytes.
-fn read_some(fd: i32, file: &mut [u8], n: usize) -> Step
+fn read_some(source: &mut File, file: &mut [u8], n: usize) -> Step
     requires { n ≤ length file.old }
     ensures { n + read result ≤ length file.old }
 {
-    let got = libc::read(fd, &mut file[n..]);
-    if got < 0 {
-        return Step::Failed;
+    match source.read(&mut file[n..]) {
+        Ok(got) => Step::Bytes(got),
+        Err(_) => Step::Failed,
     }
-    Step::Bytes(least(io::count(got, file), file.len() - n))
 }
 
-fn read_whole(fd: i32, file: &mut [u8]) -> Content
+fn read_whole(source: &mut File, file: &mut [u8]) -> Content
     ensures { result.n ≤ length file.new }
 {
     let mut n = 0;
     while n < file.len() {
-        match read_some(fd, file, n) {
+        match read_some(source, file, n) {
             Step::Failed => {
                 return failed();
             }
@@ -55,15 +55,15 @@ fn read_whole(fd: i32, file: &mut [u8]) -> Content
     Content { whole: true, n }
 }
 
-// The file of that name, from the start of file on.
-pub fn read_file(name: &[u8], file: &mut [u8]) -> Content
+// The file of that name, from the start of file on. A name that is not UTF-8 opens none.
+pub fn read_file(rt: &HostRuntime, name: &[u8], file: &mut [u8]) -> Content
     ensures { result.n ≤ length file.new }
 {
-    let fd = os::open_read(name);
-    if fd < 0 {
+    let Ok(path) = str::from_utf8(name) else {
         return failed();
+    };
+    match File::open(rt, path) {
+        Ok(mut source) => read_whole(&mut source, file),
+        Err(_) => failed(),
     }
-    let content = read_whole(fd, file);
-    libc::close(fd);
-    content
 }

@@ -1,8 +1,10 @@
 // Standard input line by line: a chunk of it, and the first bytes of a line.
 ghost use Rattle.std.specs.Prelude.{◌≤◌, length};
 
+use std::io::Read;
+
 // The chunk's next byte and its length; how many bytes of the line are kept, whether it is whole, and whether the input is over.
-#[derive(Drop)]
+#[derive(Clone, Copy)]
 pub struct Reading {
     pub at: usize,
     pub n: usize,
@@ -28,13 +30,12 @@ pub fn least(a: usize, b: usize) -> usize
     if a < b { a } else { b }
 }
 
-// The next chunk, where this one is used up.
-fn fill(chunk: &mut [u8], r: Reading) -> Reading {
+// The next chunk, where this one is used up; a read that fails ends the input.
+fn fill(rt: &HostRuntime, chunk: &mut [u8], r: Reading) -> Reading {
     if r.at < r.n {
         return r;
     }
-    let got = libc::read(libc::STDIN_FILENO, chunk);
-    let n = io::count(got, chunk);
+    let n = rt.stdin().read(chunk).unwrap_or(0);
     Reading {
         at: 0,
         n,
@@ -92,10 +93,10 @@ fn gather(chunk: &[u8], line: &mut [u8], r: Reading) -> Reading
 }
 
 // One chunk's share of a line more.
-pub fn next(chunk: &mut [u8], line: &mut [u8], r: Reading) -> Reading
+pub fn next(rt: &HostRuntime, chunk: &mut [u8], line: &mut [u8], r: Reading) -> Reading
     ensures { result.len ≤ length line.new }
 {
-    let q = fill(chunk, r);
+    let q = fill(rt, chunk, r);
     gather(chunk, line, q)
 }
 

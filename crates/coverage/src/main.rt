@@ -1,4 +1,6 @@
 // The coverage sheet of the files named on standard input, a row for each line and a last one with the totals.
+#![tactic(auto)]
+
 mod file;
 mod input;
 mod sheets;
@@ -7,11 +9,11 @@ fn file_room() -> [u8; 65537] {
     [0; 65537]
 }
 
-fn main() {
-    let mut chunk = io::large_buffer();
+fn main(rt: HostRuntime) {
+    let mut chunk = [0u8; 65536];
     let mut line = [0u8; 278];
     let mut file = file_room();
     let mut out = [0u8; 512];
     let mut table = [0u32; 4000];
-    sheets::sheet(&mut chunk, &mut line, &mut file, &mut out, &mut table);
+    sheets::sheet(&rt, &mut chunk, &mut line, &mut file, &mut out, &mut table);
 }

@@ -10,9 +10,10 @@ use sheet::line::{Parsed, parse};
 use sheet::row::{RowAnswer, line_row};
 use sheet::text::{line_text, total_text};
 use sheet::totals::put_row;
+use std::io::Write;
 
 // What was read, the rows in the table, whether there may be more of them, and whether each was written.
-#[derive(Drop)]
+#[derive(Clone, Copy)]
 struct State {
     read: Reading,
     count: usize,
@@ -21,13 +22,13 @@ struct State {
 }
 
 // The row of a line, with the file that it names.
-fn row_of_line(line: &[u8], file: &mut [u8]) -> RowAnswer
+fn row_of_line(rt: &HostRuntime, line: &[u8], file: &mut [u8]) -> RowAnswer
     ensures { RowOfLine line.now (answer_in result) }
 {
     match parse(line) {
         Parsed::Broken => line_row(line, false, line),
         Parsed::Line(k, _, _) => {
-            let content = read_file(&line[0..k], file);
+            let content = read_file(rt, &line[0..k], file);
             let n = content.n;
             line_row(line, content.whole, &file[0..n])
         }
@@ -36,6 +37,7 @@ fn row_of_line(line: &[u8], file: &mut [u8]) -> RowAnswer
 
 // A row into the table and onto standard output.
 fn answer_line(
+    rt: &HostRuntime,
     line: &[u8],
     file: &mut [u8],
     out: &mut [u8],
@@ -44,14 +46,15 @@ fn answer_line(
 ) -> bool
     ensures { Answered count line.now table.old table.new out.old out.new }
 {
-    let row = row_of_line(line, file);
+    let row = row_of_line(rt, line, file);
     put_row(table, count, row);
     let n = line_text(out, line, row);
-    io::write_all(libc::STDOUT_FILENO, &out[0..n])
+    rt.stdout().write_all(&out[0..n]).is_ok()
 }
 
 // A chunk's share of the input: no line, or one.
 fn turn(
+    rt: &HostRuntime,
     chunk: &mut [u8],
     line: &mut [u8],
     file: &mut [u8],
@@ -62,7 +65,7 @@ fn turn(
     requires { (s.count < 1000) × (Rows s.count table.old) }
     ensures { (result.count ≤ 1000) × (Rows result.count table.new) }
 {
-    let read = next(chunk, line, s.read);
+    let read = next(rt, chunk, line, s.read);
     let count = s.count;
     if !has_line(read) {
         return State {
@@ -73,7 +76,7 @@ fn turn(
         };
     }
     let len = read.len;
-    let written = answer_line(&line[0..len], file, out, table, count);
+    let written = answer_line(rt, &line[0..len], file, out, table, count);
     State {
         read,
         count: count + 1,
@@ -89,6 +92,7 @@ fn goes_on(s: State) -> bool {
 
 // Every row; a write that fails ends it.
 fn rows(
+    rt: &HostRuntime,
     chunk: &mut [u8],
     line: &mut [u8],
     file: &mut [u8],
@@ -112,21 +116,22 @@ fn rows(
         if !goes_on(s) {
             return s;
         }
-        s = turn(chunk, line, file, out, table, s);
+        s = turn(rt, chunk, line, file, out, table, s);
     }
     s
 }
 
 pub fn sheet(
+    rt: &HostRuntime,
     chunk: &mut [u8],
     line: &mut [u8],
     file: &mut [u8],
     out: &mut [u8],
     table: &mut [u32; 4000],
 ) {
-    let s = rows(chunk, line, file, out, table);
+    let s = rows(rt, chunk, line, file, out, table);
     if s.written {
         let n = total_text(out, table, s.count);
-        io::write_all(libc::STDOUT_FILENO, &out[0..n]);
+        let _ = rt.stdout().write_all(&out[0..n]);
     }
 }

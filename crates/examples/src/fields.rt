@@ -2,25 +2,24 @@
 ghost use Rattle.std.specs.Prelude.{◌<◌};
 
 use crate::lines;
-use libc::STDOUT_FILENO;
 
 // The line of field number i.
-fn line(i: usize)
+fn line(rt: &HostRuntime, i: usize)
     requires { i < 19 }
 {
     let f = header::field_of(i);
-    lines::say(b"header field ");
-    io::print_decimal(STDOUT_FILENO, i as u64);
-    lines::say(b": offset ");
-    io::print_decimal(STDOUT_FILENO, f.offset as u64);
-    lines::say(b", width ");
-    io::print_decimal(STDOUT_FILENO, f.width as u64);
-    lines::say(b"\n");
+    lines::say(rt, b"header field ");
+    lines::say_decimal(rt, i as u64);
+    lines::say(rt, b": offset ");
+    lines::say_decimal(rt, f.offset as u64);
+    lines::say(rt, b", width ");
+    lines::say_decimal(rt, f.width as u64);
+    lines::say(rt, b"\n");
 }
 
 // One line for each field, in the order of the file.
-pub fn table() {
+pub fn table(rt: &HostRuntime) {
     for i in 0..19 {
-        line(i);
+        line(rt, i);
     }
 }

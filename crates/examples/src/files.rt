@@ -70,10 +70,11 @@ fn length_of(most: u32) -> u64 {
 }
 
 // The shortest file, with another sum, and of version 5 with its sum: in tables without room.
-fn shortest(t: Tally) -> Tally {
+fn shortest(rt: &HostRuntime, t: Tally) -> Tally {
     let file =
         b"SBSEEKIX\x01\0\0\0\0\x02\0\0\xe8\x03\0\0\xe7\x03\0\0\x88\x13\0\0\0\0\0\0\x40\0\0\0\0\0\0\0\0\0\0\0\0\0\0\0\0\0\0\0\0\0\0\0\0\0\0\0\0\0\0\0\0\0\0\0\0\0\0\0\0\0\0\0\0\0\0\0\x8c\xfb\x39\xef\xec\x30\x75\x99";
     let t = lines::decimal(
+        rt,
         t,
         b"the shortest file, loaded in tables without room",
         refusal(file),
@@ -81,18 +82,19 @@ fn shortest(t: Tally) -> Tally {
     );
     let damaged =
         b"SBSEEKIX\x01\0\0\0\0\x02\0\0\xe8\x03\0\0\xe7\x03\0\0\x88\x13\0\0\0\0\0\0\x40\0\0\0\0\0\0\0\0\0\0\0\0\0\0\0\0\0\0\0\0\0\0\0\0\0\0\0\0\0\0\0\0\0\0\0\0\0\0\0\0\0\0\0\0\0\0\0\x8d\xfb\x39\xef\xec\x30\x75\x99";
-    let t = lines::decimal(t, b"with another sum", refusal(damaged), 22);
+    let t = lines::decimal(rt, t, b"with another sum", refusal(damaged), 22);
     let newer =
         b"SBSEEKIX\x05\0\0\0\0\x02\0\0\xe8\x03\0\0\xe7\x03\0\0\x88\x13\0\0\0\0\0\0\x40\0\0\0\0\0\0\0\0\0\0\0\0\0\0\0\0\0\0\0\0\0\0\0\0\0\0\0\0\0\0\0\0\0\0\0\0\0\0\0\0\0\0\0\0\0\0\0\x38\x01\x0a\xf9\xfc\x79\x22\xf7";
-    lines::decimal(t, b"of version 5", refusal(newer), 23)
+    lines::decimal(rt, t, b"of version 5", refusal(newer), 23)
 }
 
-pub fn examples(t: Tally) -> Tally {
-    let t = lines::decimal(t, b"7 bytes, loaded", refusal(b"SBSEEKI"), 20);
-    let t = lines::decimal(t, b"8 bytes, loaded", refusal(b"SBSEEKIX"), 21);
-    let t = shortest(t);
-    let t = lines::decimal(t, b"length of the shortest file", length_of(2048), 88);
+pub fn examples(rt: &HostRuntime, t: Tally) -> Tally {
+    let t = lines::decimal(rt, t, b"7 bytes, loaded", refusal(b"SBSEEKI"), 20);
+    let t = lines::decimal(rt, t, b"8 bytes, loaded", refusal(b"SBSEEKIX"), 21);
+    let t = shortest(rt, t);
+    let t = lines::decimal(rt, t, b"length of the shortest file", length_of(2048), 88);
     lines::decimal(
+        rt,
         t,
         b"length with the hint limit 65,537",
         length_of(65537),

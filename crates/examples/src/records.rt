@@ -7,30 +7,29 @@ ghost use Rattle.examples.specs.Same.{absence_number, same_first};
 use crate::lines;
 use crate::tally::Tally;
 use field::and;
-use libc::STDOUT_FILENO;
 use rules::{Absence, First, TimeBytes};
 
 // Writes a first record: its number and offset, or why there is none.
-fn say_record(r: First) {
+fn say_record(rt: &HostRuntime, r: First) {
     match r {
         First::Number(t) => {
-            io::print_decimal(STDOUT_FILENO, t.number as u64);
-            lines::say(b" at ");
-            io::print_decimal(STDOUT_FILENO, t.offset as u64);
+            lines::say_decimal(rt, t.number as u64);
+            lines::say(rt, b" at ");
+            lines::say_decimal(rt, t.offset as u64);
         }
         First::Nothing(a) => {
-            say_absence(a);
+            say_absence(rt, a);
         }
     }
 }
 
-fn say_absence(a: Absence) {
+fn say_absence(rt: &HostRuntime, a: Absence) {
     match a {
         Absence::NoFrame => {
-            lines::say(b"no frame");
+            lines::say(rt, b"no frame");
         }
         Absence::Missing => {
-            lines::say(b"bytes missing");
+            lines::say(rt, b"bytes missing");
         }
     }
 }
@@ -74,23 +73,24 @@ fn same(a: First, b: First) -> bool
 }
 
 // A line of two first records.
-fn line(t: Tally, name: &[u8], got: First, want: First) -> Tally
+fn line(rt: &HostRuntime, t: Tally, name: &[u8], got: First, want: First) -> Tally
     ensures { result ≡ ended t (same_first got want) }
 {
-    lines::say(name);
-    lines::say(b": ");
-    say_record(got);
-    lines::say(b", should be ");
-    say_record(want);
-    lines::end(t, same(got, want))
+    lines::say(rt, name);
+    lines::say(rt, b": ");
+    say_record(rt, got);
+    lines::say(rt, b", should be ");
+    say_record(rt, want);
+    lines::end(rt, t, same(got, want))
 }
 
 // The lines, each counted as right.
-pub fn examples(t: Tally) -> Tally
+pub fn examples(rt: &HostRuntime, t: Tally) -> Tally
     ensures { result ≡ all_right 4 t }
 {
     let whole = first_record::first_record(b"\x24\0\0\x01\x02\x03");
     let t = line(
+        rt,
         t,
         b"first record, header 0x24 with 1 2 3 at 3",
         whole,
@@ -101,6 +101,7 @@ pub fn examples(t: Tally) -> Tally
     );
     let frameless = first_record::first_record(b"\x20\0\0\x01\x02\x03");
     let t = line(
+        rt,
         t,
         b"first record, header 0x20 with 1 2 3 at 3",
         frameless,
@@ -108,6 +109,7 @@ pub fn examples(t: Tally) -> Tally
     );
     let short = first_record::first_record(b"\x24\0\0\x01\x02");
     let t = line(
+        rt,
         t,
         b"first record, header 0x24 with 1 2 at 3",
         short,
@@ -115,6 +117,7 @@ pub fn examples(t: Tally) -> Tally
     );
     let empty = first_record::first_record(b"");
     line(
+        rt,
         t,
         b"first record, no bytes",
         empty,

@@ -3,7 +3,7 @@ ghost use Rattle.std.specs.Prelude.{◌≡◌, if◌then◌else◌};
 ghost use Rattle.examples.specs.Count.{ended};
 
 // How many examples were run, and how many of them were right.
-#[derive(Drop)]
+#[derive(Clone, Copy)]
 pub struct Tally {
     pub run: u64,
     pub right: u64,
@@ -28,7 +28,7 @@ pub fn counted(t: Tally, right: bool) -> Tally
     ensures { result ≡ ended t right }
 {
     Tally {
-        run: std::num::wrapping_add_u64(t.run, 1),
-        right: std::num::wrapping_add_u64(t.right, one(right)),
+        run: t.run.wrapping_add(1),
+        right: t.right.wrapping_add(one(right)),
     }
 }
