@@ -20,7 +20,7 @@ use tables::part_records::{kind_number, unsigned};
 
 // ---- words of answers
 // A held part as words: whether there is one, its kind, frame number, remaining, offset and length.
-#[derive(Drop)]
+#[derive(Clone, Copy)]
 pub struct HeldWords {
     pub held: u64,
     pub kind: u64,

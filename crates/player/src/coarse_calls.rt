@@ -9,8 +9,7 @@ use blocks::calls::index_in;
 use blocks::read::is_index;
 
 // The list of a head, which is only read, at a wider interval.
-#[unsafe(no_mangle)]
-pub extern "C" fn seek_raw_coarse(
+pub fn seek_raw_coarse(
     head: &[u8],
     interval: u32,
     coarse: &mut [u8],

@@ -10,8 +10,7 @@ use drawer::merge_all;
 use view::is_workshop;
 
 // The files, end to end in one buffer, merged into the list of a head, all of them or none.
-#[unsafe(no_mangle)]
-pub extern "C" fn seek_raw_merge_all(
+pub fn seek_raw_merge_all(
     role: u32,
     head: &mut [u8],
     lengths: &[u8],

@@ -61,8 +61,7 @@ fn put_lacks(answer: &mut [u8], lacked: Lacked) -> u32
 }
 
 // What the other list holds and the own one does not.
-#[unsafe(no_mangle)]
-pub extern "C" fn seek_raw_lacks(
+pub fn seek_raw_lacks(
     head: &[u8],
     other: &[u8],
     answer: &mut [u8],

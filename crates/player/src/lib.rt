@@ -1,10 +1,12 @@
 // What the player's C program calls for lists: each call over blocks and lent tables, answered by a number.
+#![tactic(auto)]
+
 mod block;
-mod coarse_calls;
-mod drawer_calls;
-mod lacks_calls;
+pub mod coarse_calls;
+pub mod drawer_calls;
+pub mod lacks_calls;
 pub mod sums;
-mod view_calls;
+pub mod view_calls;
 
 ghost use Rattle.std.specs.Prelude.{◌≡◌};
 ghost use Rattle.fnv.specs.Fnv.{fnv64};
@@ -22,16 +24,14 @@ use view::is_workshop;
 
 // ---- sums, sectors and sizes
 // The sum of bytes.
-#[unsafe(no_mangle)]
-pub extern "C" fn seek_raw_sum(bytes: &[u8]) -> u64
+pub fn seek_raw_sum(bytes: &[u8]) -> u64
     ensures { result ≡ fnv64 bytes.now }
 {
     fnv::fnv(bytes)
 }
 
 // The first record of a sector: its number and where its three bytes lie, or why there is none.
-#[unsafe(no_mangle)]
-pub extern "C" fn seek_raw_first_record(sector: &[u8], answer: &mut [u8]) -> u32
+pub fn seek_raw_first_record(sector: &[u8], answer: &mut [u8]) -> u32
     ensures { called result answer.new
         ≡ first_call answer.old sector.now }
 {
@@ -43,8 +43,7 @@ pub extern "C" fn seek_raw_first_record(sector: &[u8], answer: &mut [u8]) -> u32
 }
 
 // The bytes of each table, for a new list.
-#[unsafe(no_mangle)]
-pub extern "C" fn seek_raw_sizes(
+pub fn seek_raw_sizes(
     slot: u8,
     channels: u8,
     key_start: u32,
@@ -70,8 +69,7 @@ pub extern "C" fn seek_raw_sizes(
 }
 
 // The area that a file says it is of.
-#[unsafe(no_mangle)]
-pub extern "C" fn seek_raw_file_area(file: &[u8], answer: &mut [u8]) -> u32
+pub fn seek_raw_file_area(file: &[u8], answer: &mut [u8]) -> u32
     ensures { called result answer.new
         ≡ file_area_call answer.old file.now }
 {
@@ -83,8 +81,7 @@ pub extern "C" fn seek_raw_file_area(file: &[u8], answer: &mut [u8]) -> u32
 }
 
 // The bytes of each table, for a file and a load limit.
-#[unsafe(no_mangle)]
-pub extern "C" fn seek_raw_file_sizes(
+pub fn seek_raw_file_sizes(
     slot: u8,
     channels: u8,
     key_start: u32,
@@ -109,8 +106,7 @@ pub extern "C" fn seek_raw_file_sizes(
 }
 
 // ---- lists
-#[unsafe(no_mangle)]
-pub extern "C" fn seek_raw_new(
+pub fn seek_raw_new(
     head: &mut [u8],
     slot: u8,
     channels: u8,
@@ -159,8 +155,7 @@ pub extern "C" fn seek_raw_new(
 }
 
 // The list of a file, limited, into the tables.
-#[unsafe(no_mangle)]
-pub extern "C" fn seek_raw_load(
+pub fn seek_raw_load(
     role: u32,
     head: &mut [u8],
     slot: u8,
@@ -211,8 +206,7 @@ pub extern "C" fn seek_raw_load(
 }
 
 // States the disc's fingerprint.
-#[unsafe(no_mangle)]
-pub extern "C" fn seek_raw_fingerprint(
+pub fn seek_raw_fingerprint(
     head: &mut [u8],
     value: u64,
     checkpoints: &[u8],
@@ -247,8 +241,7 @@ pub extern "C" fn seek_raw_fingerprint(
 }
 
 // Where a jump to a frame starts.
-#[unsafe(no_mangle)]
-pub extern "C" fn seek_raw_plan(
+pub fn seek_raw_plan(
     head: &[u8],
     frame: u32,
     answer: &mut [u8],
@@ -287,8 +280,7 @@ pub extern "C" fn seek_raw_plan(
 }
 
 // 1 where the bytes of a held part lie in the store, at its offset; else 0.
-#[unsafe(no_mangle)]
-pub extern "C" fn seek_raw_part(store: &[u8], offset: u64, len: u64) -> u64
+pub fn seek_raw_part(store: &[u8], offset: u64, len: u64) -> u64
     ensures { result ≡ bit (lies_in store.now offset len) }
 {
     let lies = plan::part_lies(store, offset, len);
@@ -296,8 +288,7 @@ pub extern "C" fn seek_raw_part(store: &[u8], offset: u64, len: u64) -> u64
 }
 
 // The length that saving will write, or the refusal number.
-#[unsafe(no_mangle)]
-pub extern "C" fn seek_raw_saved_length(
+pub fn seek_raw_saved_length(
     head: &[u8],
     checkpoints: &[u8],
     frames: &[u8],
@@ -329,8 +320,7 @@ pub extern "C" fn seek_raw_saved_length(
 }
 
 // Writes the list file. The length, or the refusal number.
-#[unsafe(no_mangle)]
-pub extern "C" fn seek_raw_save(
+pub fn seek_raw_save(
     role: u32,
     head: &[u8],
     checkpoints: &[u8],
@@ -370,8 +360,7 @@ pub extern "C" fn seek_raw_save(
 }
 
 // Merges the other list, which is only read, into the own one.
-#[unsafe(no_mangle)]
-pub extern "C" fn seek_raw_merge(
+pub fn seek_raw_merge(
     role: u32,
     head: &mut [u8],
     other: &[u8],
@@ -433,8 +422,7 @@ pub extern "C" fn seek_raw_merge(
 }
 
 // What merging the other list would bring.
-#[unsafe(no_mangle)]
-pub extern "C" fn seek_raw_adds(
+pub fn seek_raw_adds(
     head: &[u8],
     other: &[u8],
     answer: &mut [u8],
@@ -494,8 +482,7 @@ pub extern "C" fn seek_raw_adds(
 }
 
 // Adds hints, 8 bytes each.
-#[unsafe(no_mangle)]
-pub extern "C" fn seek_raw_add_hints(
+pub fn seek_raw_add_hints(
     head: &mut [u8],
     list: &[u8],
     checkpoints: &[u8],

@@ -9,8 +9,7 @@ use blocks::{HEAD_BYTES, write_words};
 use short_sum::Folded;
 
 // The short sum of bytes.
-#[unsafe(no_mangle)]
-pub extern "C" fn seek_raw_sum32(bytes: &[u8]) -> u32
+pub fn seek_raw_sum32(bytes: &[u8]) -> u32
     ensures { result ≡ fnv32 bytes.now }
 {
     short_sum::fnv32(bytes)
@@ -32,8 +31,7 @@ fn put_folded(answer: &mut [u8], folded: Folded) -> u32
 }
 
 // A 32-bit sum folded to k bits.
-#[unsafe(no_mangle)]
-pub extern "C" fn seek_raw_fold32(sum: u32, k: u32, answer: &mut [u8]) -> u32
+pub fn seek_raw_fold32(sum: u32, k: u32, answer: &mut [u8]) -> u32
     ensures { called result answer.new ≡ fold_call 32 k sum answer.old }
 {
     if answer.len() < HEAD_BYTES {
@@ -44,8 +42,7 @@ pub extern "C" fn seek_raw_fold32(sum: u32, k: u32, answer: &mut [u8]) -> u32
 }
 
 // A 64-bit sum folded to k bits.
-#[unsafe(no_mangle)]
-pub extern "C" fn seek_raw_fold64(sum: u64, k: u32, answer: &mut [u8]) -> u32
+pub fn seek_raw_fold64(sum: u64, k: u32, answer: &mut [u8]) -> u32
     ensures { called result answer.new ≡ fold_call 64 k sum answer.old }
 {
     if answer.len() < HEAD_BYTES {

@@ -19,8 +19,7 @@ fn viewed_number(viewed: Viewed) -> u64
 }
 
 // The length that a view will have, or the refusal number.
-#[unsafe(no_mangle)]
-pub extern "C" fn seek_raw_view_length(
+pub fn seek_raw_view_length(
     role: u32,
     head: &[u8],
     checkpoints: &[u8],
@@ -56,8 +55,7 @@ pub extern "C" fn seek_raw_view_length(
 }
 
 // Writes a view: 1 the listener's, 2 the workshop's. The length, or the refusal number.
-#[unsafe(no_mangle)]
-pub extern "C" fn seek_raw_view(
+pub fn seek_raw_view(
     role: u32,
     head: &[u8],
     checkpoints: &[u8],

@@ -10,7 +10,7 @@ use rules_disc::{Contents, DiscSized, Listed, Loaded, SlotEntry, SlotSizes};
 
 // ---- the contents table
 // Whether a slot is listed, its offset and length.
-#[derive(Drop)]
+#[derive(Clone, Copy)]
 pub struct PlaceWords {
     pub present: u64,
     pub offset: u64,

@@ -1,4 +1,6 @@
 // What the player's C program calls for disc files: each call over blocks and lent tables, answered by a number.
+#![tactic(auto)]
+
 mod block;
 
 ghost use Rattle.std.specs.Prelude.{◌≡◌};
@@ -15,8 +17,7 @@ use view::is_workshop;
 
 // ---- what a disc file holds
 // Whether there is a list of each slot, and where its file lies.
-#[unsafe(no_mangle)]
-pub extern "C" fn seek_raw_disc_contents(file: &[u8], answer: &mut [u8]) -> u32
+pub fn seek_raw_disc_contents(file: &[u8], answer: &mut [u8]) -> u32
     ensures { called result answer.new
         ≡ disc_contents_call answer.old file.now }
 {
@@ -28,8 +29,7 @@ pub extern "C" fn seek_raw_disc_contents(file: &[u8], answer: &mut [u8]) -> u32
 }
 
 // The bytes of each table of both slots, for a disc file and a load limit.
-#[unsafe(no_mangle)]
-pub extern "C" fn seek_raw_disc_sizes(
+pub fn seek_raw_disc_sizes(
     slot0: u8,
     channels0: u8,
     key_start0: u32,
@@ -67,8 +67,7 @@ pub extern "C" fn seek_raw_disc_sizes(
 }
 
 // The lists of a disc file, limited, each into the tables of its slot. The answer says which are there.
-#[unsafe(no_mangle)]
-pub extern "C" fn seek_raw_disc_load(
+pub fn seek_raw_disc_load(
     role: u32,
     head: &mut [u8],
     other: &mut [u8],
@@ -163,8 +162,7 @@ pub extern "C" fn seek_raw_disc_load(
 
 // ---- saving
 // The length that saving one list will write, or the refusal number.
-#[unsafe(no_mangle)]
-pub extern "C" fn seek_raw_disc_saved_length(
+pub fn seek_raw_disc_saved_length(
     head: &[u8],
     checkpoints: &[u8],
     frames: &[u8],
@@ -196,8 +194,7 @@ pub extern "C" fn seek_raw_disc_saved_length(
 }
 
 // The length that saving both lists will write, or the refusal number.
-#[unsafe(no_mangle)]
-pub extern "C" fn seek_raw_disc_saved_length_both(
+pub fn seek_raw_disc_saved_length_both(
     head: &[u8],
     other: &[u8],
     checkpoints: &[u8],
@@ -252,8 +249,7 @@ pub extern "C" fn seek_raw_disc_saved_length_both(
 }
 
 // Writes the disc file of one list. The length, or the refusal number.
-#[unsafe(no_mangle)]
-pub extern "C" fn seek_raw_disc_save(
+pub fn seek_raw_disc_save(
     role: u32,
     head: &[u8],
     checkpoints: &[u8],
@@ -293,8 +289,7 @@ pub extern "C" fn seek_raw_disc_save(
 }
 
 // Writes the disc file of two lists, whichever is given first. The length, or the refusal number.
-#[unsafe(no_mangle)]
-pub extern "C" fn seek_raw_disc_save_both(
+pub fn seek_raw_disc_save_both(
     role: u32,
     head: &[u8],
     other: &[u8],

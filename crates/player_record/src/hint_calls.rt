@@ -12,8 +12,7 @@ use blocks::calls::{hint_recorder_in, index_in};
 use blocks::read::{is_hint_recorder, is_index};
 
 // The hint recorder of a list, into its block; 24 words of 0 where there is none.
-#[unsafe(no_mangle)]
-pub extern "C" fn seek_raw_hint_recorder(
+pub fn seek_raw_hint_recorder(
     head: &[u8],
     block: &mut [u8],
     checkpoints: &[u8],
@@ -50,8 +49,7 @@ pub extern "C" fn seek_raw_hint_recorder(
 }
 
 // A sector seen at an LSN: words 7 to 10 of the block tell its first record.
-#[unsafe(no_mangle)]
-pub extern "C" fn seek_raw_see(block: &mut [u8], lsn: u64, sector: &[u8], list: &mut [u8]) -> u32
+pub fn seek_raw_see(block: &mut [u8], lsn: u64, sector: &[u8], list: &mut [u8]) -> u32
     ensures { called_list result block.new list.new
         ≡ see_call block.old lsn sector.now list.old }
 {
@@ -64,8 +62,7 @@ pub extern "C" fn seek_raw_see(block: &mut [u8], lsn: u64, sector: &[u8], list: 
 }
 
 // The tail listed.
-#[unsafe(no_mangle)]
-pub extern "C" fn seek_raw_flush(block: &mut [u8], list: &mut [u8]) -> u32
+pub fn seek_raw_flush(block: &mut [u8], list: &mut [u8]) -> u32
     ensures { called_list result block.new list.new
         ≡ flush_call block.old list.old }
 {
@@ -78,8 +75,7 @@ pub extern "C" fn seek_raw_flush(block: &mut [u8], list: &mut [u8]) -> u32
 }
 
 // The list taken: how many hints of its table is the answer's first word.
-#[unsafe(no_mangle)]
-pub extern "C" fn seek_raw_take(block: &mut [u8], answer: &mut [u8], list: &[u8]) -> u32
+pub fn seek_raw_take(block: &mut [u8], answer: &mut [u8], list: &[u8]) -> u32
     ensures { called_both result block.new answer.new
         ≡ take_call block.old answer.old list.now }
 {
@@ -95,8 +91,7 @@ pub extern "C" fn seek_raw_take(block: &mut [u8], answer: &mut [u8], list: &[u8]
 }
 
 // A confirmation kept by its rule: the answer's first word is 1, or 0 where nothing is kept.
-#[unsafe(no_mangle)]
-pub extern "C" fn seek_raw_keep_confirmation(
+pub fn seek_raw_keep_confirmation(
     head: &mut [u8],
     lsn: u64,
     threshold: u32,
@@ -141,8 +136,7 @@ pub extern "C" fn seek_raw_keep_confirmation(
 }
 
 // The hint with that LSN marked, so that thinning passes over it; the head is only read.
-#[unsafe(no_mangle)]
-pub extern "C" fn seek_raw_keep_hint(
+pub fn seek_raw_keep_hint(
     head: &[u8],
     lsn: u64,
     checkpoints: &[u8],
@@ -179,8 +173,7 @@ pub extern "C" fn seek_raw_keep_hint(
 }
 
 // The hint for the frames from first up to end of an area of so many frames.
-#[unsafe(no_mangle)]
-pub extern "C" fn seek_raw_hint(
+pub fn seek_raw_hint(
     head: &[u8],
     first: u32,
     end: u32,

@@ -1,4 +1,6 @@
 // What the player's C program calls for recorders, hints and confirmations: each call over blocks and lent tables, answered by a number.
+#![tactic(auto)]
+
 mod block;
 pub mod hint_calls;
 
@@ -19,8 +21,7 @@ use blocks::read::{is_index, is_recorder};
 use rules::EndState;
 
 // The recorder of a list, from an LSN on, into its block.
-#[unsafe(no_mangle)]
-pub extern "C" fn seek_raw_recorder(
+pub fn seek_raw_recorder(
     head: &[u8],
     from: u64,
     block: &mut [u8],
@@ -59,8 +60,7 @@ pub extern "C" fn seek_raw_recorder(
 }
 
 // A checkpoint at the due LSN; mark, start, number, kind, remaining and bytes are those of the frame under assembly.
-#[unsafe(no_mangle)]
-pub extern "C" fn seek_raw_record(
+pub fn seek_raw_record(
     block: &mut [u8],
     lsn: u64,
     threshold: u32,
@@ -107,8 +107,7 @@ pub extern "C" fn seek_raw_record(
 }
 
 // The end state of a recorder that passed every boundary.
-#[unsafe(no_mangle)]
-pub extern "C" fn seek_raw_finish(
+pub fn seek_raw_finish(
     block: &mut [u8],
     threshold: u32,
     malformed: u64,
@@ -135,8 +134,7 @@ pub extern "C" fn seek_raw_finish(
 }
 
 // The due LSN of a recorder, from its block alone.
-#[unsafe(no_mangle)]
-pub extern "C" fn seek_raw_due(block: &[u8], answer: &mut [u8]) -> u32
+pub fn seek_raw_due(block: &[u8], answer: &mut [u8]) -> u32
     ensures { called result answer.new ≡ due_call block.now answer.old }
 {
     if !is_recorder(block) {
@@ -151,8 +149,7 @@ pub extern "C" fn seek_raw_due(block: &[u8], answer: &mut [u8]) -> u32
 }
 
 // The LSN of a list's checkpoint by its number, from its head alone.
-#[unsafe(no_mangle)]
-pub extern "C" fn seek_raw_boundary(head: &[u8], number: u32, answer: &mut [u8]) -> u32
+pub fn seek_raw_boundary(head: &[u8], number: u32, answer: &mut [u8]) -> u32
     ensures { called result answer.new
         ≡ boundary_call head.now number answer.old }
 {
@@ -168,8 +165,7 @@ pub extern "C" fn seek_raw_boundary(head: &[u8], number: u32, answer: &mut [u8])
 }
 
 // How far a list reaches, from its head alone.
-#[unsafe(no_mangle)]
-pub extern "C" fn seek_raw_frontier(head: &[u8], answer: &mut [u8]) -> u32
+pub fn seek_raw_frontier(head: &[u8], answer: &mut [u8]) -> u32
     ensures { called result answer.new ≡ frontier_call head.now answer.old }
 {
     if !is_index(head) {
@@ -184,16 +180,14 @@ pub extern "C" fn seek_raw_frontier(head: &[u8], answer: &mut [u8]) -> u32
 }
 
 // The version of the library, as SEEK_VERSION in include/seek.h.
-#[unsafe(no_mangle)]
-pub extern "C" fn seek_raw_version() -> u32
+pub fn seek_raw_version() -> u32
     ensures { result ≡ 20000 }
 {
     20000
 }
 
 // Absorbs a recorder's stretch; mark and image are the image id of the reading, given its malformed LSNs, 4 bytes each. 8 stops the recorder.
-#[unsafe(no_mangle)]
-pub extern "C" fn seek_raw_absorb(
+pub fn seek_raw_absorb(
     head: &mut [u8],
     block: &mut [u8],
     mark: u8,

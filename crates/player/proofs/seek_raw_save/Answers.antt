@@ -1,0 +1,26 @@
+use mathlib.Core.Bool.{not}
+use mathlib.Core.Path.{ap}
+use Rattle.player.specs.Player.{save_call, save_call_as}
+use Rattle.blocks.proofs.calls.Blocks.{no_head, known, known_long}
+use Rattle.view.proofs.Roles.{no_workshop, is_workshop_lemma}
+use Rattle.player.proofs.Answers.{save_done}
+use Rattle.player.proofs.seek_raw_save.Goals as goal
+
+pub returns-then-not-is_workshop : goal.returns-then-not-is_workshop
+unfolding save_call_as
+returns-then-not-is_workshop c = no_workshop _ _ _ c.is_workshop.ensures (ap not c.if-not-is_workshop.true)
+
+pub returns-then-not-is_index : goal.returns-then-not-is_index
+unfolding save_call save_call_as
+returns-then-not-is_index c =
+    is_workshop_lemma _ _ _ c.is_workshop.ensures (ap not c.if-not-is_workshop.false)
+    (no_head _ _ _ c.is_index.ensures (ap not c.if-not-is_index.true))
+
+pub returns : goal.returns
+unfolding save_call_as
+returns c =
+    is_workshop_lemma _ _ _ c.is_workshop.ensures (ap not c.if-not-is_workshop.false)
+    (save_done _ (known c.is_index.ensures (ap not c.if-not-is_index.false)) _ c.index_in-x.ensures _ _ _ _ _ c.to_bytes-saved.ensures c.saved_number.ensures)
+
+pub index_in-x-requires : goal.index_in-x-requires
+index_in-x-requires c = known_long _ _ c.is_index.ensures (ap not c.if-not-is_index.false)

@@ -1,0 +1,16 @@
+use Rattle.blocks.proofs.Words.{head_long}
+use Rattle.player.proofs.view_calls.Answers.{view_refused, block_passed, view_done}
+use Rattle.player.proofs.view_calls.seek_raw_view.Goals as goal
+
+pub returns-then-number-ne0 : goal.returns-then-number-ne0
+returns-then-number-ne0 c = view_refused _ _ c.block_refuses-number.ensures _ _ c.if-number-ne0.true
+
+pub returns : goal.returns
+returns c =
+    let passed = block_passed _ _ c.block_refuses-number.ensures c.if-number-ne0.false in
+    view_done _ passed.0 _ passed.1 _ c.index_in-x.ensures _ _ _ _ _
+    c.view-viewed.ensures c.viewed_number.ensures
+
+pub index_in-x-requires : goal.index_in-x-requires
+index_in-x-requires c =
+    head_long _ _ (block_passed _ _ c.block_refuses-number.ensures c.if-number-ne0.false).1

@@ -1,0 +1,16 @@
+use mathlib.Core.Bool.{not}
+use mathlib.Core.Path.{ap}
+use Rattle.player_disc.specs.PlayerDisc.{disc_length_call}
+use Rattle.blocks.proofs.calls.Blocks.{no_head, known, known_long}
+use Rattle.player_disc.proofs.Answers.{length_done}
+use Rattle.player_disc.proofs.seek_raw_disc_saved_length.Goals as goal
+
+pub returns-then-not-is_index : goal.returns-then-not-is_index
+unfolding disc_length_call
+returns-then-not-is_index c = no_head _ _ _ c.is_index.ensures (ap not c.if-not-is_index.true)
+
+pub returns : goal.returns
+returns c = length_done _ (known c.is_index.ensures (ap not c.if-not-is_index.false)) _ c.index_in-x.ensures _ _ c.one_length.ensures
+
+pub index_in-x-requires : goal.index_in-x-requires
+index_in-x-requires c = known_long _ _ c.is_index.ensures (ap not c.if-not-is_index.false)
