@@ -64,8 +64,9 @@ fn line_of(line: &[u8]) -> Option<Line<'_>> {
     Some(Line { name, start: decimal(start)?, end: decimal(end)? }).filter(|_| named)
 }
 
-/// The file of a name; None where it cannot be read whole or is too long.
+/// The file of a name; None where the name is not UTF-8, or the file cannot be read whole or is too long.
 fn file_of<'a>(folder: &'a Folder, name: &[u8]) -> Option<&'a [u8]> {
+    std::str::from_utf8(name).ok()?;
     let name = name.strip_prefix(b"./").unwrap_or(name);
     folder.get(name)?.as_deref().filter(|b| b.len() <= LONGEST)
 }
