@@ -1,3 +1,4 @@
+use native.Mathlib.Omega.{arith}
 use Rattle.hint_recorder.proofs.Recorder.{seen_nothing, seen_past, seen_number}
 use Rattle.hint_recorder.proofs.Step.seen.Goals as goal
 
@@ -9,9 +10,9 @@ returns-in_default c =
 pub returns-then-lsn-gt-MAX_U32 : goal.returns-then-lsn-gt-MAX_U32
 returns-then-lsn-gt-MAX_U32 c =
     seen_past c.args.self.recorder c.args.list.now c.requires (λ i. (c.type_inv.list i).fits)
-    c.args.lsn c.in-Number.is c.if-lsn-gt-MAX_U32.true
+    c.args.lsn c.in-Number.is (omega arith)
 
 pub returns : goal.returns
 returns c =
     seen_number c.args.self.recorder c.args.list.now c.requires (λ i. (c.slice_known-1.given i).fits)
-    c.args.lsn c.in-Number.is c.if-lsn-gt-MAX_U32.false c.list_or_keep-recorder.ensures
+    c.args.lsn c.in-Number.is (omega arith) c.list_or_keep-recorder.ensures
