@@ -4,14 +4,13 @@ ghost use Rattle.rules.specs.Tests.{agrees};
 ghost use Rattle.rules.specs.Values.{same_checkpoint};
 ghost use Rattle.tables.specs.Tables.{checkpoints_in};
 
-use field::{min_u64, same};
+use field::same;
 
 // The checkpoints that both have, compared as bytes.
 pub fn same_checkpoints(a: &[u8], n: u32, b: &[u8], m: u32) -> bool
     requires { (n * 24 ≤ length a.now) × (m * 24 ≤ length b.now) }
     ensures { result ≡ agrees same_checkpoint (checkpoints_in n a.now) (checkpoints_in m b.now) }
 {
-    let common = min_u64(n as u64, m as u64) as usize;
-    let e = common * 24;
-    same(&a[0..e], &b[0..e])
+    let common = n.min(m) as usize * 24;
+    same(&a[..common], &b[..common])
 }

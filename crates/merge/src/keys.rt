@@ -9,12 +9,10 @@ pub fn skip(t: &[u8], w: usize, n: usize, i: usize, low: u32) -> usize
     requires { (4 ≤ w) × (n * w ≤ length t.now) × (i ≤ n) }
     ensures { result ≡ i + below low (drop i (keys_in w n t.now)) }
 {
-    let mut k = i;
-    while k < n {
+    for k in i..n {
         if low <= read_u32(t, k * w) {
             return k;
         }
-        k += 1;
     }
-    k
+    n
 }

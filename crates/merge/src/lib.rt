@@ -15,7 +15,7 @@ ghost use Rattle.merge.specs.Merge.{merge_in};
 
 use crate::goes_further::further;
 use crate::numbers::numbers;
-use crate::questions::{merge_refuses, taken};
+use crate::questions::merge_refuses;
 use crate::take::{append_checkpoints, join_hints, take_malformed, take_parts};
 use confirmations::confirm::merge_confirmations;
 use index::is_checked;
@@ -45,10 +45,7 @@ fn commit(
     ensures { out_index result (tables checkpoints.new frames.new store.new parts.new malformed.new hints.new confirmed.new) ≡ merged_in x (tables checkpoints.old frames.old store.old parts.old malformed.old hints.old confirmed.old) y (tables other_checkpoints.now other_frames.now other_store.now other_parts.now other_malformed.now other_hints.now other_confirmed.now) }
 {
     let go = further(x, y);
-    let area = x.area;
-    let known = x.fingerprint;
-    let k = taken(go, y.checkpoints);
-    let h = taken(go, y.parts);
+    let (k, h) = if go { (y.checkpoints, y.parts) } else { (0, 0) };
     let n = append_checkpoints(
         checkpoints,
         x.checkpoints,
@@ -68,9 +65,9 @@ fn commit(
         parts,
     );
     let m = take_malformed(malformed, x.malformed, other_malformed, y.malformed, go);
-    let s = join_hints(area, x.most, hints, x.hints, other_hints, y.hints);
+    let s = join_hints(x.area, x.most, hints, x.hints, other_hints, y.hints);
     let d = merge_confirmations(
-        is_checked(known),
+        is_checked(x.fingerprint),
         x.most,
         x.confirmed,
         confirmed,

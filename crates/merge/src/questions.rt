@@ -1,5 +1,6 @@
 // What a merge asks of two lists in their tables: 1 to 4 of both, and 41 to 43.
-ghost use Rattle.std.specs.Prelude.{◌≡◌, cond, ◌*◌, ◌≤◌, eqb, length};
+
+ghost use Rattle.std.specs.Prelude.{◌≡◌, ◌*◌, ◌≤◌, eqb, length};
 ghost use Rattle.rules.specs.Tests.{agree};
 ghost use Rattle.rules.specs.Values.{stated, same_area, same_end};
 ghost use Rattle.tables.specs.Index.{tables, end_in, id_in};
@@ -7,7 +8,6 @@ ghost use Rattle.merge.specs.Merge.{merge_refusal};
 ghost use Rattle.merge.specs.Steps.{area_agrees, image_agrees, reading_agrees, join_number};
 
 use crate::common::same_checkpoints;
-use field::and;
 use header::questions::same_key;
 use index::create::agrees;
 use index::refuses;
@@ -16,88 +16,76 @@ use rules::{Area, AreaIndex, End, EndState, Fingerprint, ImageId};
 use sections::ask;
 
 // ---- 41
+#[tactic(auto, unfolding(rules::specs::Values::same_area, rules::specs::Tests::all))]
 pub fn same_area(a: Area, b: Area) -> bool
     ensures { result ≡ same_area a b }
 {
-    let key = a.key;
-    let other = b.key;
-    let range = and(a.start == b.start, a.end == b.end);
-    and(same_key(key, other), range)
+    same_key(a.key, b.key) && a.start == b.start && a.end == b.end
 }
 
 // 41: same area and interval?
+#[tactic(auto, unfolding(crate::specs::Steps::area_agrees, rules::specs::Merge::question41, rules::specs::Tests::all))]
 fn question41(x: AreaIndex, y: AreaIndex) -> bool
     ensures { result ≡ area_agrees x y }
 {
-    let a = x.area;
-    let b = y.area;
-    and(same_area(a, b), x.interval == y.interval)
+    same_area(x.area, y.area) && x.interval == y.interval
 }
 
 // ---- 42
+#[tactic(auto, unfolding(tables::specs::Index::id_in, rules::specs::Tests::agree))]
 pub fn same_image(a: ImageId, b: ImageId) -> bool
     ensures { result ≡ agree eqb (id_in a) (id_in b) }
 {
-    match a {
-        ImageId::Anonymous => true,
-        ImageId::Id(v) => match b {
-            ImageId::Anonymous => true,
-            ImageId::Id(w) => v == w,
-        },
+    match (a, b) {
+        (ImageId::Id(v), ImageId::Id(w)) => v == w,
+        _ => true,
     }
 }
 
+#[tactic(auto, unfolding(rules::specs::Values::stated, rules::specs::Tests::agree))]
 fn same_fingerprint(a: Fingerprint, b: Fingerprint) -> bool
     ensures { result ≡ agree eqb (stated a) (stated b) }
 {
     match b {
         Fingerprint::Unknown => true,
-        Fingerprint::Held(v) => agrees(a, v),
-        Fingerprint::Checked(v) => agrees(a, v),
+        Fingerprint::Held(v) | Fingerprint::Checked(v) => agrees(a, v),
     }
 }
 
 // 42: no differing image id or fingerprint?
+#[tactic(auto, unfolding(crate::specs::Steps::image_agrees, rules::specs::Merge::question42, rules::specs::Tests::all))]
 fn question42(x: AreaIndex, y: AreaIndex) -> bool
     ensures { result ≡ image_agrees x y }
 {
-    let a = x.image;
-    let b = y.image;
-    let f = x.fingerprint;
-    let g = y.fingerprint;
-    and(same_image(a, b), same_fingerprint(f, g))
+    same_image(x.image, y.image) && same_fingerprint(x.fingerprint, y.fingerprint)
 }
 
 // ---- 43
+#[tactic(auto, unfolding(rules::specs::Values::same_end, rules::specs::Tests::all))]
 fn same_state(a: EndState, b: EndState) -> bool
     ensures { result ≡ same_end a b }
 {
-    and(a.threshold == b.threshold, a.malformed == b.malformed)
+    a.threshold == b.threshold && a.malformed == b.malformed
 }
 
+#[tactic(auto, unfolding(tables::specs::Index::end_in, rules::specs::Tests::agree))]
 pub fn same_end(a: End, b: End) -> bool
     ensures { result ≡ agree same_end (end_in a) (end_in b) }
 {
-    match a {
-        End::Open => true,
-        End::Closed(e) => match b {
-            End::Open => true,
-            End::Closed(f) => same_state(e, f),
-        },
+    match (a, b) {
+        (End::Closed(e), End::Closed(f)) => same_state(e, f),
+        _ => true,
     }
 }
 
 // 43: common checkpoints, all four fields, and, where both have them, end states equal?
+#[tactic(auto, unfolding(crate::specs::Steps::reading_agrees, rules::specs::Merge::question43, rules::specs::Tests::all))]
 fn question43(x: AreaIndex, y: AreaIndex, checkpoints: &[u8], other: &[u8]) -> bool
     requires { (x.checkpoints * 24 ≤ length checkpoints.now) × (y.checkpoints * 24 ≤ length other.now) }
     ensures { result ≡ reading_agrees x checkpoints.now y other.now }
 {
-    let e = x.ending;
-    let f = y.ending;
-    and(
-        same_checkpoints(checkpoints, x.checkpoints, other, y.checkpoints),
-        same_end(e, f),
-    )
+    same_checkpoints(checkpoints, x.checkpoints, other, y.checkpoints)
+        && same_end(x.ending, y.ending)
 }
 
 // The number of the first of questions 41 to 43 answered no, 0 for none.
@@ -157,11 +145,4 @@ pub fn merge_refuses(
         return number;
     }
     join_number(x, y, checkpoints, other_checkpoints)
-}
-
-// n where go holds, else 0.
-pub fn taken(go: bool, n: u32) -> u32
-    ensures { result ≡ cond go n 0 }
-{
-    if go { n } else { 0 }
 }

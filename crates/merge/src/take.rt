@@ -3,8 +3,6 @@ ghost use Rattle.std.specs.Prelude.{◌≡◌};
 ghost use Rattle.parts.specs.Parts.{part_tables, held};
 ghost use Rattle.merge.specs.Steps.{Appends, Appended, Takes, LsnsTaken, PartsReady, parts_taken, HintsReady, hints_joined, counted_table};
 
-use crate::numbers::{chosen, past};
-use crate::questions::taken;
 use add_hints::sort::merge_hints;
 use field::{copy_first, copy_part};
 use parts::{Counts, add_parts, used_bytes};
@@ -15,7 +13,7 @@ pub fn append_checkpoints(t: &mut [u8], n: u32, other: &[u8], m: u32, i: u32) ->
     requires { Appends n m i t.old other.now }
     ensures { Appended n m i t.old other.now result t.new }
 {
-    let k = past(m, i);
+    let k = m.saturating_sub(i);
     let at = n as usize * 24;
     let from = (m - k) as usize * 24;
     copy_part(t, at, other, from, k as usize * 24);
@@ -27,9 +25,12 @@ pub fn take_malformed(t: &mut [u8], n: u32, other: &[u8], m: u32, go: bool) -> u
     requires { Takes n m t.old other.now }
     ensures { LsnsTaken go n m t.old other.now result t.new }
 {
-    let k = taken(go, m);
-    copy_first(t, other, k as usize * 4);
-    chosen(go, m, n)
+    if go {
+        copy_first(t, other, m as usize * 4);
+        m
+    } else {
+        n
+    }
 }
 
 // The own frames and parts, and of the h parts of another list, which has f frames, those for the checkpoints that are appended.
@@ -72,6 +73,5 @@ pub fn join_hints(area: Area, most: u32, hints: &mut [u8], n: u32, other: &[u8],
     requires { HintsReady area n m hints.old other.now }
     ensures { counted_table result hints.new ≡ hints_joined area most n m hints.old other.now }
 {
-    let e = m as usize * 8;
-    merge_hints(area, most, n, hints, &other[0..e])
+    merge_hints(area, most, n, hints, &other[..m as usize * 8])
 }

@@ -37,7 +37,7 @@ pub record Skipping (low : ℕ) (ks : List ℕ) (n i k : ℕ) : Type 0 where
   pub is : k + below low (drop k ks) ≡ i + below low (drop i ks)
 
 module _ {low : ℕ} {ks : List ℕ} {n i k : ℕ} (s : Skipping low ks n i k) where
-  pub skip_end : length ks ≡ n → n ≤ k → k ≡ i + below low (drop i ks)
+  pub skip_end : length ks ≡ n → n ≤ k → n ≡ i + below low (drop i ks)
   unfolding below
   skip_end g l =
       let y : drop k ks ≡ [] = drop_of_length-le ks (let j : length ks ≤ k = omega arith in j) in

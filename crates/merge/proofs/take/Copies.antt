@@ -1,6 +1,6 @@
 -- Records copied behind those of a table, or over them. Assumes nothing.
 use mathlib.Core.Path.{◌≡◌, sym, ap, ◌∙◌}
-use mathlib.Core.Bool.{Bool, cond}
+use mathlib.Core.Bool.{true, false}
 use mathlib.Core.List.{List, ◌++◌, append_assoc}
 use Prim.Native.Nat.{ℕ, ◌+◌, ◌-◌, ◌*◌, ◌≤◌}
 use native.Mathlib.Nat.{add-mul, mul-le-mul_right}
@@ -63,19 +63,13 @@ pub appended : {n m i k : ℕ} {t' : List ℕ} (t u : List ℕ) → Appends n m 
     → t' ≡ take (n * 24) t ++ (take (k * 24) (drop ((m - k) * 24) u) ++ drop (n * 24 + k * 24) t) → Appended n m i t u (n + k) t'
 appended {n} {m} {i} {k} t u a b c p q = put_from checkpoint_layout n m i k t u b c a.own a.other p q
 
-pub malformed_taken : (go : Bool) {n m k r : ℕ} {t' : List ℕ} (t u : List ℕ) → Takes n m t u → Bytes t → Bytes u → k ≡ cond go m 0 → r ≡ cond go m n
-    → t' ≡ take (k * 4) u ++ drop (k * 4) t → LsnsTaken go n m t u r t'
-malformed_taken go {n} {m} {k} {r} {t'} t u a b c p s e =
-    test go
-    (λ g. let k' : k ≡ m = rw g at p in let s' : r ≡ m = rw g at s in rw (g, s') (put_other lsn_layout m t u c a.other (rw k' at e)))
-    (λ g. let k' : k ≡ 0 = rw g at p in let s' : r ≡ n = rw g at s in let t'' : t' ≡ t = rw k' at e in rw (g, s', t'') (put_same lsn_layout n t b a.own))
+pub malformed_taken : {n m : ℕ} {t' : List ℕ} (t u : List ℕ) → Takes n m t u → Bytes u → t' ≡ take (m * 4) u ++ drop (m * 4) t → LsnsTaken true n m t u m t'
+malformed_taken {n} {m} t u a c e = put_other lsn_layout m t u c a.other e
+
+pub malformed_kept : {n m : ℕ} (t u : List ℕ) → Takes n m t u → Bytes t → LsnsTaken false n m t u n t
+malformed_kept {n} t u a b = put_same lsn_layout n t b a.own
 
 -- ---- room
 module _ {n m i k : ℕ} {t u : List ℕ} (a : Appends n m i t u) (p : k ≡ m - i) where
   pub append_room : (n * 24 + k * 24 ≤ length t) × ((m - k) * 24 + k * 24 ≤ length u)
   append_room = let r = a.room in let o = a.other in (omega arith, omega arith)
-
-pub malformed_room : (go : Bool) {n m k : ℕ} {t u : List ℕ} → Takes n m t u → k ≡ cond go m 0 → (k * 4 ≤ length u) × (k * 4 ≤ length t)
-malformed_room go {n} {m} {k} a p =
-    let o = a.other in let r = a.room in
-    test go (λ e. let k' : k ≡ m = rw e at p in (omega arith, omega arith)) (λ e. let k' : k ≡ 0 = rw e at p in (omega arith, omega arith))

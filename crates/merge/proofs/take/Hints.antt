@@ -3,10 +3,10 @@ use mathlib.Core.Path.{◌≡◌, sym, ◌∙◌}
 use mathlib.Core.Bool.{true}
 use mathlib.Core.List.{List, ◌++◌, append_assoc}
 use Prim.Native.Nat.{ℕ, ◌+◌, ◌-◌, ◌*◌, ◌/◌, ◌≤◌}
-use native.Mathlib.Nat.{sub-zero, add-mul}
+use native.Mathlib.Nat.{add-mul}
 use native.Mathlib.Omega.{arith}
 use lib.Dec.{eqb}
-use lib.ListN.{length, take, drop, replicate, length-append, length-replicate}
+use lib.ListN.{length, take, replicate, length-append, length-replicate}
 use lib.Seq.{length-take-le}
 use borrow.Author.Tests.{eqb-true}
 use Rattle.field.specs.Records.{bytes_of}
@@ -46,24 +46,17 @@ cleared_over w hs t l =
     (let q : length hs + (w - length hs) ≡ w = omega arith in let p = add-mul (length hs) (w - length hs) 8 in sym p ∙ rw q) in
     rw (n, append_assoc)
 
-pub hints_room : {a : Area} {n m e : ℕ} {t u : List ℕ} → HintsReady a n m t u → e ≡ m * 8 → n + length (take (e - 0) (drop 0 u)) / 8 ≤ length t / 8
-hints_room {a} {n} {m} {e} {t} {u} h q =
-    let l : length (take (m * 8) u) ≡ m * 8 = length-take-le (m * 8) u h.there in
-    let k : length (take (m * 8) u) / 8 ≡ m = omega arith in
-    let r = h.room in
-    rw (sub-zero e, q, k) r
-
-pub hints_done : {a : Area} {n m e r : ℕ} {t' : List ℕ} (most : ℕ) (t u : List ℕ) → HintsReady a n m t u → e ≡ m * 8
-    → r ≡ length (joined_in a most n t (take (e - 0) (drop 0 u))) → t' ≡ cleared_to (touched most n (take (e - 0) (drop 0 u))) (joined_in a most n t (take (e - 0) (drop 0 u))) t
+pub hints_done : {a : Area} {n m r : ℕ} {t' : List ℕ} (most : ℕ) (t u : List ℕ) → HintsReady a n m t u
+    → r ≡ length (joined_in a most n t (take (m * 8) u)) → t' ≡ cleared_to (touched most n (take (m * 8) u)) (joined_in a most n t (take (m * 8) u)) t
     → counted_table r t' ≡ hints_joined a most n m t u
 unfolding hints_joined touched
-hints_done {a} {n} {m} {e} {r} {t'} most t u h q c b =
+hints_done {a} {n} {m} {r} {t'} most t u h c b =
     let l : length (take (m * 8) u) ≡ m * 8 = length-take-le (m * 8) u h.there in
     let k : length (take (m * 8) u) / 8 ≡ m = omega arith in
     let s = records_take 8 decode_unkept m (m * 8) u (omega arith) ∙ unkept_in_lemma m u in
     let hs = joined_hints a most (kept_in n t) (unkept (kept_in m u)) in
     let many : length (unkept (kept_in m u)) ≡ m = unkept_length (kept_in m u) ∙ records_length 8 decode_kept m u in
-    let c' : r ≡ length hs = rw (sub-zero e, q, k, s) at c in
-    let b' : t' ≡ cleared_to (written_to most n m) hs t = rw (sub-zero e, q, k, s) at b in
+    let c' : r ≡ length hs = rw (k, s) at c in
+    let b' : t' ≡ cleared_to (written_to most n m) hs t = rw (k, s) at b in
     let most-is : length hs ≤ written_to most n m = rw (records_length 8 decode_kept n t, many) at (joined_most a most (kept_in n t) (unkept (kept_in m u))) in
     rw (c', b', cleared_over (written_to most n m) hs t most-is)

@@ -1,5 +1,5 @@
-use mathlib.Core.Path.{refl}
-use Rattle.merge.proofs.common.Common.{common_by}
+use mathlib.Core.Path.{◌∙◌}
+use Rattle.merge.proofs.common.Common.{common_is}
 use Rattle.laws.proofs.Layouts.{checkpoint_layout}
 use Rattle.rules.specs.Values.{same_checkpoint}
 use Rattle.rules.proofs.Same.{same_checkpoint_eq, same_checkpoint_self}
@@ -7,5 +7,6 @@ use Rattle.merge.proofs.common.same_checkpoints.Goals as goal
 
 pub returns : goal.returns
 returns c =
-    common_by checkpoint_layout same_checkpoint same_checkpoint_eq same_checkpoint_self _ _ _ _ _ c.same.ensures refl
-    (λ i. (c.type_inv.a i).fits) (λ i. (c.type_inv.b i).fits) c.requires.0 c.requires.1 c.min_u64-common.ensures
+    c.same.ensures
+    ∙ common_is checkpoint_layout same_checkpoint same_checkpoint_eq same_checkpoint_self _ _ _ _ _
+    (λ i. (c.type_inv.a i).fits) (λ i. (c.type_inv.b i).fits) c.requires.0 c.requires.1 c.min.ensures

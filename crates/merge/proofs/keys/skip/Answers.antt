@@ -1,24 +1,7 @@
-use Rattle.merge.proofs.keys.Laws.{read_turn, row_fits, key_at, skip_end, skip_stop, skip_on}
+use Rattle.merge.proofs.keys.Laws.{read_turn, key_at, skip_end, skip_stop, skip_on}
 use Rattle.merge.specs.Keys.{key_of}
 use Rattle.field.proofs.Records.{records_length}
-use native.Mathlib.Omega.{arith}
-use mathlib.Core.Path.{refl}
 use Rattle.merge.proofs.keys.skip.Goals as goal
-
-pub loop-k-init : goal.loop-k-init
-loop-k-init c = record { within = omega arith; is = refl }
-
-pub overflow_mul-k : goal.overflow_mul-k
-overflow_mul-k c =
-    let f =
-    row_fits c.args.w _ c.args.n c.args.t.now c.loop-k-test.true c.requires.1 in
-    omega arith
-
-pub read_u32-requires : goal.read_u32-requires
-read_u32-requires c =
-    let f =
-    row_fits c.args.w _ c.args.n c.args.t.now c.loop-k-test.true c.requires.1 in
-    let h = c.requires.0 in omega arith
 
 pub returns-then-low-read_u32 : goal.returns-then-low-read_u32
 returns-then-low-read_u32 c =

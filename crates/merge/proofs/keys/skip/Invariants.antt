@@ -1,10 +1,6 @@
 use Rattle.merge.proofs.keys.Laws.{Skipping}
 use Rattle.merge.specs.Keys.{keys_in}
-use Prim.Native.Nat.{◌-◌}
 use Rattle.merge.proofs.keys.skip.Given as goal
 
 abbrev pub invariant-loop-k : goal.invariant-loop-k
 invariant-loop-k l = Skipping l.low (keys_in l.w l.n l.t) l.n l.i l.k
-
-abbrev pub decreases-loop-k : goal.decreases-loop-k
-decreases-loop-k l = l.n - l.k
