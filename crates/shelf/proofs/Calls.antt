@@ -8,8 +8,7 @@ use Prim.Native.Nat.{ℕ, zero, suc, ◌+◌, ◌<◌, ◌≤◌, min}
 use native.Mathlib.Omega.{arith}
 use borrow.Author.Tests.{leb-true, ne_eqb}
 use lib.Dec.{leb}
-use native.Mathlib.Numerals.{add-one}
-use lib.ListN.{length, get_or, take, drop, set, length-set, length-take, take-append-drop}
+use lib.ListN.{length, get_or, take, drop, length-set, length-take, take-append-drop}
 use lib.Seq.{take-suc, take-suc-set, drop-set-lt}
 use Rattle.rules.specs.declared.Area.{Area}
 use Rattle.rules.specs.Tests.{all, Ask, ask, first_no, Answer, Refused, Accepted, after, bind}
@@ -30,12 +29,6 @@ pub length_written : (n : ℕ) (l t : List ShelfRecord) → length (written n l 
 unfolding written
 length_written zero l t = refl
 length_written (suc n) l t = length-set (written n l t) n (get_or l n no_record) ∙ length_written n l t
-
--- one record more
-pub written_more : (i : ℕ) (l t : List ShelfRecord) {zs : List ShelfRecord} {r : ShelfRecord} → zs ≡ written i l t
-    → r ≡ get_or l i no_record → set zs i r ≡ written (i + 1) l t
-unfolding written
-written_more i l t e d = rw (add-one i, e, d) refl
 
 written_first : (n : ℕ) (l t : List ShelfRecord) → n ≤ length l → n ≤ length t → take n (written n l t) ≡ take n l
 unfolding written

@@ -1,6 +1,6 @@
 -- Laws of records by value and of a table of them. Assumes nothing.
 use mathlib.Core.Path.{◌≡◌, refl, sym, ap, ap₂, ◌∙◌}
-use mathlib.Core.Bool.{Bool, true, false, ◌&&◌, not, cond, and-true}
+use mathlib.Core.Bool.{Bool, true, false, ◌&&◌, not, and-true}
 use mathlib.Core.Option.{Option, none, some}
 use mathlib.Core.List.{List, [], ◌∷◌, ◌++◌}
 use Prim.Native.Nat.{ℕ, suc, ◌+◌, ◌-◌, ◌<◌, ◌≤◌}
@@ -18,7 +18,7 @@ use Rattle.rules.proofs.Tests.{test, never, all→, asked as asked-yes}
 use Rattle.rules_shelf.specs.declared.ShelfRecord.{ShelfRecord}
 use Rattle.rules_shelf.specs.Shelf.{no_record, area_of, record_of, sum, area_place, among, no_two, drop_at, without, older, oldest_of, oldest, roomy, make_room, staying, entered, restamped, jumped, questions, entering, jumped_in, jumping}
 use Rattle.rules_shelf.proofs.Laws.{place_later, place_here, no_two_step, sum_at, sum_take_suc, drop_length, drop_none}
-use Rattle.rules_shelf.proofs.Laws.{take_drop, take_before, drop_next, oldest_le, oldest_lt, oldest_take, made}
+use Rattle.rules_shelf.proofs.Laws.{take_drop, take_before, drop_next, oldest_lt, oldest_take, made}
 use Rattle.rules_shelf.proofs.Laws.{made_more, roomy_none}
 use Rattle.sections.specs.Sections.{asked}
 use Rattle.sections.proofs.Questions.{numbered as in_order, first_refuses, first_passes}
@@ -43,11 +43,6 @@ push_stands a rs r b h l p =
     r (omega arith) in
     let s : take a.n a.all ≡ rs = h.same in
     record { sound = record { few = omega arith; wide = w' }; same = rw (m, p.0, e, s) refl }
-
--- ---- the first i records of a table, taken
-pub record Taken (i : ℕ) (ys : List ShelfRecord) (a : Kept) : Type 0 where
-  pub stands : Stands a (take i ys)
-  pub count : a.n ≡ i
 
 -- ---- the records of a value
 pub list_length : (k : Kept) → Sound k → length (list_of k) ≡ k.n
@@ -151,94 +146,71 @@ pair_end {k} {i} s l =
     ∙ s.same
 
 -- ---- the sum of lengths, taken from room
-pub record Summing (k : Kept) (room i left : ℕ) : Type 0 where
-  pub sound : Sound k
-  pub inside : i ≤ k.n
-  pub same : sum (take i (list_of k)) + left ≡ room
+module _ (rs : List ShelfRecord) (i left room : ℕ) (e : sum (take i rs) + left ≡ room) where
+  pub sum_on : i < length rs → (get_or rs i no_record).len ≤ left
+      → sum (take (i + 1) rs) + (left - (get_or rs i no_record).len) ≡ room
+  sum_on l h = let q = sum_take_suc rs i l in rw (add-one i) (omega arith)
 
-pub sum_start : (k : Kept) (room : ℕ) → Sound k → Summing k room 0 room
-unfolding sum
-sum_start k room h = record { sound = h; inside = omega arith; same = omega arith }
+  pub sum_stop : i < length rs → left < (get_or rs i no_record).len → false ≡ leb (sum rs) room
+  sum_stop l h = let q = sum_at rs i l in sym (lt-leb (sum rs) room (omega arith))
 
-module _ {k : Kept} {room i left : ℕ} {r : ShelfRecord} (s : Summing k room i left) (l : i < k.n)
-    (e : r ≡ get_or k.all i no_record) where
-  len_is : (get_or (list_of k) i no_record).len ≡ r.len
-  len_is = ap (λ (x : ShelfRecord). x.len) (list_at k i l ∙ sym e)
-
-  within : i < length (list_of k)
-  within = rw (list_length k s.sound) l
-
-  pub sum_on : r.len ≤ left → Summing k room (i + 1) (left - r.len)
-  sum_on h =
-      let z = len_is in
-      let q = sum_take_suc (list_of k) i within in
-      let v = s.same in
-      record { sound = s.sound; inside = omega arith; same = rw (add-one i) (omega arith) }
-
-  pub sum_stop : left < r.len → false ≡ leb (sum (list_of k)) room
-  sum_stop h = let z = len_is in let q = sum_at (list_of k) i within in let v = s.same in sym
-      (lt-leb (sum (list_of k)) room (omega arith))
-
-pub sum_end : {k : Kept} {room i left : ℕ} → Summing k room i left → k.n ≤ i → true ≡ leb (sum (list_of k)) room
-sum_end {k} {room} {i} s l =
-    let z : sum (take i (list_of k)) ≡ sum (list_of k) = ap sum
-    (take_all i (list_of k) (rw (list_length k s.sound) l)) in
-    let v = s.same in
-    sym (le-leb (sum (list_of k)) room (omega arith))
+  pub sum_end : length rs ≤ i → true ≡ leb (sum rs) room
+  sum_end l = let z = ap sum (take_all i rs l) in sym (le-leb (sum rs) room (omega arith))
 
 -- ---- one record dropped: those behind it move up, one after the other
 pub record Shifting (k : Kept) (i : ℕ) (b : Kept) (j : ℕ) : Type 0 where
   pub sound : Sound k
   pub low : i ≤ j
-  pub high : j < k.n
+  pub count : b.n + 1 ≡ k.n
   pub wide : length b.all ≡ 64
   pub same : take j b.all ≡ take j (drop_at i k.all)
 
-pub shift_start : (k : Kept) (i : ℕ) → Sound k → i < k.n → Shifting k i k i
+pub shift_start : (k : Kept) (i : ℕ) → Sound k → i < k.n → Shifting k i (record { all = k.all; n = k.n - 1 }) i
 shift_start k i h l = record {
   sound = h;
   low = omega arith;
-  high = l;
+  count = omega arith;
   wide = h.wide;
   same = sym
       (take_before i k.all);
 }
 
-pub shift_on : {k b b' : Kept} {i j : ℕ} {r : ShelfRecord} → Shifting k i b j → j + 1 < k.n
-    → r ≡ get_or k.all (j + 1) no_record → b'.all ≡ set b.all j r
-    → Shifting k i b' (j + 1)
-shift_on {k} {b} {b'} {i} {j} {r} s l e d =
+pub shift_on : {k b b' : Kept} {i j : ℕ} → Shifting k i b j → j < b.n
+    → b'.all ≡ set b.all j (get_or k.all (j + 1) no_record) → b'.n ≡ b.n → Shifting k i b' (j + 1)
+shift_on {k} {b} {b'} {i} {j} s l d m =
+    let r : ShelfRecord = get_or k.all (j + 1) no_record in
     let w : length b.all ≡ 64 = s.wide in
     let w' : length k.all ≡ 64 = s.sound.wide in
     let f : k.n ≤ 64 = s.sound.few in
     let lo : i ≤ j = s.low in
-    let x : r ≡ get_or (drop_at i k.all) j no_record = e ∙ ap (λ (m : ℕ). get_or k.all m no_record) (add-one j)
+    let z : b.n + 1 ≡ k.n = s.count in
+    let x : r ≡ get_or (drop_at i k.all) j no_record = ap (λ (m : ℕ). get_or k.all m no_record) (add-one j)
     ∙ sym (drop_next i j k.all lo) in
-    let m : length (drop_at i k.all) + 1 ≡ length k.all = drop_length i k.all (omega arith) in
+    let y : length (drop_at i k.all) + 1 ≡ length k.all = drop_length i k.all (omega arith) in
     let p : take (suc j) (set b.all j r) ≡ take j b.all ++ (r ∷ []) = take-suc-set b.all j r (omega arith) in
     let q : take (suc j) (drop_at i k.all) ≡ take j (drop_at i k.all) ++ (get_or (drop_at i k.all) j no_record
     ∷ []) = take-suc (drop_at i k.all) j no_record (omega arith) in
     record {
       sound = s.sound;
       low = omega arith;
-      high = l;
+      count = omega arith;
       wide = ap length d ∙ length-set b.all j r ∙ w;
       same = rw (add-one j) (ap (take (suc j)) d ∙ p ∙ ap₂ (λ (t : List ShelfRecord) (y : ShelfRecord). t ++ (y ∷ []))
           s.same x ∙ sym q);
     }
 
-pub shift_end : {k b b' : Kept} {i j : ℕ} → Shifting k i b j → k.n ≤ j + 1 → b'.all ≡ b.all → b'.n ≡ j
-    → (Stands b' (drop_at i (list_of k))) × (b'.n + 1 ≡ k.n)
-shift_end {k} {b} {b'} {i} {j} s l d m =
-    let h : j < k.n = s.high in
+pub shift_end : {k b : Kept} {i j : ℕ} → Shifting k i b j → j ≡ b.n
+    → (Stands b (drop_at i (list_of k))) × (b.n + 1 ≡ k.n)
+shift_end {k} {b} {i} {j} s m =
     let f : k.n ≤ 64 = s.sound.few in
-    let n : suc j ≡ k.n = omega arith in
-    let w : length b'.all ≡ 64 = ap length d ∙ s.wide in (
+    let z : b.n + 1 ≡ k.n = s.count in
+    let n : suc j ≡ k.n = omega arith in (
       record {
-        sound = record { few = omega arith; wide = w };
-        same = ap₂ take m d ∙ s.same ∙ take_drop i j k.all s.low ∙ ap (λ (x : ℕ). drop_at i (take x k.all)) n;
+        sound = record { few = omega arith; wide = s.wide };
+        same = ap (λ (x : ℕ). take x b.all) (sym m) ∙ s.same ∙ take_drop i j k.all s.low
+            ∙ ap (λ (x : ℕ). drop_at i (take x k.all)) n;
       },
-      omega arith,
+      z,
     )
 
 -- ---- making room
@@ -293,19 +265,20 @@ make_end {k} {b} {room} s e f =
     (record { sound = s.sound; same = sym (made b.n room (list_of b) r) ∙ s.same }, omega arith)
 
 -- ---- the oldest
-pub pick_later : (x y best i : ℕ) → x < y → i ≡ cond (ltb x y) i best
-pick_later x y best i l = rw (lt-ltb x y l)
+module _ (rs : List ShelfRecord) (i : ℕ) where
+  oldest_more : oldest_of rs (i + 1) ≡ older rs (oldest_of rs i) i
+  unfolding oldest_of
+  oldest_more = rw (add-one i)
 
-pub pick_first : (x y best i : ℕ) → y ≤ x → best ≡ cond (ltb x y) i best
-pick_first x y best i l = rw (le-ltb x y l)
+  pub oldest_later : (get_or rs i no_record).stamp < (get_or rs (oldest_of rs i) no_record).stamp
+      → oldest_of rs (i + 1) ≡ i
+  unfolding older
+  oldest_later l = oldest_more ∙ rw lt-ltb
 
-pub oldest_on : (rs : List ShelfRecord) (i : ℕ) {best x : ℕ} → best ≡ oldest_of rs i → x ≡ older rs best i
-    → (x ≡ oldest_of rs (i + 1)) × (x ≤ i + 1)
-unfolding oldest_of
-oldest_on rs i {best} {x} e d =
-    let w : x ≡ oldest_of rs (suc i) = d ∙ ap (λ (k : ℕ). older rs k i) e in
-    let l : oldest_of rs (suc i) ≤ suc i = oldest_le rs (suc i) in
-    (rw (add-one i) w, omega arith)
+  pub oldest_kept : (get_or rs (oldest_of rs i) no_record).stamp ≤ (get_or rs i no_record).stamp
+      → oldest_of rs (i + 1) ≡ oldest_of rs i
+  unfolding older
+  oldest_kept l = oldest_more ∙ rw le-ltb
 
 -- ---- without the record of an area
 module _ (k : Kept) (a : Area) {i : ℕ} (e : i ≡ area_place a (list_of k)) where
@@ -449,7 +422,3 @@ module _ (x : Shelf) (room : ℕ) (k : Kept) (a : Area) {n : ℕ} (e : n ≡ fir
       let z = list_length k s in
       let o : area_place a (list_of k) < length (list_of k) = omega arith in
       jump_is h ∙ rw (lt-ltb (area_place a (list_of k)) (length (list_of k)) o, ← d)
-
-pub oldest_end : (rs : List ShelfRecord) (n : ℕ) {best i : ℕ} → best ≡ oldest_of rs i → best ≤ i → i ≡ n
-    → (best ≡ oldest_of rs n) × (best ≤ n)
-oldest_end rs n {best} {i} e l m = (e ∙ ap (oldest_of rs) m, omega arith)

@@ -3,7 +3,7 @@
 
 pub mod table;
 
-ghost use Rattle.std.specs.Prelude.{◌≡◌, cond, [], ◌∷◌, ◌+◌, ◌-◌, ◌<◌, ◌≤◌, leb, ltb, get_or, drop, set, replicate};
+ghost use Rattle.std.specs.Prelude.{◌≡◌, [], ◌∷◌, ◌+◌, ◌-◌, ◌<◌, ◌≤◌, leb, get_or, drop, set, replicate};
 ghost use Rattle.rules.specs.Questions.{area_ok};
 ghost use Rattle.rules.specs.Tests.{ask, first_no};
 ghost use Rattle.rules.specs.Values.{same_area, max64};
@@ -11,7 +11,6 @@ ghost use Rattle.rules_shelf.specs.Shelf.{no_record, area_of, record_of, sum, ar
 ghost use Rattle.shelf.specs.Steps.{Sound, Stands, list_of, Changes};
 ghost use Rattle.shelf.specs.Shelf.{answer, some_of, clamp};
 
-use field::{and, min_u64};
 use rules::MAX_U32;
 use rules_shelf::{MAX_COUNT, MAX_SHELF, Shelf, ShelfRecord};
 use sections::ask;
@@ -60,47 +59,42 @@ fn no_record() -> ShelfRecord
 }
 
 // Are the areas of two records the same?
+#[tactic(auto, unfolding(rules::specs::Tests::all, rules::specs::Values::same_key, rules::specs::Values::same_area))]
 fn same_area(r: ShelfRecord, g: ShelfRecord) -> bool
     ensures { result ≡ same_area (area_of r) (area_of g) }
 {
-    and(
-        and(
-            r.slot == g.slot,
-            and(
-                r.key_start == g.key_start,
-                and(
-                    r.key_end == g.key_end,
-                    and(r.channels == g.channels, r.sectors == g.sectors),
-                ),
-            ),
-        ),
-        and(r.start == g.start, r.end == g.end),
-    )
+    r.slot == g.slot
+        && r.channels == g.channels
+        && r.key_start == g.key_start
+        && r.key_end == g.key_end
+        && r.sectors == g.sectors
+        && r.start == g.start
+        && r.end == g.end
 }
 
 // Question 1 of a record's area.
+#[tactic(auto, unfolding(rules::specs::Tests::all, rules::specs::Questions::area_ok))]
 fn area_ok(g: ShelfRecord) -> bool
     ensures { result ≡ area_ok (area_of g) }
 {
-    and(g.slot <= 1, and(g.start <= g.end, g.end <= MAX_U32))
+    g.slot <= 1 && g.start <= g.end && g.end <= MAX_U32
 }
 
 // The record with another stamp.
 fn stamped(g: ShelfRecord, stamp: u64) -> ShelfRecord
     ensures { result ≡ record_of (area_of g) g.len stamp }
 {
-    let mut r = g;
-    r.stamp = stamp;
-    r
+    ShelfRecord { stamp, ..g }
 }
 
 // ---- records by value
 pub fn empty() -> Kept
     ensures { (result.all ≡ replicate 64 no_record) × (result.n ≡ 0) }
 {
-    let r = no_record();
-    let all = [r; 64];
-    Kept { all, n: 0 }
+    Kept {
+        all: [no_record(); 64],
+        n: 0,
+    }
 }
 
 // One record more, behind the others.
@@ -109,9 +103,8 @@ pub fn pushed(a: Kept, r: ShelfRecord) -> Kept
     ensures { (result.all ≡ set a.all a.n r) × (result.n ≡ a.n + 1) }
 {
     let mut b = a;
-    let n = a.n;
-    b.all[n] = r;
-    b.n = n + 1;
+    b.all[a.n] = r;
+    b.n += 1;
     b
 }
 
@@ -120,8 +113,7 @@ pub fn nth(a: Kept, i: usize) -> ShelfRecord
     requires { i < 64 }
     ensures { result ≡ get_or a.all i no_record }
 {
-    let r = a.all[i];
-    r
+    a.all[i]
 }
 
 // The place of the first record of an area from a place on, n where there is none.
@@ -129,16 +121,12 @@ fn place_from(a: Kept, from: usize, g: ShelfRecord) -> usize
     requires { (Sound a) × (from ≤ a.n) }
     ensures { (result ≡ from + area_place (area_of g) (drop from (list_of a))) × (result ≤ a.n) }
 {
-    let n = a.n;
-    let mut i = from;
-    while i < n {
-        let r = a.all[i];
-        if same_area(r, g) {
+    for i in from..a.n {
+        if same_area(a.all[i], g) {
             return i;
         }
-        i += 1;
     }
-    n
+    a.n
 }
 
 // The place of the record of an area, n where there is none.
@@ -154,13 +142,10 @@ fn no_two(a: Kept) -> bool
     requires { Sound a }
     ensures { result ≡ no_two (list_of a) }
 {
-    let n = a.n;
-    let mut i = 0;
-    while i < n {
-        if place_from(a, i + 1, nth(a, i)) < n {
+    for i in 0..a.n {
+        if place_from(a, i + 1, a.all[i]) < a.n {
             return false;
         }
-        i += 1;
     }
     true
 }
@@ -170,43 +155,27 @@ fn sum_fits(a: Kept, room: u64) -> bool
     requires { Sound a }
     ensures { result ≡ leb (sum (list_of a)) room }
 {
-    let n = a.n;
     let mut left = room;
-    let mut i = 0;
-    while i < n {
-        let r = a.all[i];
+    for r in &a.all[..a.n] {
         if left < r.len {
             return false;
         }
         left -= r.len;
-        i += 1;
     }
     true
 }
 
-// Of two places the later one, where its stamp is lower.
-fn older(best: usize, b: ShelfRecord, i: usize, r: ShelfRecord) -> usize
-    ensures { result ≡ cond (ltb r.stamp b.stamp) i best }
-{
-    if r.stamp < b.stamp {
-        return i;
-    }
-    best
-}
-
 // The place of the lowest stamp, the earlier of equal ones.
+#[tactic(auto, using(crate::proofs::Laws::oldest_later, crate::proofs::Laws::oldest_kept), unfolding(rules_shelf::specs::Shelf::oldest_of))]
 pub fn oldest(a: Kept) -> usize
     requires { a.n ≤ 64 }
     ensures { (result ≡ oldest_of a.all a.n) × (result ≤ a.n) }
 {
-    let n = a.n;
     let mut best = 0;
-    let mut i = 0;
-    while i < n {
-        let r = a.all[i];
-        let b = a.all[best];
-        best = older(best, b, i, r);
-        i += 1;
+    for i in 0..a.n {
+        if a.all[i].stamp < a.all[best].stamp {
+            best = i;
+        }
     }
     best
 }
@@ -216,15 +185,11 @@ pub fn dropped(a: Kept, i: usize) -> Kept
     requires { (Sound a) × (i < a.n) }
     ensures { (Stands result (drop_at i (list_of a))) × (result.n + 1 ≡ a.n) }
 {
-    let n = a.n;
     let mut b = a;
-    let mut j = i;
-    while j + 1 < n {
-        let r = nth(a, j + 1);
-        b.all[j] = r;
-        j += 1;
+    b.n -= 1;
+    for j in i..b.n {
+        b.all[j] = a.all[j + 1];
     }
-    b.n = j;
     b
 }
 
@@ -234,18 +199,16 @@ fn without(a: Kept, g: ShelfRecord) -> Kept
     ensures { Stands result (without (area_of g) (list_of a)) }
 {
     let i = place(a, g);
-    if i < a.n {
-        return dropped(a, i);
-    }
-    a
+    if i < a.n { dropped(a, i) } else { a }
 }
 
 // Is there room for one more, with room bytes for the others?
+#[tactic(auto, using(crate::proofs::Laws::list_length), unfolding(rules::specs::Tests::all, rules_shelf::specs::Shelf::roomy))]
 fn roomy(a: Kept, room: u64) -> bool
     requires { Sound a }
     ensures { result ≡ roomy room (list_of a) }
 {
-    and(a.n < 64, sum_fits(a, room))
+    a.n < 64 && sum_fits(a, room)
 }
 
 // The oldest are dropped until there is room.
@@ -276,22 +239,19 @@ fn restamped(a: Kept, i: usize, stamp: u64) -> Kept
     requires { (Sound a) × (i < a.n) }
     ensures { Stands result (restamped (list_of a) i stamp) }
 {
-    let r = stamped(nth(a, i), stamp);
     let mut b = a;
-    b.all[i] = r;
+    b.all[i].stamp = stamp;
     b
 }
 
 // ---- the questions
 // Question 4.
+#[tactic(auto, unfolding(rules::specs::Tests::all, rules_shelf::specs::Shelf::shelf_ok))]
 fn shelf_ok(a: Kept, shelf: Shelf) -> bool
     requires { Sound a }
     ensures { result ≡ shelf_ok shelf (list_of a) }
 {
-    and(
-        shelf.present <= MAX_SHELF,
-        and(no_two(a), sum_fits(a, shelf.limit)),
-    )
+    shelf.present <= MAX_SHELF && no_two(a) && sum_fits(a, shelf.limit)
 }
 
 // 1, 3, 4 and 51: the number of the first answered no, or 0; room is the length of the table.
@@ -322,13 +282,16 @@ fn unchanged(a: Kept, shelf: Shelf, number: u32, absent: u32) -> Change
         × (result.answer ≡ answer number absent shelf.present shelf.count) }
 {
     let all = a.all;
-    let answer = ShelfAnswer {
-        number,
-        absent,
-        present: shelf.present,
-        count: shelf.count,
-    };
-    Change { all, n: 0, answer }
+    Change {
+        all,
+        n: 0,
+        answer: ShelfAnswer {
+            number,
+            absent,
+            present: shelf.present,
+            count: shelf.count,
+        },
+    }
 }
 
 // The records a are present, and one more call is counted.
@@ -337,16 +300,15 @@ fn changed(a: Kept, shelf: Shelf) -> Change
     ensures { (result.all ≡ a.all) × (result.n ≡ a.n) × (result.answer ≡ answer 0 0 a.n (shelf.count + 1)) }
 {
     let all = a.all;
-    let answer = ShelfAnswer {
-        number: 0,
-        absent: 0,
-        present: a.n as u64,
-        count: shelf.count + 1,
-    };
     Change {
         all,
         n: a.n,
-        answer,
+        answer: ShelfAnswer {
+            number: 0,
+            absent: 0,
+            present: a.n as u64,
+            count: shelf.count + 1,
+        },
     }
 }
 
@@ -359,8 +321,7 @@ pub fn enter_change(a: Kept, room: usize, shelf: Shelf, g: ShelfRecord) -> Chang
     if number != 0 {
         return unchanged(a, shelf, number, 0);
     }
-    let b = entered(a, shelf, g);
-    changed(b, shelf)
+    changed(entered(a, shelf, g), shelf)
 }
 
 // A jump in the area of g.
@@ -376,8 +337,7 @@ pub fn jump_change(a: Kept, room: usize, shelf: Shelf, g: ShelfRecord) -> Change
     if i == a.n {
         return unchanged(a, shelf, 0, 1);
     }
-    let b = restamped(a, i, shelf.count + 1);
-    changed(b, shelf)
+    changed(restamped(a, i, shelf.count + 1), shelf)
 }
 
 // ---- parts of a change
@@ -397,14 +357,13 @@ pub fn count_of(a: Kept) -> usize
 pub fn answer_of(c: Change) -> ShelfAnswer
     ensures { result ≡ c.answer }
 {
-    let r = c.answer;
-    r
+    c.answer
 }
 
 // How many records of a table of room records are taken.
+#[tactic(auto, unfolding(crate::specs::Shelf::clamp))]
 pub fn clamped(shelf: Shelf, room: usize) -> usize
     ensures { result ≡ clamp shelf room }
 {
-    let n = min_u64(shelf.present, MAX_SHELF);
-    min_u64(n, room as u64) as usize
+    shelf.present.min(MAX_SHELF).min(room as u64) as usize
 }

@@ -5,8 +5,7 @@ ghost use Rattle.shelf.specs.Steps.{Stands, written};
 ghost use Rattle.shelf.specs.Shelf.{shelf_out, enter_call, jump_call};
 
 use crate::{
-    Kept, ShelfAnswer, answer_of, clamped, count_of, dropped, empty, enter_change, jump_change,
-    kept_of, nth, place, pushed,
+    Kept, ShelfAnswer, clamped, dropped, enter_change, jump_change, kept_of, no_record, place,
 };
 use rules_shelf::{Shelf, ShelfRecord};
 
@@ -23,13 +22,9 @@ pub fn take_records(s: &mut [ShelfRecord], n: usize) -> Kept
     requires { (n ≤ 64) × (n ≤ length s.old) }
     ensures { (Stands result (take n s.old)) × (s.new ≡ s.old) }
 {
-    let mut a = empty();
-    let mut i = 0;
-    while i < n {
-        a = pushed(a, s[i]);
-        i += 1;
-    }
-    a
+    let mut all = [no_record(); 64];
+    all[..n].copy_from_slice(&s[..n]);
+    Kept { all, n }
 }
 
 // The first n records of a, over the start of the table.
@@ -37,11 +32,7 @@ pub fn write_records(s: &mut [ShelfRecord], a: Kept, n: usize)
     requires { (n ≤ 64) × (n ≤ length s.old) }
     ensures { s.new ≡ written n a.all s.old }
 {
-    let mut i = 0;
-    while i < n {
-        s[i] = nth(a, i);
-        i += 1;
-    }
+    s[..n].copy_from_slice(&a.all[..n]);
 }
 
 // The place of the record of an area among the first n, n where there is none.
@@ -49,8 +40,7 @@ pub fn search(s: &mut [ShelfRecord], n: usize, g: ShelfRecord) -> usize
     requires { (n ≤ 64) × (n ≤ length s.old) }
     ensures { (result ≡ area_place (area_of g) (take n s.old)) × (s.new ≡ s.old) }
 {
-    let a = take_records(s, n);
-    place(a, g)
+    place(take_records(s, n), g)
 }
 
 // Without record number i of the first n, which close up; answers how many are left.
@@ -58,11 +48,9 @@ pub fn drop_record(s: &mut [ShelfRecord], n: usize, i: usize) -> usize
     requires { (n ≤ 64) × (n ≤ length s.old) × (i < n) }
     ensures { (result + 1 ≡ n) × (s.new ≡ drop_at i (take n s.old) ++ drop result s.old) }
 {
-    let a = take_records(s, n);
-    let b = dropped(a, i);
-    let m = count_of(b);
-    write_records(s, b, m);
-    m
+    let b = dropped(take_records(s, n), i);
+    write_records(s, b, b.n);
+    b.n
 }
 
 // ---- what C calls
@@ -71,13 +59,10 @@ pub fn seek_raw_shelf_enter(s: &mut [ShelfRecord], shelf: Shelf, g: ShelfRecord)
     ensures { shelf_out result s.new ≡ enter_call shelf s.old g }
 {
     let room = s.len();
-    let n = clamped(shelf, room);
-    let a = take_records(s, n);
+    let a = take_records(s, clamped(shelf, room));
     let c = enter_change(a, room, shelf, g);
-    let b = kept_of(c);
-    let m = count_of(b);
-    write_records(s, b, m);
-    answer_of(c)
+    write_records(s, kept_of(c), c.n);
+    c.answer
 }
 
 // A jump in the area of g; nothing else of it is read.
@@ -85,11 +70,8 @@ pub fn seek_raw_shelf_jump(s: &mut [ShelfRecord], shelf: Shelf, g: ShelfRecord) 
     ensures { shelf_out result s.new ≡ jump_call shelf s.old g }
 {
     let room = s.len();
-    let n = clamped(shelf, room);
-    let a = take_records(s, n);
+    let a = take_records(s, clamped(shelf, room));
     let c = jump_change(a, room, shelf, g);
-    let b = kept_of(c);
-    let m = count_of(b);
-    write_records(s, b, m);
-    answer_of(c)
+    write_records(s, kept_of(c), c.n);
+    c.answer
 }

@@ -9,8 +9,8 @@ returns-then-number-ne0 c =
     (enter_refused c.args.shelf c.args.room (list_of c.args.a) (area_of c.args.g) c.args.g.len
     c.enter_number-number.ensures c.if-number-ne0.true)
 
-pub entered-b-requires : goal.entered-b-requires
-entered-b-requires c =
+pub entered-requires : goal.entered-requires
+entered-requires c =
     let f = enter_fits c.args.shelf c.args.room (list_of c.args.a) (area_of c.args.g) c.args.g.len
     c.enter_number-number.ensures c.if-number-ne0.false in
     (c.requires, f.0, f.1)
@@ -22,6 +22,6 @@ changed-requires c =
 
 pub returns : goal.returns
 returns c =
-    changes_done {k = c.entered-b.result} _ _ _ c.entered-b.ensures c.changed.ensures
+    changes_done {k = c.entered.result} _ _ _ c.entered.ensures c.changed.ensures
     (enter_done c.args.shelf c.args.room (list_of c.args.a) (area_of c.args.g) c.args.g.len
     c.enter_number-number.ensures c.if-number-ne0.false)

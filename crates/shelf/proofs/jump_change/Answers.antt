@@ -22,8 +22,8 @@ overflow_add-shelf c =
     c.if-number-ne0.false in
     omega arith
 
-pub restamped-b-requires : goal.restamped-b-requires
-restamped-b-requires c =
+pub restamped-requires : goal.restamped-requires
+restamped-requires c =
     let l = c.place-i.ensures.1 in
     let n = c.if-i-a.false in
     (c.requires, omega arith)
@@ -37,6 +37,6 @@ pub returns : goal.returns
 returns c =
     let l = c.place-i.ensures.1 in
     let n = c.if-i-a.false in
-    changes_done {k = c.restamped-b.result} _ _ _ c.restamped-b.ensures c.changed.ensures
+    changes_done {k = c.restamped.result} _ _ _ c.restamped.ensures c.changed.ensures
     (jump_done c.args.shelf c.args.room c.args.a (area_of c.args.g) c.jump_number-number.ensures
     c.if-number-ne0.false c.requires c.place-i.ensures.0 (omega arith))

@@ -1,10 +1,7 @@
 use mathlib.Core.Path.{refl}
 use native.Mathlib.Omega.{arith}
-use Rattle.shelf.proofs.Laws.{seek_start, seek_on, seek_stop, seek_end}
+use Rattle.shelf.proofs.Laws.{seek_on, seek_stop, seek_end}
 use Rattle.shelf.proofs.place_from.Goals as goal
-
-pub loop-i-init : goal.loop-i-init
-loop-i-init c = seek_start _ _ _ c.requires.0 c.requires.1
 
 pub returns-then-same_area : goal.returns-then-same_area
 returns-then-same_area c =
