@@ -4,13 +4,13 @@ use mathlib.Core.Bool.{Bool, true, false, ◌&&◌, ◌||◌, not, cond, and-tru
 use mathlib.Core.List.{List, [], ◌∷◌}
 use Prim.Native.Nat.{ℕ, zero, suc, ◌+◌, ◌*◌, ◌/◌, ◌≤◌}
 use native.Mathlib.Omega.{arith}
-use borrow.Author.Tests.{leb-true, not-true, not-false, eq-eqb, ne_eqb}
+use borrow.Author.Tests.{leb-true, not-false, ne_eqb}
 use lib.Dec.{leb, eqb}
 use lib.ListN.{length}
 use Rattle.field.proofs.Records.{records_length}
 use Rattle.rules.specs.declared.Area.{Area}
 use Rattle.rules.specs.declared.AreaIndex.{AreaIndex}
-use Rattle.rules.specs.Tests.{all, is_some, ask, first_no, after}
+use Rattle.rules.specs.Tests.{all, is_some, ask, first_no}
 use Rattle.rules.specs.Values.{boundaries, stated, frontier_of, counted, used, merge_room}
 use Rattle.rules.specs.Sections.{counts_ok, hints_ok, marks_ok, confirmations_ok, checkpoints_ok, frames_ok, parts_ok, ending_ok, malformed_ok}
 use Rattle.rules.specs.Questions.{area_ok, numbers_ok, scan_room, hinting_room, question1, question2, question3, question4, held_ok, scan_ok, hinting_ok}
@@ -19,8 +19,7 @@ use Rattle.laws.proofs.scans.Parts.{frames_used}
 use Rattle.laws.proofs.Facts.{scan_ok→}
 use Rattle.tables.specs.Tables.{decode_header, headers_in, frames_in, decode_kept, kept_in, confirmations_in}
 use Rattle.tables.proofs.Frames.{frames_length}
-use Rattle.tables.specs.Index.{Tables, room_of, index_in, kinds_ok, kinds_in, kinded_number, refusal, three, room_in, frontier_in, frontier_answer, end_in, hint_room}
-use Rattle.rules.specs.declared.FrontierLsn.TheVariants as front
+use Rattle.tables.specs.Index.{Tables, room_of, index_in, kinds_ok, kinds_in, kinded_number, refusal, three, room_in, end_in, hint_room}
 use Rattle.index.specs.Steps.{Roomy, Long, Passes, held_question4, sections_in, scan_in, hinting_in, sections_ok, hint_counts}
 use Rattle.index.specs.Index.{scan_space}
 use Rattle.index.proofs.Four.{one_bits}
@@ -80,10 +79,10 @@ module _ {x : AreaIndex} {t : Tables} (s : Space x t) where
         malformed = within4 _ _ _ m s.malformed;
       }
 
--- where a count was asked
-pub long_by : {x : AreaIndex} {t : Tables} {b : ℕ} {r : Bool} (whole : Bool) → Roomy x t → b ≡ boundaries x.area x.interval
-    → r ≡ counts_ok b x.checkpoints whole x.frames x.parts x.malformed → not r ≡ false → Long x t.checkpoints t.frames t.parts t.malformed
-long_by whole r e c n = long (space r) whole (rw e at (sym c ∙ not-false _ n))
+-- where the counts were asked
+pub long_by : {x : AreaIndex} {t : Tables} {b : ℕ} (whole : Bool) → Roomy x t → b ≡ boundaries x.area x.interval
+    → counts_ok b x.checkpoints whole x.frames x.parts x.malformed ≡ true → Long x t.checkpoints t.frames t.parts t.malformed
+long_by whole r e c = long (space r) whole (rw e at c)
 
 -- counts first, then sections
 pub scan_is : (x : AreaIndex) (t : Tables)
@@ -100,17 +99,6 @@ scan_is x t =
       records_length 4 decode_lsn x.malformed t.malformed,
     )
 
-module _ (x : AreaIndex) (t : Tables) {b : ℕ} {whole r : Bool} (e : b ≡ boundaries x.area x.interval) (w : whole ≡ is_some (end_in x.ending))
-    (c : r ≡ counts_ok b x.checkpoints whole x.frames x.parts x.malformed) where
-  asked : scan_in x t ≡ (r && sections_in x t)
-  asked = scan_is x t ∙ rw (c, e, w)
-
-  pub scan_no : not r ≡ true → false ≡ scan_in x t
-  scan_no n = sym (asked ∙ rw (not-true r n))
-
-  pub scan_yes : {s : Bool} → not r ≡ false → s ≡ sections_in x t → s ≡ scan_in x t
-  scan_yes n q = q ∙ sym (asked ∙ rw (not-false r n))
-
 pub hinting_is : (x : AreaIndex) (hints confirmed : List ℕ)
     → hinting_in x hints confirmed
     ≡ (hint_counts x.most x.hints x.confirmed
@@ -120,27 +108,6 @@ pub hinting_is : (x : AreaIndex) (hints confirmed : List ℕ)
 unfolding hinting_in hinting_ok hint_counts all
 hinting_is x hints confirmed =
     rw (records_length 8 decode_kept x.hints hints, records_length 16 decode_confirmation x.confirmed confirmed) (simp (and-true, and_assoc))
-
--- the marks are asked with the hints
-marks_last : (a m c b : Bool) → ((a && m) && (c && b)) ≡ (a && (c && (b && m)))
-marks_last false m c b = refl
-marks_last true false false b = refl
-marks_last true false true false = refl
-marks_last true false true true = refl
-marks_last true true false b = refl
-marks_last true true true false = refl
-marks_last true true true true = refl
-
-module _ (x : AreaIndex) (hints confirmed : List ℕ) {q : Bool} (e : q ≡ hint_counts x.most x.hints x.confirmed) where
-  pub hinting_no : not q ≡ true → false ≡ hinting_in x hints confirmed
-  hinting_no n = sym (hinting_is x hints confirmed ∙ rw (← e, not-true q n))
-
-  pub hinting_yes : not q ≡ false
-      → ((hints_ok x.area (kept_in x.hints hints) && marks_ok x.most (kept_in x.hints hints)) && (confirmations_ok x.area (confirmations_in x.confirmed confirmed) && ((eqb x.confirmed 0) || is_some (stated x.fingerprint))))
-      ≡ hinting_in x hints confirmed
-  hinting_yes n =
-      sym (hinting_is x hints confirmed ∙ rw (← e, not-false q n)
-      (sym (marks_last (hints_ok x.area (kept_in x.hints hints)) (marks_ok x.most (kept_in x.hints hints)) (confirmations_ok x.area (confirmations_in x.confirmed confirmed)) ((eqb x.confirmed 0) || is_some (stated x.fingerprint)))))
 
 pub record HintsLong (x : AreaIndex) (s c : List ℕ) : Type 0 where
   pub hints : x.hints * 8 ≤ length s
@@ -168,50 +135,21 @@ pub held_is : (x : AreaIndex) (t : Tables)
 unfolding held_question4 question4 scan_in hinting_in all
 held_is x t = simp (and-true, and_assoc)
 
-module _ (x : AreaIndex) (t : Tables) {q : Bool} (e : q ≡ scan_in x t) where
-  pub held_no : not q ≡ true → false ≡ held_question4 x t
-  held_no n = sym (held_is x t ∙ rw (← e, not-true q n))
-
-  pub held_yes : {a b r : Bool} → not q ≡ false → a ≡ hinting_in x t.hints t.confirmed → b ≡ kinds_ok x.parts t.parts → r ≡ (a && b) → r ≡ held_question4 x t
-  held_yes n p k g = rw (g, p, k) (sym (held_is x t ∙ rw (← e, not-false q n)))
-
 -- what 4 says of the counts
 pub scan_long : {x : AreaIndex} {t : Tables} → Roomy x t → scan_in x t ≡ true → Long x t.checkpoints t.frames t.parts t.malformed
 scan_long {x} {t} r e = long (space r) _ (first _ _ (sym (scan_is x t) ∙ e))
 
-pub parts_long : {x : AreaIndex} {t : Tables} {q : Bool} → Roomy x t → q ≡ scan_in x t → not q ≡ false → x.parts * 24 ≤ length t.parts
-parts_long r e n = (scan_long r (sym e ∙ not-false _ n)).parts
-
 -- ---- sections
-pub sections_are : {steps held ends : Bool} (x : AreaIndex) (t : Tables)
-    → steps ≡ checkpoints_ok x.interval 0 (index_in x t).scan.checkpoints
-    → held ≡ held_ok x.area x.interval x.budget 0 (index_in x t).scan.checkpoints (index_in x t).scan.frames (index_in x t).scan.parts
-    → ends ≡ (ending_ok x.area (index_in x t).scan.checkpoints (end_in x.ending)
-    && malformed_ok x.area (frontier_of x.area x.interval x.checkpoints (end_in x.ending)) (counted (index_in x t).scan.checkpoints (end_in x.ending)) (index_in x t).scan.malformed)
-    → (steps && (held && ends)) ≡ sections_in x t
+pub sections_is : (x : AreaIndex) (t : Tables)
+    → sections_in x t
+    ≡ (checkpoints_ok x.interval 0 (index_in x t).scan.checkpoints
+    && (held_ok x.area x.interval x.budget 0 (index_in x t).scan.checkpoints (index_in x t).scan.frames (index_in x t).scan.parts
+    && (ending_ok x.area (index_in x t).scan.checkpoints (end_in x.ending)
+    && malformed_ok x.area (frontier_of x.area x.interval x.checkpoints (end_in x.ending)) (counted (index_in x t).scan.checkpoints (end_in x.ending)) (index_in x t).scan.malformed)))
 unfolding sections_in sections_ok all
-sections_are x t a b c = rw (a, b, c, records_length 24 decode_checkpoint x.checkpoints t.checkpoints) (simp and-true)
+sections_is x t = rw (records_length 24 decode_checkpoint x.checkpoints t.checkpoints) (simp and-true)
 
 -- ---- 1 to 3
-module _ (x : AreaIndex) (t : Tables) {a : Bool} (p : a ≡ area_ok x.area) where
-  pub no_1 : not a ≡ true → 1 ≡ three x t
-  unfolding three first_no question1
-  no_1 n = sym (rw (← p, not-true a n))
-
-  module _ (m : not a ≡ false) {b : Bool} (q : b ≡ numbers_ok x.interval x.budget) where
-    pub no_2 : not b ≡ true → 2 ≡ three x t
-    unfolding three first_no question1 question2
-    no_2 n = sym (rw (← p, not-false a m, ← q, not-true b n))
-
-    module _ (l : not b ≡ false) {c : Bool} (s : c ≡ room_in x t) where
-      pub no_3 : not c ≡ true → 3 ≡ three x t
-      unfolding three first_no question1 question2 room_in
-      no_3 n = sym (rw (← p, not-false a m, ← q, not-false b l, ← s, not-true c n))
-
-      pub yes_3 : not c ≡ false → 0 ≡ three x t
-      unfolding three first_no question1 question2 room_in
-      yes_3 n = sym (rw (← p, not-false a m, ← q, not-false b l, ← s, not-false c n))
-
 -- the answers behind a number
 firsts : (a b c : Bool) → first_no (ask a 1 ∷ ask b 2 ∷ ask c 3 ∷ []) ≡ 0 → (a ≡ true) × (b ≡ true) × (c ≡ true)
 unfolding first_no
@@ -237,20 +175,9 @@ then_4 ok true false c d = one_bits ok true false c d
 then_4 ok true true false d = one_bits ok true true false d
 then_4 ok true true true d = one_bits ok true true true d
 
-module _ (x : AreaIndex) (t : Tables) where
-  refusal_is : refusal x t ≡ cond (eqb (three x t) 0) (cond (held_question4 x t) 0 4) (three x t)
-  unfolding refusal three held_question4
-  refusal_is = then_4 (kinds_in x t) (question1 (index_in x t)) (question2 (index_in x t)) (question3 (room_of t) (index_in x t)) (question4 (index_in x t))
-
-  pub refused_by : {n : ℕ} → n ≡ three x t → (n ≡ 0 → ⊥) → n ≡ refusal x t
-  refused_by {n} e h = sym (refusal_is ∙ rw (← e, ne_eqb n 0 h))
-
-  module _ {n : ℕ} (e : n ≡ three x t) (z : n ≡ 0) {q : Bool} (h : q ≡ held_question4 x t) where
-    pub no_4 : not q ≡ true → 4 ≡ refusal x t
-    no_4 m = sym (refusal_is ∙ rw (← e, eq-eqb n 0 z, ← h, not-true q m))
-
-    pub no_0 : not q ≡ false → 0 ≡ refusal x t
-    no_0 m = sym (refusal_is ∙ rw (← e, eq-eqb n 0 z, ← h, not-false q m))
+pub refusal_is : (x : AreaIndex) (t : Tables) → refusal x t ≡ cond (eqb (three x t) 0) (cond (held_question4 x t) 0 4) (three x t)
+unfolding refusal three held_question4
+refusal_is x t = then_4 (kinds_in x t) (question1 (index_in x t)) (question2 (index_in x t)) (question3 (room_of t) (index_in x t)) (question4 (index_in x t))
 
 fourth : (d : Bool) (n : ℕ) → cond (eqb n 0) (cond d 0 4) n ≡ 0 → (n ≡ 0) × (d ≡ true)
 fourth true zero e = (refl, refl)
@@ -305,14 +232,3 @@ unfolding room_in question3 scan_room
 passes_store {x} {t} p =
     let b : x.budget ≤ length t.store = leb-true _ _ (test _ (test _ p.roomy.room 0) 3) in
     omega (arith, frames_used x.area x.budget (frames_in x.frames t.frames t.store) (passes_frames p))
-
--- ---- the frontier
-module _ (x : AreaIndex) {a : Bool} (p : a ≡ area_ok x.area) where
-  pub front_no : not a ≡ true → frontier_answer (front.Refused 1) ≡ frontier_in x
-  unfolding frontier_answer frontier_in first_no after
-  front_no n = let q : area_ok x.area ≡ false = sym p ∙ not-true a n in rw q
-
-  pub front_yes : {r : ℕ} → not a ≡ false → r ≡ frontier_of x.area x.interval x.checkpoints (end_in x.ending)
-      → frontier_answer (front.Lsn r) ≡ frontier_in x
-  unfolding frontier_answer frontier_in first_no after
-  front_yes n e = let q : area_ok x.area ≡ true = sym p ∙ not-false a n in rw (q, e)

@@ -13,7 +13,6 @@ ghost use Rattle.index.specs.Steps.{Long, Roomy, held_question4, sections_in, sc
 ghost use Rattle.index.specs.Index.{scan_space};
 
 use crate::room::{fits, hinting_room, question1, question2};
-use field::{and, or};
 use rules::{AreaIndex, Fingerprint, FrontierLsn, MAX_HINTS, MAX_MALFORMED_WARNINGS};
 use sections::records::{check_checkpoints, check_confirmations, check_kept};
 use sections::{area_boundaries, counts_ok, ends_ok, frontier_of, held_ok, is_complete_end};
@@ -21,6 +20,7 @@ use tables::kinds::check_kinds;
 
 // ---- 3
 // The tables that a recorder has too; count is the number of boundaries.
+#[tactic(auto, using(std::proofs::lemmas::Bool::Decides::nat_tests), unfolding(crate::specs::Index::scan_space, rules::specs::Questions::scan_room, rules::specs::Tests::all))]
 pub fn scan_room(
     count: u64,
     budget: u64,
@@ -31,14 +31,14 @@ pub fn scan_room(
 ) -> bool
     ensures { result ≡ scan_space count budget checkpoints.now frames.now store.now parts.now }
 {
-    let rest = and(fits(count, parts, 24), budget <= store.len() as u64);
-    and(
-        fits(count, checkpoints, 24),
-        and(fits(count, frames, 8), rest),
-    )
+    fits(count, checkpoints, 24)
+        && fits(count, frames, 8)
+        && fits(count, parts, 24)
+        && budget <= store.len() as u64
 }
 
 // The tables of an index.
+#[tactic(auto, using(crate::proofs::Questions::room_is))]
 pub fn question3(
     x: AreaIndex,
     checkpoints: &[u8],
@@ -52,39 +52,27 @@ pub fn question3(
     requires { area_ok x.area ≡ true }
     ensures { result ≡ room_in x (tables checkpoints.now frames.now store.now parts.now malformed.now hints.now confirmed.now) }
 {
-    let area = x.area;
-    let b = area_boundaries(area, x.interval);
-    let rest = and(
-        fits(MAX_MALFORMED_WARNINGS as u64, malformed, 4),
-        hinting_room(x.most, hints, confirmed),
-    );
-    and(
-        scan_room(b, x.budget, checkpoints, frames, store, parts),
-        rest,
-    )
+    let b = area_boundaries(x.area, x.interval);
+    scan_room(b, x.budget, checkpoints, frames, store, parts)
+        && fits(MAX_MALFORMED_WARNINGS as u64, malformed, 4)
+        && hinting_room(x.most, hints, confirmed)
 }
 
 // ---- parts of 4
 
+#[tactic(auto, unfolding(rules::specs::Tests::is_some, rules::specs::Values::stated))]
 pub fn is_stated(f: Fingerprint) -> bool
     ensures { result ≡ is_some (stated f) }
 {
-    match f {
-        Fingerprint::Unknown => false,
-        Fingerprint::Held(_) => true,
-        Fingerprint::Checked(_) => true,
-    }
+    !matches!(f, Fingerprint::Unknown)
 }
 
 // Has the fingerprint the checked mark?
+#[tactic(auto, unfolding(rules::specs::Values::is_checked))]
 pub fn is_checked(f: Fingerprint) -> bool
     ensures { result ≡ is_checked f }
 {
-    match f {
-        Fingerprint::Unknown => false,
-        Fingerprint::Held(_) => false,
-        Fingerprint::Checked(_) => true,
-    }
+    matches!(f, Fingerprint::Checked(_))
 }
 
 // Checkpoints, frames, parts, end state and malformed LSNs, their counts apart.
@@ -98,37 +86,32 @@ fn sections_ok(
     requires { (Long x checkpoints.now frames.now parts.now malformed.now) × (area_ok x.area ≡ true) }
     ensures { (store hints confirmed : List ℕ) → result ≡ sections_in x (tables checkpoints.now frames.now store parts.now malformed.now hints confirmed) }
 {
-    let area = x.area;
-    let ending = x.ending;
     let n = x.checkpoints as usize;
-    let f = x.frames as usize;
-    let h = x.parts as usize;
-    let m = x.malformed as usize;
-    let steps = check_checkpoints(checkpoints, n, x.interval, 0);
-    let held = held_ok(
-        area,
-        x.interval,
-        x.budget,
-        0,
-        checkpoints,
-        n,
-        frames,
-        f,
-        parts,
-        h,
-    );
-    let ends = ends_ok(
-        area,
-        x.interval,
-        ending,
-        checkpoints,
-        x.checkpoints,
-        malformed,
-        m,
-    );
-    and(steps, and(held, ends))
+    check_checkpoints(checkpoints, n, x.interval, 0)
+        && held_ok(
+            x.area,
+            x.interval,
+            x.budget,
+            0,
+            checkpoints,
+            n,
+            frames,
+            x.frames as usize,
+            parts,
+            x.parts as usize,
+        )
+        && ends_ok(
+            x.area,
+            x.interval,
+            x.ending,
+            checkpoints,
+            x.checkpoints,
+            malformed,
+            x.malformed as usize,
+        )
 }
 
+#[tactic(auto, using(crate::proofs::Questions::scan_is))]
 fn scan_ok(
     x: AreaIndex,
     checkpoints: &[u8],
@@ -142,42 +125,33 @@ fn scan_ok(
     requires { Roomy x (tables checkpoints.now frames.now store.now parts.now malformed.now hints.now confirmed.now) }
     ensures { result ≡ scan_in x (tables checkpoints.now frames.now store.now parts.now malformed.now hints.now confirmed.now) }
 {
-    let area = x.area;
-    let ending = x.ending;
-    let b = area_boundaries(area, x.interval);
-    let whole = is_complete_end(ending);
-    if !counts_ok(b, x.checkpoints, whole, x.frames, x.parts, x.malformed) {
-        return false;
-    }
-    sections_ok(x, checkpoints, frames, parts, malformed)
+    let b = area_boundaries(x.area, x.interval);
+    let whole = is_complete_end(x.ending);
+    counts_ok(b, x.checkpoints, whole, x.frames, x.parts, x.malformed)
+        && sections_ok(x, checkpoints, frames, parts, malformed)
 }
 
+#[tactic(auto, using(std::proofs::lemmas::Bool::Decides::nat_tests), unfolding(crate::specs::Steps::hint_counts, rules::specs::Tests::all))]
 fn hint_counts(most: u32, s: u32, c: u32) -> bool
     ensures { result ≡ hint_counts most s c }
 {
-    and(most <= MAX_HINTS, and(s <= most, c <= most))
+    most <= MAX_HINTS && s <= most && c <= most
 }
 
 // Hints and their kept marks, and confirmations only beside a fingerprint.
+#[tactic(auto, using(std::proofs::lemmas::Bool::Decides::nat_tests, crate::proofs::Questions::hinting_is))]
 fn hinting_ok(x: AreaIndex, hints: &[u8], confirmed: &[u8]) -> bool
     requires { hint_room x.most hints.now confirmed.now ≡ true }
     ensures { result ≡ hinting_in x hints.now confirmed.now }
 {
-    if !hint_counts(x.most, x.hints, x.confirmed) {
-        return false;
-    }
-    let area = x.area;
-    let fingerprint = x.fingerprint;
-    let s = x.hints as usize;
-    let c = x.confirmed as usize;
-    let beside = or(x.confirmed == 0, is_stated(fingerprint));
-    and(
-        check_kept(hints, s, area, x.most),
-        and(check_confirmations(confirmed, c, area), beside),
-    )
+    hint_counts(x.most, x.hints, x.confirmed)
+        && check_kept(hints, x.hints as usize, x.area, x.most)
+        && check_confirmations(confirmed, x.confirmed as usize, x.area)
+        && (x.confirmed == 0 || is_stated(x.fingerprint))
 }
 
 // ---- 4
+#[tactic(auto, using(crate::proofs::Questions::held_is))]
 fn question4(
     x: AreaIndex,
     checkpoints: &[u8],
@@ -191,7 +165,7 @@ fn question4(
     requires { Roomy x (tables checkpoints.now frames.now store.now parts.now malformed.now hints.now confirmed.now) }
     ensures { result ≡ held_question4 x (tables checkpoints.now frames.now store.now parts.now malformed.now hints.now confirmed.now) }
 {
-    if !scan_ok(
+    scan_ok(
         x,
         checkpoints,
         frames,
@@ -200,15 +174,13 @@ fn question4(
         malformed,
         hints,
         confirmed,
-    ) {
-        return false;
-    }
-    let h = x.parts as usize;
-    and(hinting_ok(x, hints, confirmed), check_kinds(parts, h))
+    ) && hinting_ok(x, hints, confirmed)
+        && check_kinds(parts, x.parts as usize)
 }
 
 // ---- 1 to 3, and 1 to 4
 // The number of the first of questions 1 to 3 answered no, 0 for none.
+#[tactic(auto, unfolding(tables::specs::Index::three, tables::specs::Index::room_in, rules::specs::Questions::question1, rules::specs::Questions::question2, rules::specs::Tests::first_no))]
 pub fn first_three(
     x: AreaIndex,
     checkpoints: &[u8],
@@ -221,8 +193,7 @@ pub fn first_three(
 ) -> u32
     ensures { result ≡ three x (tables checkpoints.now frames.now store.now parts.now malformed.now hints.now confirmed.now) }
 {
-    let area = x.area;
-    if !question1(area) {
+    if !question1(x.area) {
         return 1;
     }
     if !question2(x.interval, x.budget) {
@@ -244,6 +215,7 @@ pub fn first_three(
 }
 
 // The number of the first of questions 1 to 4 answered no, 0 for none.
+#[tactic(auto, using(std::proofs::lemmas::Bool::Decides::nat_tests, crate::proofs::Questions::refusal_is))]
 pub fn refuses(
     x: AreaIndex,
     checkpoints: &[u8],
@@ -285,20 +257,18 @@ pub fn refuses(
 }
 
 // ---- readers
+#[tactic(auto, unfolding(tables::specs::Index::frontier_in, tables::specs::Index::frontier_answer, rules::specs::Tests::first_no, rules::specs::Tests::after))]
 pub fn frontier(x: AreaIndex) -> FrontierLsn
     ensures { frontier_answer result ≡ frontier_in x }
 {
-    let area = x.area;
-    let ending = x.ending;
-    if !question1(area) {
+    if !question1(x.area) {
         return FrontierLsn::Refused(1);
     }
-    FrontierLsn::Lsn(frontier_of(area, x.interval, x.checkpoints, ending))
+    FrontierLsn::Lsn(frontier_of(x.area, x.interval, x.checkpoints, x.ending))
 }
 
 pub fn is_complete(x: AreaIndex) -> bool
     ensures { result ≡ is_some (end_in x.ending) }
 {
-    let ending = x.ending;
-    is_complete_end(ending)
+    is_complete_end(x.ending)
 }

@@ -1,28 +1,24 @@
 // Questions 1 and 2, the space that 3 asks of the tables of hints, and the lower of two refusal numbers.
+#![tactic(auto, using(std::proofs::lemmas::Bool::Decides::nat_tests), unfolding(rules::specs::Questions::area_ok, rules::specs::Questions::numbers_ok, rules::specs::Questions::hinting_room, rules::specs::Tests::all, tables::specs::Index::hint_room, tables::specs::Index::lowest))]
+
 ghost use Rattle.std.specs.Prelude.{◌≡◌, ◌/◌, ◌<◌, leb, length};
 ghost use Rattle.rules.specs.Questions.{area_ok, numbers_ok};
 ghost use Rattle.tables.specs.Index.{hint_room, lowest};
 
-use field::and;
 use rules::{Area, MAX_INTERVAL, MAX_U32, MERGE_ROOM};
 
 // Question 1 of an area.
 pub fn question1(area: Area) -> bool
     ensures { result ≡ area_ok area }
 {
-    let key = area.key;
-    let range = and(area.start <= area.end, area.end <= MAX_U32);
-    and(key.slot <= 1, range)
+    area.key.slot <= 1 && area.start <= area.end && area.end <= MAX_U32
 }
 
 // Question 2 of an interval and a budget.
 pub fn question2(interval: u32, budget: u64) -> bool
     ensures { result ≡ numbers_ok interval budget }
 {
-    and(
-        1 <= interval,
-        and(interval <= MAX_INTERVAL, budget <= MAX_U32),
-    )
+    1 <= interval && interval <= MAX_INTERVAL && budget <= MAX_U32
 }
 
 // Has t space for count records of width bytes?
@@ -37,10 +33,7 @@ pub fn fits(count: u64, t: &[u8], width: usize) -> bool
 pub fn hinting_room(most: u32, hints: &[u8], confirmed: &[u8]) -> bool
     ensures { result ≡ hint_room most hints.now confirmed.now }
 {
-    and(
-        fits(most as u64 + MERGE_ROOM, hints, 8),
-        fits(most as u64 + 1, confirmed, 16),
-    )
+    fits(most as u64 + MERGE_ROOM, hints, 8) && fits(most as u64 + 1, confirmed, 16)
 }
 
 // The lower of two refusal numbers, where 0 is none.
@@ -53,5 +46,5 @@ pub fn lowest(m: u32, n: u32) -> u32
     if n == 0 {
         return m;
     }
-    if m <= n { m } else { n }
+    m.min(n)
 }

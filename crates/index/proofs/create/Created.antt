@@ -1,10 +1,9 @@
 -- What new and the fingerprint entry answer, by the numbers that refuse. Assumes nothing.
-use mathlib.Core.Path.{◌≡◌, refl, sym, ap, ◌∙◌}
-use mathlib.Core.Bool.{Bool, true, false, not, cond}
+use mathlib.Core.Path.{◌≡◌, refl, ap, ◌∙◌}
+use mathlib.Core.Bool.{Bool, true, false, cond}
 use mathlib.Core.List.{[], ◌∷◌}
 use mathlib.Core.Option.{some}
 use Prim.Native.Nat.{ℕ}
-use borrow.Author.Tests.{eq-eqb, ne_eqb, not-true, not-false}
 use lib.Dec.{eqb}
 use Rattle.rules.specs.declared.Area.{Area}
 use Rattle.rules.specs.declared.AreaIndex.{AreaIndex}
@@ -14,9 +13,8 @@ use Rattle.rules.specs.Values.{Index, stated}
 use Rattle.rules.specs.Questions.{question1, question2, question3}
 use Rattle.rules.specs.Create.{new, bound, bind_fingerprint}
 use Rattle.rules.proofs.Tests.{test}
-use Rattle.rules.specs.declared.Made.TheVariants as made
 use Rattle.tables.specs.Index.{Tables, index_in, numbers_from, three, refusal}
-use Rattle.index.specs.Index.{numbers_of, made_of, new_in, bound_in}
+use Rattle.index.specs.Index.{numbers_of, new_in, bound_in}
 use Rattle.index.specs.Steps.{fresh_of, checked_of}
 use Rattle.index.proofs.Four.{kinded_index}
 use Rattle.index.proofs.Back.{numbers_with}
@@ -31,21 +29,10 @@ numbers_after : (n : ℕ) (x : Index) → numbers_of (after n (Accepted x)) ≡ 
 unfolding after
 numbers_after n x = numbers_cond (eqb n 0) n x
 
-module _ (t : Tables) (a : Area) (k budget spacing most : ℕ) {x : AreaIndex} {n : ℕ} (f : x ≡ fresh_of a k budget spacing most) (e : n ≡ three x t) where
-  number : n ≡ three (fresh_of a k budget spacing most) t
-  number = rw f at e
-
-  new_is : new_in t a k budget spacing most ≡ after n (Accepted x)
-  unfolding new_in new fresh_of three question1 question2 question3
-  new_is = numbers_after _ _ ∙ rw (f, number)
-
-  pub new_no : (n ≡ 0 → ⊥) → made_of (made.Refused n) ≡ new_in t a k budget spacing most
-  unfolding made_of after
-  new_no h = sym (new_is ∙ rw (ne_eqb n 0 h))
-
-  pub new_yes : n ≡ 0 → made_of (made.Index x) ≡ new_in t a k budget spacing most
-  unfolding made_of after
-  new_yes h = sym (new_is ∙ rw (eq-eqb n 0 h))
+pub new_is : (t : Tables) (a : Area) (k budget spacing most : ℕ)
+    → new_in t a k budget spacing most ≡ after (three (fresh_of a k budget spacing most) t) (Accepted (fresh_of a k budget spacing most))
+unfolding new_in new fresh_of three question1 question2 question3
+new_is t a k budget spacing most = numbers_after _ _
 
 -- ---- the fingerprint entry
 checked_is : (x : AreaIndex) (t : Tables) (v : ℕ) → numbers_from (bound (index_in x t) v) ≡ checked_of x v
@@ -61,22 +48,10 @@ numbers_after_two : (n m : ℕ) (x : Index) → numbers_of (after n (after m (Ac
 unfolding after numbers_of
 numbers_after_two n m x = test (eqb n 0) (λ e. rw e (numbers_after m x)) (λ e. rw e)
 
-module _ (x : AreaIndex) (t : Tables) (v : ℕ) {n : ℕ} (e : n ≡ refusal x t) where
-  bound_is : bound_in x t v
-      ≡ cond (eqb n 0) (cond (agree eqb (stated x.fingerprint) (some v)) (Accepted (numbers_from (bound (index_in x t) v))) (Refused 15)) (Refused n)
-  unfolding bound_in bind_fingerprint each
-  bound_is =
-      ap numbers_of (kinded_index x t (ask (agree eqb (stated x.fingerprint) (some v)) 15 ∷ []) refl e _) ∙ numbers_after_two n _ _ ∙ after_15 n _ _
-
-  pub bound_no : (n ≡ 0 → ⊥) → made_of (made.Refused n) ≡ bound_in x t v
-  unfolding made_of
-  bound_no h = sym (bound_is ∙ rw (ne_eqb n 0 h))
-
-  module _ (z : n ≡ 0) {g : Bool} (q : g ≡ agree eqb (stated x.fingerprint) (some v)) where
-    pub bound_other : not g ≡ true → made_of (made.Refused 15) ≡ bound_in x t v
-    unfolding made_of
-    bound_other h = sym (bound_is ∙ rw (eq-eqb n 0 z, ← q, not-true g h))
-
-    pub bound_yes : {y : AreaIndex} → not g ≡ false → y ≡ checked_of x v → made_of (made.Index y) ≡ bound_in x t v
-    unfolding made_of
-    bound_yes h p = rw (p, ← checked_is x t v) (sym (bound_is ∙ rw (eq-eqb n 0 z, ← q, not-false g h)))
+pub bound_is : (x : AreaIndex) (t : Tables) (v : ℕ)
+    → bound_in x t v
+    ≡ cond (eqb (refusal x t) 0) (cond (agree eqb (stated x.fingerprint) (some v)) (Accepted (checked_of x v)) (Refused 15)) (Refused (refusal x t))
+unfolding bound_in bind_fingerprint each
+bound_is x t v =
+    rw (← checked_is x t v)
+    (ap numbers_of (kinded_index x t (ask (agree eqb (stated x.fingerprint) (some v)) 15 ∷ []) refl refl _) ∙ numbers_after_two (refusal x t) _ _ ∙ after_15 (refusal x t) _ _)
