@@ -65,7 +65,7 @@ module _ (r : Recorder) (t : RecorderTables) {n : ℕ} (e : n ≡ recorder_refus
     passes_held = (asked _ refl (sym (refusal_is r t) ∙ sym e ∙ z)).1.1.1.0
 
     pub passes_long : Long r t.checkpoints t.frames t.parts
-    passes_long = long_by (spaced passes_roomy) _ (sym (and_left _ _ (sym (held_is r t) ∙ passes_held))) refl
+    passes_long = long_by (spaced passes_roomy) _ refl (and_left _ _ (sym (held_is r t) ∙ passes_held))
 
   -- ---- finish
   module _ (s : EndState) where

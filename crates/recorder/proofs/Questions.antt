@@ -40,10 +40,10 @@ spaced s =
 
 module _ {b : ℕ} {r : Recorder} {cs fs ps : List ℕ} (s : Spaced b r cs fs ps) where
   pub long_by : {q : Bool} (whole : Bool)
-      → q ≡ stretch_counts b r.first r.checkpoints whole r.frames r.parts → not q ≡ false → Long r cs fs ps
+      → q ≡ stretch_counts b r.first r.checkpoints whole r.frames r.parts → q ≡ true → Long r cs fs ps
   unfolding stretch_counts
   long_by whole e n =
-      let c = sym e ∙ not-false _ n in
+      let c = sym e ∙ n in
       let k : r.first + r.checkpoints ≤ b = leb-true _ _ (test _ c 0) in
       let h : r.parts ≤ r.checkpoints = leb-true _ _ (test _ c 2) in
       let f : r.frames ≤ r.parts = leb-true _ _ (test _ c 3) in
@@ -64,7 +64,7 @@ module _ (r : Recorder) (t : RecorderTables) where
   pub stretch_are : {steps filling held ending : Bool} {e : Option EndState} → steps ≡ checkpoints_ok r.interval r.first (recorder_in r t).checkpoints
       → filling ≡ frames_ok r.area r.budget (recorder_in r t).frames
       → held ≡ parts_ok r.area r.interval r.first (recorder_in r t).checkpoints (recorder_in r t).frames (recorder_in r t).parts
-      → e ≡ end_of r.mode → ending ≡ ending_ok r.area (recorder_in r t).checkpoints e → (steps && ((filling && held) && ending)) ≡ stretch_in r t
+      → e ≡ end_of r.mode → ending ≡ ending_ok r.area (recorder_in r t).checkpoints e → (steps && (filling && (held && ending))) ≡ stretch_in r t
   unfolding stretch_in held_ok all
   stretch_are a b c d e = rw (a, b, c, e, d) (simp (and-true, and_assoc))
 
@@ -82,11 +82,11 @@ module _ (r : Recorder) (t : RecorderTables) where
     asked : recorder_held r t ≡ (q && (stretch_in r t && recorder_kinds r t))
     asked = held_is ∙ rw (e, i, w)
 
-    pub held_no : not q ≡ true → false ≡ recorder_held r t
-    held_no n = sym (asked ∙ rw (not-true q n))
+    pub held_no : q ≡ false → false ≡ recorder_held r t
+    held_no n = sym (asked ∙ rw n)
 
-    pub held_yes : {x y z : Bool} → not q ≡ false → x ≡ stretch_in r t → y ≡ recorder_kinds r t → z ≡ (x && y) → z ≡ recorder_held r t
-    held_yes n g k h = rw (h, g, k) (sym (asked ∙ rw (not-false q n)))
+    pub held_yes : {x y : Bool} → q ≡ true → x ≡ stretch_in r t → y ≡ recorder_kinds r t → (x && y) ≡ recorder_held r t
+    held_yes n g k = rw (g, k) (sym (asked ∙ rw n))
 
   -- ---- 1 to 4
   pub refusal_is : recorder_refusal r t

@@ -3,12 +3,12 @@ ghost use Rattle.std.specs.Prelude.{◌≡◌};
 ghost use Rattle.recorder.specs.Recorder.{boundary_at, checkpoint_lsn, due_at};
 
 use crate::modes::is_running;
-use field::and;
 use index::room::{question1, question2};
 use rules::{Area, AreaIndex, Boundary, Recorder};
 use sections::{area_boundaries, lsn_at};
 
 // Boundary number j, where it is wanted.
+#[tactic(auto, unfolding(crate::specs::Recorder::boundary_at))]
 fn boundary_at(area: Area, interval: u32, budget: u64, j: u64, wanted: bool) -> Boundary
     ensures { result ≡ boundary_at area interval budget j wanted }
 {
@@ -18,28 +18,24 @@ fn boundary_at(area: Area, interval: u32, budget: u64, j: u64, wanted: bool) -> 
     if !question2(interval, budget) {
         return Boundary::Refused(2);
     }
-    let b = area_boundaries(area, interval);
-    let there = and(wanted, j < b);
-    if !there {
-        return Boundary::Nothing;
+    if wanted && j < area_boundaries(area, interval) {
+        Boundary::Lsn(lsn_at(area, interval, j as u32))
+    } else {
+        Boundary::Nothing
     }
-    Boundary::Lsn(lsn_at(area, interval, j as u32))
 }
 
 // The LSN of an index's checkpoint number j, held or not.
 pub fn checkpoint_lsn(x: AreaIndex, j: u32) -> Boundary
     ensures { result ≡ checkpoint_lsn x j }
 {
-    let area = x.area;
-    boundary_at(area, x.interval, x.budget, j as u64, true)
+    boundary_at(x.area, x.interval, x.budget, j as u64, true)
 }
 
 // The due LSN of a recorder; nothing where every boundary is passed, or it is finished or stopped.
 pub fn due_lsn(r: Recorder) -> Boundary
     ensures { result ≡ due_at r }
 {
-    let area = r.area;
-    let mode = r.mode;
     let j = r.first as u64 + r.checkpoints as u64;
-    boundary_at(area, r.interval, r.budget, j, is_running(mode))
+    boundary_at(r.area, r.interval, r.budget, j, is_running(r.mode))
 }

@@ -1,7 +1,6 @@
 // A recorder: its numbers by value, and its lists in four lent tables. Questions 1 to 4, the recorder of an index, record and finish.
 #![tactic(auto)]
 
-mod asked;
 pub mod boundary;
 mod modes;
 pub mod record;
@@ -15,7 +14,6 @@ ghost use Rattle.recorder.specs.Recorder.{started_in, finished_in, mode_of};
 ghost use Rattle.recorder.specs.Steps.{recorder_held, stretch_counts, stretch_in, Spaced, Long, empty_of};
 
 use crate::modes::{at_end, mode_of};
-use field::{and, or};
 use index::room::{question1, question2};
 use index::{refuses, scan_room};
 use rules::{AreaIndex, End, EndState, Mode, Recorded, Recorder};
@@ -26,34 +24,31 @@ use tables::kinds::check_kinds;
 
 // ---- the end state
 // The end state that a recorder has.
+#[tactic(auto, unfolding(tables::specs::Index::end_in, rules::specs::Questions::end_of))]
 pub fn end_of(mode: Mode) -> End
     ensures { end_in result ≡ end_of mode }
 {
     match mode {
-        Mode::Running => End::Open,
         Mode::Finished(e) => End::Closed(e),
-        Mode::Stopped => End::Open,
+        Mode::Running | Mode::Stopped => End::Open,
     }
 }
 
+#[tactic(auto, unfolding(rules::specs::Tests::is_some, rules::specs::Questions::end_of))]
 fn is_finished(mode: Mode) -> bool
     ensures { result ≡ is_some (end_of mode) }
 {
-    match mode {
-        Mode::Running => false,
-        Mode::Finished(_) => true,
-        Mode::Stopped => false,
-    }
+    matches!(mode, Mode::Finished(_))
 }
 
 // ---- 4
 // The counts, of b boundaries.
+#[tactic(auto, unfolding(crate::specs::Steps::stretch_counts, rules::specs::Tests::all))]
 fn counts_fit(b: u64, first: u32, n: u32, whole: bool, f: u32, h: u32) -> bool
     ensures { result ≡ stretch_counts b first n whole f h }
 {
     let passed = first as u64 + n as u64;
-    let full = or(!whole, passed == b);
-    and(passed <= b, and(full, and(h <= n, f <= h)))
+    passed <= b && (!whole || passed == b) && h <= n && f <= h
 }
 
 // Checkpoints, frames, parts and end state, their counts apart.
@@ -61,18 +56,25 @@ fn stretch_ok(r: Recorder, checkpoints: &[u8], frames: &[u8], parts: &[u8]) -> b
     requires { Long r checkpoints.now frames.now parts.now }
     ensures { (store : List ℕ) → result ≡ stretch_in r (recorder_tables checkpoints.now frames.now store parts.now) }
 {
-    let area = r.area;
-    let mode = r.mode;
     let first = r.first as usize;
     let n = r.checkpoints as usize;
     let f = r.frames as usize;
     let h = r.parts as usize;
-    let last = last_checkpoint(checkpoints, n);
     let steps = check_checkpoints(checkpoints, n, r.interval, first);
-    let filling = check_frames(frames, f, area, r.budget);
-    let held = check_parts(parts, h, area, r.interval, first, checkpoints, n, frames, f);
-    let ends = ending_ok(area, last, end_of(mode));
-    and(steps, and(and(filling.ok, held), ends))
+    let filling = check_frames(frames, f, r.area, r.budget);
+    let held = check_parts(
+        parts,
+        h,
+        r.area,
+        r.interval,
+        first,
+        checkpoints,
+        n,
+        frames,
+        f,
+    );
+    let ends = ending_ok(r.area, last_checkpoint(checkpoints, n), end_of(r.mode));
+    steps && filling.ok && held && ends
 }
 
 // 4, with the kind bytes of the parts; b is the number of boundaries.
@@ -81,16 +83,10 @@ fn held_ok(b: u64, r: Recorder, checkpoints: &[u8], frames: &[u8], parts: &[u8])
     ensures { (store : List ℕ) → result ≡ recorder_held r
         (recorder_tables checkpoints.now frames.now store parts.now) }
 {
-    let mode = r.mode;
-    let whole = is_finished(mode);
-    if !counts_fit(b, r.first, r.checkpoints, whole, r.frames, r.parts) {
-        return false;
-    }
-    let h = r.parts as usize;
-    and(
-        stretch_ok(r, checkpoints, frames, parts),
-        check_kinds(parts, h),
-    )
+    let whole = is_finished(r.mode);
+    counts_fit(b, r.first, r.checkpoints, whole, r.frames, r.parts)
+        && stretch_ok(r, checkpoints, frames, parts)
+        && check_kinds(parts, r.parts as usize)
 }
 
 // ---- 1 to 4
@@ -104,14 +100,13 @@ pub fn recorder_refuses(
 ) -> u32
     ensures { result ≡ recorder_refusal r (recorder_tables checkpoints.now frames.now store.now parts.now) }
 {
-    let area = r.area;
-    if !question1(area) {
+    if !question1(r.area) {
         return 1;
     }
     if !question2(r.interval, r.budget) {
         return 2;
     }
-    let b = area_boundaries(area, r.interval);
+    let b = area_boundaries(r.area, r.interval);
     if !scan_room(b, r.budget, checkpoints, frames, store, parts) {
         return 3;
     }
@@ -122,14 +117,12 @@ pub fn recorder_refuses(
 }
 
 // ---- the recorder of an index
+#[tactic(auto, unfolding(crate::specs::Steps::empty_of))]
 fn empty(x: AreaIndex, from: u64) -> Recorder
     ensures { result ≡ empty_of x from }
 {
-    let area = x.area;
-    let ending = x.ending;
-    let mode = mode_of(ending);
     Recorder {
-        area,
+        area: x.area,
         interval: x.interval,
         budget: x.budget,
         first: x.checkpoints,
@@ -137,7 +130,7 @@ fn empty(x: AreaIndex, from: u64) -> Recorder
         checkpoints: 0,
         frames: 0,
         parts: 0,
-        mode,
+        mode: mode_of(x.ending),
     }
 }
 
@@ -172,21 +165,11 @@ pub fn recorder(
 }
 
 // ---- finish
+#[tactic(auto, unfolding(crate::specs::Recorder::mode_of))]
 pub fn with_mode(r: Recorder, mode: Mode) -> Recorder
     ensures { result ≡ mode_of r mode }
 {
-    let area = r.area;
-    Recorder {
-        area,
-        interval: r.interval,
-        budget: r.budget,
-        first: r.first,
-        from: r.from,
-        checkpoints: r.checkpoints,
-        frames: r.frames,
-        parts: r.parts,
-        mode,
-    }
+    Recorder { mode, ..r }
 }
 
 pub fn finish(
@@ -206,9 +189,8 @@ pub fn finish(
     if !at_end(r) {
         return Recorded::Refused(5);
     }
-    let area = r.area;
     let last = last_checkpoint(checkpoints, r.checkpoints as usize);
-    if !ending_ok(area, last, End::Closed(e)) {
+    if !ending_ok(r.area, last, End::Closed(e)) {
         return Recorded::Refused(6);
     }
     Recorded::Recorder(with_mode(r, Mode::Finished(e)))

@@ -7,21 +7,18 @@ ghost use Rattle.rules.specs.declared.Mode.TheVariants.{Running, Stopped};
 ghost use Rattle.rules.specs.Record.{is_running};
 ghost use Rattle.tables.specs.Index.{end_in};
 
-use field::and;
 use rules::{End, Mode, Recorder};
 use sections::area_boundaries;
 
+#[tactic(auto, unfolding(rules::specs::Record::is_running))]
 pub fn is_running(mode: Mode) -> bool
     ensures { result ≡ is_running mode }
 {
-    match mode {
-        Mode::Running => true,
-        Mode::Finished(_) => false,
-        Mode::Stopped => false,
-    }
+    matches!(mode, Mode::Running)
 }
 
 // The mode of the recorder of an index with this end state.
+#[tactic(auto, unfolding(rules::specs::Tests::is_some, tables::specs::Index::end_in))]
 pub fn mode_of(ending: End) -> Mode
     ensures { result ≡ cond (is_some (end_in ending)) Stopped Running }
 {
@@ -36,9 +33,6 @@ pub fn at_end(r: Recorder) -> bool
     requires { area_ok r.area ≡ true }
     ensures { result ≡ (is_running r.mode && eqb (r.first + r.checkpoints) (boundaries r.area r.interval)) }
 {
-    let area = r.area;
-    let mode = r.mode;
-    let b = area_boundaries(area, r.interval);
     let passed = r.first as u64 + r.checkpoints as u64;
-    and(is_running(mode), passed == b)
+    is_running(r.mode) && passed == area_boundaries(r.area, r.interval)
 }

@@ -9,66 +9,64 @@ ghost use Rattle.tables.specs.Recorder.{recorder_tables, assembling_in};
 ghost use Rattle.recorder.specs.Recorder.{recorder_out, record_in};
 ghost use Rattle.recorder.specs.Steps.{due_in, rises_in, starts_in, assembled_in, record_number, advanced_of};
 
-use crate::asked::{in_order, near};
 use crate::modes::is_running;
 use crate::recorder_refuses;
-use field::{and, write_u32, write_u64};
+use field::{write_u32, write_u64};
 use fnv::digest;
 use parts::{Counts, Piece, add_part, used_bytes};
 use rules::{
-    Area, Checkpoint, MAX_NEXT_ACCEPTABLE, Recorded, Recorder, SECTOR_BYTES, UnderAssembly,
+    Area, Checkpoint, MAX_NEXT_ACCEPTABLE, REPLAY_SECTORS, Recorded, Recorder, SECTOR_BYTES,
+    UnderAssembly,
 };
 use sections::last_checkpoint;
-use sections::part_records::less;
 
 // ---- 5 to 7
 // 5: is it the due LSN, inside the area, not finished or stopped, with a sector of 2,048 bytes?
+#[tactic(auto, unfolding(crate::specs::Steps::due_in))]
 fn due(r: Recorder, lsn: u64, len: usize) -> bool
     requires { (r.area.start ≤ 4294967295) × (r.first + r.checkpoints ≤ 4294967295) }
     ensures { result ≡ due_in r lsn len }
 {
-    let area = r.area;
-    let mode = r.mode;
     let j = r.first as u64 + r.checkpoints as u64;
-    let at = area.start + j * r.interval as u64;
-    let inside = and(lsn < area.end, len == SECTOR_BYTES);
-    and(is_running(mode), and(lsn == at, inside))
+    let at = r.area.start + j * r.interval as u64;
+    is_running(r.mode) && lsn == at && lsn < r.area.end && len == SECTOR_BYTES
 }
 
 // 6: do threshold and malformed count not fall after those of c, for checkpoint number j?
+#[tactic(auto, unfolding(crate::specs::Steps::rises_in))]
 fn rises(c: Checkpoint, j: u64, interval: u32, threshold: u32, malformed: u64) -> bool
     requires { j ≤ 4294967295 }
     ensures { result ≡ rises_in c j interval threshold malformed }
 {
     let most = j * interval as u64;
-    let counts = and(c.malformed <= malformed, malformed <= most);
-    and(
-        c.threshold <= threshold,
-        and(threshold < MAX_NEXT_ACCEPTABLE + 1, counts),
-    )
+    c.threshold <= threshold
+        && threshold <= MAX_NEXT_ACCEPTABLE
+        && c.malformed <= malformed
+        && malformed <= most
 }
 
 // 7: does the frame start in the area before this LSN, with a number below LIM?
+#[tactic(auto, unfolding(crate::specs::Steps::starts_in))]
 fn starts(area: Area, lsn: u64, frame: UnderAssembly) -> bool
     ensures { result ≡ starts_in area lsn frame }
 {
     match frame {
         UnderAssembly::Nothing => true,
         UnderAssembly::Frame(a) => {
-            let before = and(a.start < lsn, a.number < MAX_NEXT_ACCEPTABLE);
-            and(area.start <= a.start, before)
+            area.start <= a.start && a.start < lsn && a.number < MAX_NEXT_ACCEPTABLE
         }
     }
 }
 
 // ---- what is written
+#[tactic(auto, unfolding(rules::specs::Record::back_of, tables::specs::Recorder::assembling_in))]
 fn back_of(lsn: u64, frame: UnderAssembly) -> u32
     requires { lsn < 4294967296 }
     ensures { (b : List ℕ) → result ≡ back_of lsn (assembling_in frame b) }
 {
     match frame {
         UnderAssembly::Nothing => 0,
-        UnderAssembly::Frame(a) => less(lsn, a.start) as u32,
+        UnderAssembly::Frame(a) => lsn.saturating_sub(a.start) as u32,
     }
 }
 
@@ -101,16 +99,14 @@ fn assemble(
     let UnderAssembly::Frame(a) = frame else {
         return c;
     };
-    let back = less(lsn, a.start);
-    if near(back) {
+    if lsn.saturating_sub(a.start) <= REPLAY_SECTORS {
         return c;
     }
-    let kind = a.kind;
     let piece = Piece {
         at: j,
         start: a.start as u32,
         number: a.number,
-        kind,
+        kind: a.kind,
         remaining: a.remaining,
     };
     add_part(budget, c, piece, bytes, frames, store, parts)
@@ -118,6 +114,7 @@ fn assemble(
 
 // ---- record
 // The number of the first of questions 1 to 7 answered no, 0 for none; the sector has len bytes.
+#[tactic(auto, unfolding(crate::specs::Steps::record_number, rules::specs::Tests::first_no))]
 fn record_number(
     r: Recorder,
     lsn: u64,
@@ -136,32 +133,31 @@ fn record_number(
     if number != 0 {
         return number;
     }
-    let area = r.area;
+    if !due(r, lsn, len) {
+        return 5;
+    }
     let j = r.first as u64 + r.checkpoints as u64;
     let last = last_checkpoint(checkpoints, r.checkpoints as usize);
-    let five = due(r, lsn, len);
-    let six = rises(last, j, r.interval, threshold, malformed);
-    let seven = starts(area, lsn, frame);
-    in_order(five, six, seven)
+    if !rises(last, j, r.interval, threshold, malformed) {
+        return 6;
+    }
+    if !starts(r.area, lsn, frame) {
+        return 7;
+    }
+    0
 }
 
 // One checkpoint more.
+#[tactic(auto, unfolding(crate::specs::Steps::advanced_of))]
 fn advanced(r: Recorder, c: Counts) -> Recorder
     requires { r.checkpoints < 4294967295 }
     ensures { result ≡ advanced_of r c }
 {
-    let area = r.area;
-    let mode = r.mode;
     Recorder {
-        area,
-        interval: r.interval,
-        budget: r.budget,
-        first: r.first,
-        from: r.from,
         checkpoints: r.checkpoints + 1,
         frames: c.frames,
         parts: c.parts,
-        mode,
+        ..r
     }
 }
 

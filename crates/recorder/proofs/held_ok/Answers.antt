@@ -1,21 +1,30 @@
-use mathlib.Core.Bool.{not}
-use mathlib.Core.Path.{ap}
+use mathlib.Core.Path.{refl, sym, ◌∙◌}
 use Rattle.recorder.proofs.Questions.{long_by, held_no, held_yes}
 use Rattle.recorder.proofs.held_ok.Goals as goal
-
-pub returns-then-not-counts_fit : goal.returns-then-not-counts_fit
-returns-then-not-counts_fit c =
-    λ store. held_no _ _ c.requires.is c.is_finished-whole.ensures
-    c.counts_fit.ensures (ap not c.if-not-counts_fit.true)
+use Rattle.recorder.proofs.held_ok.Goals.{then-counts_fit, else-counts_fit}
 
 pub stretch_ok-requires : goal.stretch_ok-requires
-stretch_ok-requires c = long_by c.requires _ c.counts_fit.ensures (ap not c.if-not-counts_fit.false)
+stretch_ok-requires c = long_by c.requires _ c.counts_fit.ensures c.if-counts_fit.true
 
 pub check_kinds-requires : goal.check_kinds-requires
-check_kinds-requires c = (long_by c.requires _ c.counts_fit.ensures (ap not c.if-not-counts_fit.false)).parts
+check_kinds-requires c =
+    elim c.if-counts_fit.branch [ then-counts_fit w ↦ (long_by c.requires _ c.counts_fit.ensures w.if-counts_fit.true).parts | else-counts_fit w ↦ (cc) ]
 
-pub returns : goal.returns
-returns c =
-    λ store. held_yes _ _ c.requires.is c.is_finished-whole.ensures
-    c.counts_fit.ensures (ap not c.if-not-counts_fit.false) (c.stretch_ok.ensures store)
-    c.check_kinds.ensures c.and.ensures
+pub returns-then-stretch_ok : goal.returns-then-stretch_ok
+returns-then-stretch_ok c =
+    λ store. elim c.if-counts_fit.branch [
+      | then-counts_fit w ↦
+          rw (sym w.value-is ∙ c.if-stretch_ok.true) at
+          (held_yes _ _ c.requires.is c.is_finished-whole.ensures c.counts_fit.ensures w.if-counts_fit.true (w.stretch_ok.ensures store) c.check_kinds.ensures)
+      | else-counts_fit w ↦ (cc)
+    ]
+
+pub returns-else-stretch_ok : goal.returns-else-stretch_ok
+returns-else-stretch_ok c =
+    λ store. elim c.if-counts_fit.branch [
+      | then-counts_fit w ↦
+          rw c.if-stretch_ok.false
+          (rw (sym w.value-is ∙ c.if-stretch_ok.false) at
+          (held_yes _ _ c.requires.is c.is_finished-whole.ensures c.counts_fit.ensures w.if-counts_fit.true (w.stretch_ok.ensures store) refl))
+      | else-counts_fit w ↦ rw (w.value-is, w.if-counts_fit.false) (held_no _ _ c.requires.is c.is_finished-whole.ensures c.counts_fit.ensures w.if-counts_fit.false)
+    ]

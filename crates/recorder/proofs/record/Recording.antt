@@ -1,6 +1,6 @@
 -- What record answers, by the numbers that refuse, and the tables afterwards. Assumes nothing.
 use mathlib.Core.Path.{◌≡◌, refl, sym, ap, ◌∙◌}
-use mathlib.Core.Bool.{Bool, true, ◌&&◌, cond, and-true}
+use mathlib.Core.Bool.{true, ◌&&◌, cond, and-true}
 use mathlib.Core.List.{List, [], ◌∷◌, ◌++◌}
 use mathlib.Core.Option.{Option, none, some}
 use Prim.Native.Nat.{ℕ, ◌+◌, ◌*◌, ◌/◌, ◌<◌, ◌≤◌}
@@ -58,19 +58,6 @@ seven_is : (r : values.Recorder) (lsn : ℕ) (f : UnderAssembly) (b : List ℕ) 
 unfolding question7 starts_in assembling_in all
 seven_is r lsn Nothing b = refl
 seven_is r lsn (Frame a) b = simp and-true
-
--- ---- the number
-module _ (r : Recorder) (t : RecorderTables) (lsn threshold malformed : ℕ) (f : UnderAssembly) (len : ℕ) {n : ℕ} (e : n ≡ recorder_refusal r t) where
-  pub number_no : (n ≡ 0 → ⊥) → n ≡ record_number r t lsn threshold malformed f len
-  unfolding record_number
-  number_no h = sym (rw (← e, ne_eqb n 0 h))
-
-  -- 5 to 7 where 1 to 4 give no number
-  pub number_then : {a b c : Bool} {last : Checkpoint} {m : ℕ} → n ≡ 0 → last ≡ last_checkpoint (recorder_in r t).checkpoints → a ≡ due_in r lsn len
-      → b ≡ rises_in last (r.first + r.checkpoints) r.interval threshold malformed → c ≡ starts_in r.area lsn f → m ≡ first_no (ask a 5 ∷ ask b 6 ∷ ask c 7 ∷ [])
-      → m ≡ record_number r t lsn threshold malformed f len
-  unfolding record_number
-  number_then z l p q s h = h ∙ rw (p, q, l, s) (sym (rw (← e, eq-eqb n 0 z)))
 
 -- ---- the call by its number
 out_after : (t : RecorderTables) (n m : ℕ) (x : values.Recorder)

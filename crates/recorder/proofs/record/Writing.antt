@@ -1,11 +1,8 @@
 -- What record writes: a checkpoint, and the part of a frame under assembly. Assumes nothing.
-use mathlib.Core.Path.{◌≡◌, sym, ◌∙◌}
-use mathlib.Core.Bool.{Bool, true, false}
+use mathlib.Core.Path.{◌≡◌, ◌∙◌}
 use mathlib.Core.List.{List, [], ◌∷◌, append-nil}
 use Prim.Native.Nat.{ℕ, ◌+◌, ◌-◌, ◌<◌, ◌≤◌}
-use native.Mathlib.Omega.{arith}
-use borrow.Author.Tests.{leb-true, leb-false, le-ltb, lt-ltb}
-use lib.Dec.{leb}
+use borrow.Author.Tests.{le-ltb, lt-ltb}
 use lib.IntN.{ℤ}
 use lib.Seq.{sets}
 use Rattle.field.specs.Number.{put}
@@ -28,13 +25,6 @@ pub checkpoint_put : {t1 t2 t3 t4 : List ℕ} (t : List ℕ) (k : ℕ) (c : Chec
     → t4 ≡ put 8 t3 (k + 16) c.digest → t4 ≡ sets t k (encode_checkpoint c)
 unfolding encode_checkpoint
 checkpoint_put t k c e f g h = h ∙ rw (g, f, e) (fields_put 4 (4 ∷ 8 ∷ 8 ∷ []) t k c.threshold (c.back ∷ c.malformed ∷ c.digest ∷ []) ∙ simp append-nil)
-
--- ---- back, by its test
-pub back_near : (back : ℕ) {d : ℕ} {g : Bool} → back ≡ d → g ≡ leb back 32 → g ≡ true → d ≤ 32
-back_near back e n t = omega (arith, e, leb-true back 32 (sym n ∙ t))
-
-pub back_far : (back : ℕ) {d : ℕ} {g : Bool} → back ≡ d → g ≡ leb back 32 → g ≡ false → 32 < d
-back_far back e n t = omega (arith, e, leb-false back 32 (sym n ∙ t))
 
 -- ---- the part
 module _ {budget : ℕ} {c : Counts} {t : PartTables} (r : Room 1 budget c t) (bf : Bytes t.frames) (bp : Bytes t.parts) (j lsn : ℕ) {frame : UnderAssembly} (b : List ℕ) where
