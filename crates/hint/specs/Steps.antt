@@ -1,13 +1,15 @@
 -- What the functions of hint need of each other.
-use Rattle.std.specs.Prelude.{ℕ, suc, ◌+◌, ◌-◌, ◌*◌, ◌≤◌, Bool, cond, ◌&&◌, ◌||◌, List, length, drop, nat_le, slice_index_or}
+use Rattle.std.specs.Prelude.{ℕ, suc, ◌+◌, ◌-◌, ◌*◌, ◌≤◌, Bool, true, cond, ◌&&◌, ◌||◌, List, length, drop, nat_le, slice_index_or}
 use Rattle.std.proofs.Math.Option.{Option, none, some}
+use Rattle.std.specs.declared.option.Option as code
+use Rattle.std.specs.declared.option.Option.TheVariants.{None, Some}
 use Rattle.rules.specs.declared.Confirmation.{Confirmation}
 use Rattle.rules.specs.declared.Hint.{Hint}
 use Rattle.rules.specs.declared.Area.{Area}
 use Rattle.rules.specs.declared.AreaIndex.{AreaIndex}
 use Rattle.rules.specs.Values.{no_hint, hint_reach, is_checked}
 use Rattle.rules.specs.Sections.{confirmed_lsn}
-use Rattle.rules.specs.Hints.{near, confirmed_at, largest_of, hint_place, first_from, hinted_locally, hinted_later}
+use Rattle.rules.specs.Hints.{near, confirmed_at, larger, largest_of, hint_place, first_from, hinted_locally, hinted_later}
 use Rattle.rules.specs.Tests.{Answer, Accepted}
 use Rattle.rules_jump.specs.Names.{NamedHint, named_at, start_rule}
 use Rattle.rules.specs.Hints as rules
@@ -22,6 +24,16 @@ pub record Ordered (n : ℕ) (t : List ℕ) : Type 0 where
 -- near, and confirmed for first unless any near one counts
 unfoldable pub candidate : Bool → Bool → List Confirmation → ℕ → Hint → Bool
 candidate checked any cs first h = near first h && (any || (checked && confirmed_at cs h.lsn first))
+
+-- a place or none, in the words of the rules
+abbrev pub place_of : code.Option ℕ → Option ℕ
+place_of None = none
+place_of (Some i) = some i
+
+-- hint k is the larger by (number, LSN), or the first
+unfoldable pub larger_than : List Hint → Option ℕ → ℕ → Bool
+larger_than hs none k = true
+larger_than hs (some i) k = larger hs i k
 
 -- of the first n hints the candidate with the largest (number, LSN)
 unfoldable pub largest_in : Bool → Bool → List Hint → List Confirmation → ℕ → ℕ → Option ℕ

@@ -25,28 +25,29 @@ fn later_end(hints: &[u8], n: usize, i: usize, end: u32) -> u64
     requires { (n * 8 ≤ length hints.now) × (i ≤ n) }
     ensures { result ≡ later_end end (first_from end (drop i (kept_in n hints.now))) }
 {
-    let mut j = i;
-    while j < n {
+    for j in i..n {
         let s = read_hint(hints, j);
         if end <= s.number {
-            if s.number - end <= HINT_REACH {
-                return s.lsn as u64 + 1;
-            }
-            return 0;
+            return if s.number - end <= HINT_REACH {
+                s.lsn as u64 + 1
+            } else {
+                0
+            };
         }
-        j += 1;
     }
     0
 }
 
 // An upper end at the area's end is named so instead.
+#[tactic(auto, unfolding(rules_jump::specs::Names::named_end))]
 fn named_end(area: Area, upper: u64, rule: HintEnd) -> HintEnd
     ensures { result ≡ named_end area upper rule }
 {
     if upper == area.end {
-        return HintEnd::AreaEnd;
+        HintEnd::AreaEnd
+    } else {
+        rule
     }
-    rule
 }
 
 // The read from the hint at place i on.
@@ -78,18 +79,17 @@ fn hinted_from(
             end: named_end(area, upper, HintEnd::Later),
         };
     }
-    let e = local_end(area, hints, n, i, end, playtime);
-    let rule = e.rule;
+    let local = local_end(area, hints, n, i, end, playtime);
     let hint = Hinted {
         lsn: h.lsn,
         number: h.number,
-        upper: e.upper,
+        upper: local.upper,
         later: false,
     };
     NamedHint {
         hint,
         start,
-        end: named_end(area, e.upper, rule),
+        end: named_end(area, local.upper, local.rule),
     }
 }
 
@@ -105,17 +105,19 @@ fn hint_in(
     requires { HintReads x hints.now confirmed.now }
     ensures { answer_of result ≡ answer_in x hints.now confirmed.now first end playtime }
 {
-    let area = x.area;
-    let f = x.fingerprint;
     let n = x.hints as usize;
-    let m = x.confirmed as usize;
-    let found = hint_place(hints, n, confirmed, m, is_checked(f), first);
-    let count = found.count;
-    let start = found.start;
-    if count == 0 {
-        return HintAnswer::Nothing;
+    let found = hint_place(
+        hints,
+        n,
+        confirmed,
+        x.confirmed as usize,
+        is_checked(x.fingerprint),
+        first,
+    );
+    match found.place {
+        None => HintAnswer::Nothing,
+        Some(i) => HintAnswer::Hinted(hinted_from(x.area, hints, n, i, end, playtime, found.start)),
     }
-    HintAnswer::Hinted(hinted_from(area, hints, n, count - 1, end, playtime, start))
 }
 
 // The hint to begin at for frames first to end, and the end of the read.

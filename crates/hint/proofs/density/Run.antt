@@ -1,7 +1,6 @@
 -- The last hint of a run, one hint after another. Assumes nothing.
-use Rattle.std.proofs.Common.{◌≡◌, ℕ, Bool, true, false, cond, not, ◌&&◌, ltb, List, [], ◌∷◌, refl}
+use Rattle.std.proofs.Common.{◌≡◌, ℕ, ◌<◌, ◌≤◌, cond, ◌&&◌, ltb, List, [], ◌∷◌, refl, le-ltb, lt-ltb}
 use mathlib.Core.Option.{Option, none, some}
-use borrow.Author.Tests.{not-true, not-false}
 use Rattle.rules.specs.declared.Hint.{Hint}
 use Rattle.rules.specs.Hints.{run_from, or_hint}
 use Rattle.rules.proofs.Tests.{test}
@@ -24,15 +23,18 @@ unfolding or_hint
 last_is t end h hs = last_from t end h none hs
 
 -- ---- a turn
-module _ (t end : ℕ) (last s : Hint) {q : Bool} (e : q ≡ (ltb t s.number && ltb s.number end)) (hs : List Hint)
-  where
-    pub run_stop : not q ≡ true → run_last t end last (s ∷ hs) ≡ last
-    unfolding run_last
-    run_stop n = rw (← e, not-true q n)
+module _ (t end : ℕ) (last s : Hint) (hs : List Hint) where
+  pub run_low : s.number ≤ t → run_last t end last (s ∷ hs) ≡ last
+  unfolding run_last
+  run_low l = rw (le-ltb t s.number l)
 
-    pub run_on : not q ≡ false → run_last t end last (s ∷ hs) ≡ run_last t end s hs
-    unfolding run_last
-    run_on n = rw (← e, not-false q n)
+  pub run_high : end ≤ s.number → run_last t end last (s ∷ hs) ≡ last
+  unfolding run_last
+  run_high l = test (ltb t s.number) (λ e. rw (e, le-ltb s.number end l)) (λ e. rw e)
+
+  pub run_on : t < s.number → s.number < end → run_last t end last (s ∷ hs) ≡ run_last t end s hs
+  unfolding run_last
+  run_on l m = rw (lt-ltb t s.number l, lt-ltb s.number end m)
 
 pub run_end : (t end : ℕ) (last : Hint) → last ≡ run_last t end last []
 unfolding run_last

@@ -10,4 +10,4 @@ returns-then-upper-ne0 c =
 pub returns : goal.returns
 returns c =
     named_density _ _ _ _ _ _ (search rules) c.read_hint-h.ensures c.later_end-upper.ensures c.args.start
-    c.if-upper-ne0.false c.local_end-e.ensures.0 c.local_end-e.ensures.1 c.named_end-2.ensures
+    c.if-upper-ne0.false c.local_end-local.ensures.0 c.local_end-local.ensures.1 c.named_end-2.ensures

@@ -11,8 +11,8 @@ returns-then-s-end-le-HINT_REACH c =
     rest_stop c.loop-j.invariant c.loop-j-test.true c.read_hint-s.ensures
     (λ hs. later_near _ _ hs (omega arith) (omega arith))
 
-pub returns-then-end-s : goal.returns-then-end-s
-returns-then-end-s c =
+pub returns-else-s-end-le-HINT_REACH : goal.returns-else-s-end-le-HINT_REACH
+returns-else-s-end-le-HINT_REACH c =
     rest_stop c.loop-j.invariant c.loop-j-test.true c.read_hint-s.ensures
     (λ hs. later_far _ _ hs (omega arith) (omega arith))
 

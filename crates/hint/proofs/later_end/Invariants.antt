@@ -1,4 +1,4 @@
-use Rattle.std.proofs.Common.{◌-◌, drop}
+use Rattle.std.proofs.Common.{drop}
 use Rattle.rules.specs.Hints.{first_from}
 use Rattle.tables.specs.Tables.{decode_kept, kept_in}
 use Rattle.tables.proofs.Rest.{Rest}
@@ -8,6 +8,3 @@ use Rattle.hint.proofs.later_end.Given as goal
 abbrev pub invariant-loop-j : goal.invariant-loop-j
 invariant-loop-j l = Rest 8 decode_kept l.n l.hints (λ hs. later_end l.end (first_from l.end hs))
     (later_end l.end (first_from l.end (drop l.i (kept_in l.n l.hints)))) l.j
-
-abbrev pub decreases-loop-j : goal.decreases-loop-j
-decreases-loop-j l = l.n - l.j

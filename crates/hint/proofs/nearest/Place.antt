@@ -1,28 +1,29 @@
 -- The nearest hint, and that it is near. Assumes nothing.
-use Rattle.std.proofs.Common.{◌≡◌, ℕ, zero, suc, ◌+◌, ◌-◌, ◌%◌, ◌<◌, ◌≤◌, Bool, true, false, cond, not, ◌&&◌, ◌||◌, eqb, ltb, leb, List, length, get_or, sym, refl, ◌∙◌, add-one, arith, ltb-false, ltb-true, le-ltb, lt-ltb, le-leb}
+use Rattle.std.proofs.Common.{◌≡◌, ℕ, zero, suc, ◌+◌, ◌-◌, ◌%◌, ◌<◌, Bool, true, false, ltb, leb, List, length, get_or, sym, refl, ap, ◌∙◌, add-one, arith, ltb-false, ltb-true, le-ltb, lt-ltb, le-leb}
 use mathlib.Core.Bool.{and-true}
 use mathlib.Core.Option.{Option, none, some}
-use borrow.Author.Tests.{lt-leb, not-true, not-false}
+use Rattle.std.specs.declared.option.Option as code
+use Rattle.std.specs.declared.option.Option.TheVariants.{None, Some}
+use Rattle.std.specs.Option.{IfSome}
+use borrow.Author.Tests.{lt-leb}
 use Rattle.field.specs.Records.{record_at}
 use Rattle.field.proofs.Records.{records_length, records_at}
 use Rattle.rules.specs.declared.Confirmation.{Confirmation}
 use Rattle.rules.specs.declared.Hint.{Hint}
 use Rattle.rules.specs.Tests.{or_else}
 use Rattle.rules.specs.Values.{no_hint, hint_reach}
-use Rattle.rules.specs.Hints.{near, confirmed_at, larger, larger_of, largest_of, hint_place}
+use Rattle.rules.specs.Hints.{near, larger_of, largest_of, hint_place}
 use Rattle.rules.proofs.Tests.{test, and_left}
 use Rattle.rules_jump.specs.Names.{chosen_by, start_rule}
 use Rattle.rules_jump.proofs.Largest.{largest_holds}
 use Rattle.rules_jump.specs.declared.HintStart.TheVariants.{Confirmed, Nearest}
 use Rattle.tables.specs.Tables.{decode_kept, kept_in}
-use Rattle.plan.specs.Search.{last_in}
-use Rattle.plan.proofs.Steps.{last_some}
-use Rattle.hint.specs.Steps.{candidate, largest_in}
+use Rattle.hint.specs.Steps.{candidate, larger_than, largest_in}
 
 -- ---- near
 -- by how far the number is above the lower bound, modulo 2^32
-module _ {low d : ℕ} (first : ℕ) (h : Hint) (l : low ≡ first - hint_reach) (e : (d + low) % 4294967296 ≡ h.number)
-    (small : d < 4294967296) (below : first < 4294967296) where
+module _ {low d : ℕ} (first : ℕ) (h : Hint) (l : low ≡ first - hint_reach) (e : d ≡ (h.number + (4294967296 - low)) % 4294967296)
+    (small : h.number < 4294967296) (below : first < 4294967296) where
   under : h.number < first → ltb d (first - low) ≡ leb (first - h.number) hint_reach
   under u =
       test (ltb h.number low)
@@ -37,78 +38,35 @@ module _ {low d : ℕ} (first : ℕ) (h : Hint) (l : low ≡ first - hint_reach)
       test (ltb h.number first) (λ t. rw t (g ∙ under (ltb-true h.number first t)))
       (λ t. let v = ltb-false h.number first t in rw t (g ∙ le-ltb d (first - low) (omega arith)))
 
--- ---- a candidate
-module _ {q : Bool} (checked any : Bool) (cs : List Confirmation) (first : ℕ) (h : Hint) (e : q ≡ near first h) where
-  pub far : not q ≡ true → false ≡ candidate checked any cs first h
-  unfolding candidate
-  far n = sym (rw (← e, not-true q n))
-
-  module _ (n : not q ≡ false) where
-    pub any_near : any ≡ true → true ≡ candidate checked any cs first h
-    unfolding candidate
-    any_near a = sym (rw (← e, not-false q n, a))
-
-    module _ (a : any ≡ false) where
-      pub unchecked : not checked ≡ true → false ≡ candidate checked any cs first h
-      unfolding candidate
-      unchecked c = sym (rw (← e, not-false q n, a, not-true checked c))
-
-      pub by_confirmation : {r : Bool} → not checked ≡ false → r ≡ confirmed_at cs h.lsn first
-          → r ≡ candidate checked any cs first h
-      unfolding candidate
-      by_confirmation c g = g ∙ sym (rw (← e, not-false q n, a, not-false checked c))
-
--- ---- the larger of two places
-pub last_suc : (i : ℕ) → last_in (i + 1) ≡ some i
-unfolding last_in
-last_suc i = rw add-one
-
-module _ (hs : List Hint) (best i : ℕ) (counts : Bool) where
-  pub larger_out : not counts ≡ true → last_in best ≡ cond counts (some (larger_of hs (last_in best) i)) (last_in best)
-  larger_out h = sym (rw (not-true counts h))
-
-  module _ (h : not counts ≡ false) where
-    pub larger_first : best ≡ 0 → last_in (i + 1) ≡ cond counts (some (larger_of hs (last_in best) i)) (last_in best)
-    unfolding last_in larger_of
-    larger_first z = last_suc i ∙ sym (rw (not-false counts h, z))
-
-    module _ (z : best ≡ 0 → ⊥) {q : Bool} (e : q ≡ larger hs (best - 1) i) where
-      pub larger_new : q ≡ true → last_in (i + 1) ≡ cond counts (some (larger_of hs (last_in best) i)) (last_in best)
-      unfolding larger_of
-      larger_new y = last_suc i ∙ sym (rw (not-false counts h, last_some best z, ← e, y))
-
-      pub larger_old : q ≡ false → last_in best ≡ cond counts (some (larger_of hs (last_in best) i)) (last_in best)
-      unfolding larger_of
-      larger_old y = last_some best z ∙ sym (rw (not-false counts h, last_some best z, ← e, y))
-
--- by the two hints read
-pub larger_is : {a b : Hint} {s q : Bool} (n : ℕ) (t : List ℕ) (i k : ℕ) → i < n → k < n → a ≡ record_at 8 decode_kept t i
-    → b ≡ record_at 8 decode_kept t k
-    → s ≡ (eqb a.number b.number && ltb a.lsn b.lsn) → q ≡ (ltb a.number b.number || s)
-    → q ≡ larger (kept_in n t) i k
-unfolding larger
-larger_is n t i k l m ea eb s q =
-    q ∙ rw (records_at 8 decode_kept n t i no_hint l, records_at 8 decode_kept n t k no_hint m, ← ea, ← eb, s)
-
 -- ---- the largest
-pub largest_none : (checked any : Bool) (hs : List Hint) (cs : List Confirmation) (first : ℕ)
-    → last_in 0 ≡ largest_in checked any hs cs first 0
-unfolding last_in largest_in largest_of
-largest_none checked any hs cs first = refl
+larger_yes : (hs : List Hint) (o : Option ℕ) (k : ℕ) → true ≡ larger_than hs o k → larger_of hs o k ≡ k
+unfolding larger_than larger_of
+larger_yes hs none k e = refl
+larger_yes hs (some i) k e = rw (← e)
 
-pub largest_next : {h : Hint} {counts : Bool} {o o' : Option ℕ} (checked any : Bool) (n : ℕ) (t : List ℕ)
-    (cs : List Confirmation) (first j : ℕ) → j < n
-    → o ≡ largest_in checked any (kept_in n t) cs first j → h ≡ record_at 8 decode_kept t j
-    → counts ≡ candidate checked any cs first h
-    → o' ≡ cond counts (some (larger_of (kept_in n t) o j)) o → o' ≡ largest_in checked any (kept_in n t) cs first (j + 1)
-unfolding largest_in largest_of
-largest_next checked any n t cs first j l b e c g =
-    g ∙ sym (rw (add-one, records_at 8 decode_kept n t j no_hint l, ← e, ← c, ← b))
+larger_no : (hs : List Hint) (o : Option ℕ) (k : ℕ) → false ≡ larger_than hs o k → some (larger_of hs o k) ≡ o
+unfolding larger_than larger_of
+larger_no hs none k e = cc
+larger_no hs (some i) k e = rw (← e)
 
-pub largest_end : {o : Option ℕ} {j n : ℕ} (checked any : Bool) (hs : List Hint) (cs : List Confirmation) (first : ℕ)
-    → j ≤ n → n ≤ j
-    → o ≡ largest_in checked any hs cs first j → o ≡ largest_in checked any hs cs first n
-largest_end {o} {j} {n} checked any hs cs first l m e = let q : j ≡ n = omega arith in rw (← q) e
+pub below_next : (o : code.Option ℕ) (j : ℕ) → IfSome o (λ i. i < j) → IfSome o (λ i. i < j + 1)
+below_next None j h = tt
+below_next (Some i) j h = omega arith
+
+module _ (checked any : Bool) (n : ℕ) (t : List ℕ) (cs : List Confirmation) (first j : ℕ) (l : j < n) {h : Hint} {o : Option ℕ}
+    (b : o ≡ largest_in checked any (kept_in n t) cs first j) (e : h ≡ record_at 8 decode_kept t j) where
+  pub largest_skip : false ≡ candidate checked any cs first h → o ≡ largest_in checked any (kept_in n t) cs first (j + 1)
+  unfolding largest_in largest_of
+  largest_skip c = b ∙ sym (rw (add-one, records_at 8 decode_kept n t j no_hint l, ← e, ← c))
+
+  module _ (c : true ≡ candidate checked any cs first h) where
+    pub largest_new : true ≡ larger_than (kept_in n t) o j → some j ≡ largest_in checked any (kept_in n t) cs first (j + 1)
+    unfolding largest_in largest_of
+    largest_new g = sym (rw (add-one, records_at 8 decode_kept n t j no_hint l, ← e, ← c, ← b) (ap some (larger_yes (kept_in n t) o j g)))
+
+    pub largest_old : false ≡ larger_than (kept_in n t) o j → o ≡ largest_in checked any (kept_in n t) cs first (j + 1)
+    unfolding largest_in largest_of
+    largest_old g = sym (rw (add-one, records_at 8 decode_kept n t j no_hint l, ← e, ← c, ← b) (larger_no (kept_in n t) o j g))
 
 -- the same test, the same place
 largest_same : (p q : ℕ → Bool) (hs : List Hint) → ((i : ℕ) → p i ≡ q i) → (n : ℕ) → largest_of p hs n ≡ largest_of q hs n
@@ -124,26 +82,23 @@ module _ (checked : Bool) (n : ℕ) (t : List ℕ) (cs : List Confirmation) (fir
   unfolding largest_in candidate
   near_all = largest_same _ _ hs (λ i. and-true (near first (get_or hs i no_hint))) n
 
-  pub place_confirmed : {best : ℕ} → last_in best ≡ largest_in checked false hs cs first n → (best ≡ 0 → ⊥)
-      → last_in best ≡ hint_place checked hs cs first
-  unfolding hint_place or_else largest_in candidate
-  place_confirmed {best} e z = last_some best z ∙ sym (rw (records_length, ← e, last_some best z))
+  module _ {o : Option ℕ} (e : o ≡ largest_in checked false hs cs first n) where
+    pub place_confirmed : {i : ℕ} → o ≡ some i → o ≡ hint_place checked hs cs first
+    unfolding hint_place or_else largest_in candidate
+    place_confirmed z = z ∙ sym (rw (records_length, ← e, z))
 
-  pub place_any : {best : ℕ} {o : Option ℕ} → last_in best ≡ largest_in checked false hs cs first n → best ≡ 0
-      → o ≡ largest_in checked true hs cs first n
-      → o ≡ hint_place checked hs cs first
-  unfolding hint_place or_else largest_in candidate last_in
-  place_any {best} {o} e z g = g ∙ near_all ∙ sym (rw (records_length, ← e, z))
+    pub place_any : {q : Option ℕ} → o ≡ none → q ≡ largest_in checked true hs cs first n
+        → q ≡ hint_place checked hs cs first
+    unfolding hint_place or_else largest_in candidate
+    place_any z g = g ∙ near_all ∙ sym (rw (records_length, ← e, z))
 
-  pub start_confirmed : {best : ℕ} → last_in best ≡ largest_in checked false hs cs first n → (best ≡ 0 → ⊥)
-      → Confirmed ≡ start_rule checked hs cs first
-  unfolding start_rule chosen_by largest_in candidate
-  start_confirmed {best} e z = sym (rw (records_length, ← e, last_some best z))
+    pub start_confirmed : {i : ℕ} → o ≡ some i → Confirmed ≡ start_rule checked hs cs first
+    unfolding start_rule chosen_by largest_in candidate
+    start_confirmed z = sym (rw (records_length, ← e, z))
 
-  pub start_nearest : {best : ℕ} → last_in best ≡ largest_in checked false hs cs first n → best ≡ 0
-      → Nearest ≡ start_rule checked hs cs first
-  unfolding start_rule chosen_by largest_in candidate last_in
-  start_nearest {best} e z = sym (rw (records_length, ← e, z))
+    pub start_nearest : o ≡ none → Nearest ≡ start_rule checked hs cs first
+    unfolding start_rule chosen_by largest_in candidate
+    start_nearest z = sym (rw (records_length, ← e, z))
 
 or_holds : (P : ℕ → Type 0) (o o' : Option ℕ) (i : ℕ) → (o ≡ some i → P i) → (o' ≡ some i → P i) → or_else o o' ≡ some i
     → P i

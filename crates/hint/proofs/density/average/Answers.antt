@@ -1,4 +1,0 @@
-use Rattle.hint.proofs.density.average.Goals as goal
-
-pub returns : goal.returns
-returns c = cc
