@@ -53,9 +53,6 @@ pub record Sought (h : ℕ) (t : List ℕ) (j i : ℕ) : Type 0 where
   pub within : i ≤ h
   pub rest : (fs : List Frame) → assembly_of fs (drop i (parts_in h t)) j ≡ assembly_of fs (parts_in h t) j
 
-pub sought_start : (h : ℕ) (t : List ℕ) (j : ℕ) → Sought h t j 0
-sought_start h t j = record { within = omega arith; rest = λ fs. refl }
-
 module _ {h : ℕ} {t : List ℕ} {j i : ℕ} (s : Sought h t j i) where
   at : {p : Held} → i < h → p ≡ record_at 24 decode_held t i → (fs : List Frame)
       → cond (eqb p.at j) (stored_of fs p) (assembly_of fs (drop (i + 1) (parts_in h t)) j)

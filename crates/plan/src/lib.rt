@@ -10,7 +10,7 @@ ghost use Rattle.tables.specs.Index.{tables};
 ghost use Rattle.plan.specs.Plan.{planned_of, plan_in, lies_in};
 ghost use Rattle.plan.specs.Steps.{PlanReads, stored_of, resume_in, within_of, plan_of};
 
-use crate::search::{at_end, is_none, not_above};
+use crate::search::not_above;
 use index::refuses;
 use rules::{AreaIndex, Assembly, End, Held, HeldPart, Plan, Planned, Resume};
 use sections::lsn_at;
@@ -21,12 +21,9 @@ fn offset_of(frames: &[u8], f: usize, g: u32) -> u64
     requires { f * 8 ≤ length frames.now }
     ensures { (store : List ℕ) → result ≡ offset_of (frames_in f frames.now store) g }
 {
-    let mut sum: u64 = 0;
-    let mut i: u32 = 0;
-    while i < g {
-        let h = get_header(frames, f, i as usize);
-        sum += h.len as u64;
-        i += 1;
+    let mut sum = 0;
+    for i in 0..g {
+        sum += get_header(frames, f, i as usize).len as u64;
     }
     sum
 }
@@ -35,9 +32,8 @@ fn stored(frames: &[u8], f: usize, p: Held) -> Assembly
     requires { f * 8 ≤ length frames.now }
     ensures { (store : List ℕ) → result ≡ stored_of (frames_in f frames.now store) p }
 {
-    let kind = p.kind;
     Assembly::Stored(HeldPart {
-        kind,
+        kind: p.kind,
         number: p.number,
         remaining: p.remaining,
         offset: offset_of(frames, f, p.frame),
@@ -50,13 +46,11 @@ fn assembly_of(frames: &[u8], f: usize, parts: &[u8], h: usize, j: u32) -> Assem
     requires { (f * 8 ≤ length frames.now) × (h * 24 ≤ length parts.now) }
     ensures { (store : List ℕ) → result ≡ assembly_of (frames_in f frames.now store) (parts_in h parts.now) j }
 {
-    let mut i = 0;
-    while i < h {
+    for i in 0..h {
         let p = read_held(parts, i);
         if p.at == j {
             return stored(frames, f, p);
         }
-        i += 1;
     }
     Assembly::Replayed
 }
@@ -67,15 +61,11 @@ fn resume(x: AreaIndex, j: u32, checkpoints: &[u8], frames: &[u8], parts: &[u8])
         → result ≡ resume_in x (tables checkpoints.now frames.now store parts.now malformed
         hints confirmed) j }
 {
-    let area = x.area;
-    let n = x.checkpoints as usize;
-    let f = x.frames as usize;
-    let h = x.parts as usize;
     Plan::At(Resume {
         number: j,
-        lsn: lsn_at(area, x.interval, j),
-        checkpoint: get_checkpoint(checkpoints, n, j as usize),
-        assembly: assembly_of(frames, f, parts, h, j),
+        lsn: lsn_at(x.area, x.interval, j),
+        checkpoint: get_checkpoint(checkpoints, x.checkpoints as usize, j as usize),
+        assembly: assembly_of(frames, x.frames as usize, parts, x.parts as usize, j),
     })
 }
 
@@ -86,12 +76,10 @@ fn plan_within(x: AreaIndex, first: u32, checkpoints: &[u8], frames: &[u8], part
         → result ≡ within_of x (tables checkpoints.now frames.now store parts.now malformed
         hints confirmed) first }
 {
-    let n = x.checkpoints as usize;
-    let count = not_above(checkpoints, n, first);
-    if is_none(count) {
-        return Plan::Start;
+    match not_above(checkpoints, x.checkpoints as usize, first) {
+        0 => Plan::Start,
+        count => resume(x, (count - 1) as u32, checkpoints, frames, parts),
     }
-    resume(x, (count - 1) as u32, checkpoints, frames, parts)
 }
 
 fn plan_in(x: AreaIndex, first: u32, checkpoints: &[u8], frames: &[u8], parts: &[u8]) -> Plan
@@ -100,15 +88,9 @@ fn plan_in(x: AreaIndex, first: u32, checkpoints: &[u8], frames: &[u8], parts: &
         → result ≡ plan_of x (tables checkpoints.now frames.now store parts.now malformed
         hints confirmed) first }
 {
-    let ending = x.ending;
-    match ending {
-        End::Open => plan_within(x, first, checkpoints, frames, parts),
-        End::Closed(e) => {
-            if at_end(e.threshold, first) {
-                return Plan::End(e);
-            }
-            plan_within(x, first, checkpoints, frames, parts)
-        }
+    match x.ending {
+        End::Closed(e) if e.threshold <= first => Plan::End(e),
+        _ => plan_within(x, first, checkpoints, frames, parts),
     }
 }
 
@@ -145,27 +127,22 @@ pub fn plan(
 
 // ---- the second call
 // Do the bytes of a part lie in the store?
+#[tactic(auto, unfolding(crate::specs::Plan::lies_in))]
 pub fn part_lies(store: &[u8], offset: u64, len: u64) -> bool
     ensures { result ≡ lies_in store.now offset len }
 {
     let all = store.len() as u64;
-    if all < len {
-        return false;
-    }
-    if all - len < offset {
-        return false;
-    }
-    true
+    len <= all && offset <= all - len
 }
 
 // The bytes of a part of the store; none where it does not lie in the store, which part_lies tells.
+#[tactic(auto, unfolding(crate::specs::Plan::lies_in, rules::specs::Plan::bytes_at))]
 pub fn part_bytes(store: &[u8], offset: u64, len: u32) -> &[u8]
     ensures { result.now ≡ bytes_at store.now offset len }
 {
     if !part_lies(store, offset, len as u64) {
-        return &store[0..0];
+        return &store[..0];
     }
-    let a = offset as usize;
-    let e = a + len as usize;
-    &store[a..e]
+    let at = offset as usize;
+    &store[at..at + len as usize]
 }

@@ -1,8 +1,5 @@
-use Rattle.plan.proofs.Held.{sought_start, sought_found, sought_on, sought_none}
+use Rattle.plan.proofs.Held.{sought_found, sought_on, sought_none}
 use Rattle.plan.proofs.assembly_of.Goals as goal
-
-pub loop-i-init : goal.loop-i-init
-loop-i-init c = sought_start _ _ _
 
 pub returns-then-p-j : goal.returns-then-p-j
 returns-then-p-j c =

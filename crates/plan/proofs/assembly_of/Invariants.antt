@@ -1,9 +1,5 @@
 use Rattle.plan.proofs.Held.{Sought}
-use Prim.Native.Nat.{◌-◌}
 use Rattle.plan.proofs.assembly_of.Given as goal
 
 abbrev pub invariant-loop-i : goal.invariant-loop-i
 invariant-loop-i l = Sought l.h l.parts l.j l.i
-
-abbrev pub decreases-loop-i : goal.decreases-loop-i
-decreases-loop-i l = l.h - l.i

@@ -1,20 +1,14 @@
 use Rattle.plan.proofs.Steps.{plan_open, plan_past, plan_before}
-use mathlib.Core.Path.{sym, ◌∙◌}
-use borrow.Author.Tests.{leb-true, leb-false}
+use Rattle.plan.proofs.plan_in.Goals.{in_default-via-in-Closed+else-e-first, in_default-via-in_default}
 use Rattle.plan.proofs.plan_in.Goals as goal
 
-pub returns-then-at_end : goal.returns-then-at_end
-returns-then-at_end c =
-    λ store malformed hints confirmed. plan_past _ _ _ c.in-Closed.is
-    (leb-true _ _ (sym c.at_end.ensures ∙ c.if-at_end.true))
+pub returns-in-Closed : goal.returns-in-Closed
+returns-in-Closed c = λ store malformed hints confirmed. plan_past _ _ _ c.in-Closed.is c.if-e-first.true
 
-pub returns-in-Open : goal.returns-in-Open
-returns-in-Open c =
-    λ store malformed hints confirmed. plan_open _ _ _ c.in-Open.is
-    (c.plan_within.ensures store malformed hints confirmed)
-
-pub returns-else-at_end : goal.returns-else-at_end
-returns-else-at_end c =
-    λ store malformed hints confirmed. plan_before _ _ _ c.in-Closed.is
-    (leb-false _ _ (sym c.at_end.ensures ∙ c.if-at_end.false))
-    (c.plan_within-in-Closed.ensures store malformed hints confirmed)
+pub returns-in_default : goal.returns-in_default
+returns-in_default c =
+    λ store malformed hints confirmed. elim c.in_default.branch [
+      | in_default-via-in-Closed+else-e-first w ↦ plan_before _ _ _ w.in-Closed.is w.if-e-first.false
+          (c.plan_within.ensures store malformed hints confirmed)
+      | in_default-via-in_default w ↦ plan_open _ _ _ w.in_default.is (c.plan_within.ensures store malformed hints confirmed)
+    ]

@@ -3,7 +3,6 @@ use mathlib.Core.Path.{◌≡◌, refl, sym, ap, ◌∙◌}
 use mathlib.Core.Bool.{true, false}
 use mathlib.Core.List.{List}
 use Prim.Native.Nat.{ℕ, zero, suc, ◌+◌, ◌-◌, ◌<◌, ◌≤◌}
-use native.Mathlib.Nat.{le_trans, lt_of_lt_of_le}
 use native.Mathlib.Omega.{arith}
 use borrow.Author.Tests.{le-leb, lt-leb}
 use lib.Dec.{leb}
@@ -14,8 +13,8 @@ use Rattle.rules.specs.Values.{no_checkpoint, checkpoint_at}
 use Rattle.rules.specs.File.{decode_checkpoint}
 use Rattle.rules.specs.Plan.{last_not_above}
 use Rattle.tables.specs.Tables.{checkpoints_in}
-use Rattle.plan.specs.Search.{last_in, Rising}
-use Rattle.plan.proofs.Halves.{Halves, halves_up, halves_down}
+use Rattle.plan.specs.Search.{last_in}
+use Rattle.plan.proofs.Halves.{Halves}
 
 -- ---- the search: no threshold before lo is above f, and each from hi on is
 abbrev key : List ℕ → ℕ → ℕ
@@ -36,20 +35,6 @@ last_by f cs lo (suc d) p q =
     last_by f cs lo d p (λ i a b. q i a (omega arith))
     ∙ sym (ap (last_not_above f cs) (let z : lo + suc d ≡ suc (lo + d) = omega arith in z)
     ∙ rw (q (lo + d) (omega arith) (omega arith)))
-
-module _ {n : ℕ} {t : List ℕ} {f lo hi mid : ℕ} {c : Checkpoint} (s : Search n t f lo hi) (o : Rising n t)
-    (h : mid < hi)
-    (e : c ≡ record_at 24 decode_checkpoint t mid) where
-  -- the middle one c belongs below
-  pub search_up : c.threshold ≤ f → Search n t f (mid + 1) hi
-  search_up l =
-      let w = s.within in let l' : key t mid ≤ f = rw e at l in
-      halves_up s h (λ i q. le_trans (o.keys i mid q (omega arith)) l')
-
-  -- or above
-  pub search_down : lo ≤ mid → f < c.threshold → Search n t f lo mid
-  search_down g l =
-      let l' : f < key t mid = rw e at l in halves_down s h g (λ i q r. lt_of_lt_of_le l' (o.keys mid i q r))
 
 pub search_end : {n f lo hi : ℕ} (t : List ℕ) → Search n t f lo hi → hi ≤ lo
     → last_in lo ≡ last_not_above f (checkpoints_in n t) n
