@@ -1,12 +1,13 @@
 -- Counting, and gaps as the passes compute them. Assumes nothing.
-use mathlib.Core.Path.{◌≡◌, refl, ◌∙◌}
-use mathlib.Core.Bool.{Bool, true, false, not, ◌&&◌}
+use mathlib.Core.Path.{◌≡◌, refl}
+use mathlib.Core.Bool.{Bool, true, false}
 use mathlib.Core.List.{List}
 use Prim.Native.Nat.{ℕ, zero, suc, ◌+◌, ◌-◌, ◌<◌, ◌≤◌}
 use native.Mathlib.Numerals.{add-one}
 use native.Mathlib.Omega.{arith}
-use borrow.Author.Tests.{leb-true, leb-false, lt-ltb, le-ltb}
-use lib.Dec.{leb, ltb, eqb}
+use borrow.Author.Tests.{lt-ltb, le-ltb}
+use lib.Dec.{ltb}
+use mir.Val.{bool_byte}
 use lib.ListN.{get_or}
 use Rattle.rules.specs.declared.Hint.{Hint}
 use Rattle.rules.specs.Values.{no_hint}
@@ -28,6 +29,11 @@ one_no e = rw e
 pub one_le : (b : Bool) → one b ≤ 1
 one_le true = omega arith
 one_le false = omega arith
+
+-- a Bool as the code counts it
+pub byte_one : {o : ℕ} (b : Bool) → o ≡ bool_byte b → o ≡ one b
+byte_one true e = e
+byte_one false e = e
 
 pub count_more : (p : ℕ → Bool) (i : ℕ) → count_of p (i + 1) ≡ count_of p i + one (p i)
 count_more p i = rw add-one (count_next p i)
@@ -78,13 +84,3 @@ unfolding gap
 gap_fits hs i h =
     let r : rise_at hs i < 4294967296 = rw (rise_at_lemma hs i h) at (rise_fits (ahead hs i) (get_or hs i no_hint).number h) in
     test (is_kept (get_or hs i no_hint)) (λ e. rw e (omega arith)) (λ e. rw e (omega arith))
-
--- a bound of 32 bits: a kept hint is above it
-pub within_is : {r : ℕ} {b : Bool} (before : ℕ) (h : Hint) (g : ℕ) → g < 4294967296
-    → r ≡ rise before h.number → b ≡ (not (eqb h.mark 1) && leb r g) → b ≡ ltb (gap_from before h) (g + 1)
-unfolding gap_from is_kept
-within_is before h g l e f =
-    let x = rise before h.number in
-    f ∙ rw e (test (eqb h.mark 1) (λ k. rw (k, le-ltb 4294967296 (g + 1) (omega arith)))
-    (λ k. rw k (test (leb x g) (λ t. let w = leb-true x g t in rw (t, lt-ltb x (g + 1) (omega arith)))
-    (λ t. let w = leb-false x g t in rw (t, le-ltb x (g + 1) (omega arith))))))

@@ -83,10 +83,10 @@ pub found_cut : (hs : List Hint) {e c m : ℕ} → m ≡ lower hs c → m ≡ e 
 found_cut hs {e} {c} p q =
     record { sum = omega arith; most = omega (arith, below_mono hs c (c + 1) (length hs) (omega arith)) }
 
-pub last_cut : (hs : List Hint) {e c d m : ℕ} → m ≡ lower hs c → m ≤ e → e ≤ lower hs d → d ≤ c + 1
-    → Cuts hs e (record { gap = c; rest = e - m })
-last_cut hs {e} {c} {d} p q r l =
-    record { sum = omega arith; most = omega (arith, below_mono hs d (c + 1) (length hs) l) }
+pub last_cut : (hs : List Hint) {e c d m g r : ℕ} → m ≡ lower hs c → m ≤ e → e ≤ lower hs d → d ≤ c + 1 → g ≡ c
+    → r ≡ e - m → Cuts hs e (record { gap = g; rest = r })
+last_cut hs {e} {c} {d} p q h l f k =
+    rw f (record { sum = omega arith; most = omega (arith, below_mono hs d (c + 1) (length hs) l) })
 
 -- ---- the pass that keeps what stays: before place i
 pub record Pass (hs : List Hint) (k : Cut) (old new : List ℕ) (p : PassState) (i : ℕ) : Type 0 where

@@ -15,25 +15,17 @@ use field::copy_first;
 use rules::Hint;
 use tables::{read_hint, write_hint};
 
-fn one_of(b: bool) -> usize
-    ensures { (result ≡ one b) × (result ≤ 1) }
-{
-    if b { 1 } else { 0 }
-}
-
 // How many gaps of the n hints are at most g.
 fn count_to(t: &[u8], n: usize, g: u32) -> usize
     requires { n * 8 ≤ length t.now }
     ensures { result ≡ lower (kept_in n t.now) (g + 1) }
 {
-    let mut found: usize = 0;
-    let mut before: u32 = 4294967295;
-    let mut i: usize = 0;
-    while i < n {
+    let mut found = 0;
+    let mut before = 4294967295;
+    for i in 0..n {
         let h = read_hint(t, i);
-        found += one_of(is_within(before, h, g));
+        found += usize::from(is_within(before, h, g));
         before = h.number;
-        i += 1;
     }
     found
 }
@@ -90,9 +82,9 @@ fn cutoff_near(t: &[u8], n: usize, excess: usize, first: u64) -> Cut
     requires { (n * 8 ≤ length t.now) × (excess ≤ n) }
     ensures { Cuts (kept_in n t.now) excess result }
 {
-    let mut low: u64 = 0;
-    let mut high: u64 = 4294967297;
-    let mut less: usize = 0;
+    let mut low = 0;
+    let mut high = 4294967297;
+    let mut less = 0;
     while low + 1 < high {
         let mid = probe(low, high, first);
         let m = count_below(t, n, mid);
@@ -125,13 +117,7 @@ fn cutoff(t: &[u8], n: usize, excess: usize) -> Cut
 pub fn spent(left: usize, hit: bool) -> usize
     ensures { result ≡ left - one hit }
 {
-    if hit {
-        if left == 0 {
-            return 0;
-        }
-        return left - 1;
-    }
-    left
+    if hit { left.saturating_sub(1) } else { left }
 }
 
 // Where a pass is: how many more at the cutoff go, the number before, and how many hints are kept.
@@ -158,19 +144,19 @@ fn turn(t: &mut [u8], h: Hint, cut: Cut, p: PassState) -> PassState
     ensures { (result ≡ next_place cut p h) × (t.new ≡ cond (stayed cut p h) (sets t.old (p.kept * 8) (encode_kept h)) t.old) }
 {
     let g = gap_of(p.before, h);
-    let left = spent(p.left, g == cut.gap);
-    if stays_at(g, cut.gap, p.left) {
-        write_hint(t, p.kept, h);
-        return PassState {
-            left,
-            before: h.number,
-            kept: p.kept + 1,
-        };
+    let next = PassState {
+        left: spent(p.left, g == cut.gap),
+        before: h.number,
+        ..p
+    };
+    if !stays_at(g, cut.gap, p.left) {
+        return next;
     }
-    let mut next = p;
-    next.left = left;
-    next.before = h.number;
-    next
+    write_hint(t, p.kept, h);
+    PassState {
+        kept: p.kept + 1,
+        ..next
+    }
 }
 
 // The hints of src that stay, at the start of dst.
@@ -179,10 +165,8 @@ fn keep_into(dst: &mut [u8], src: &[u8], n: usize, cut: Cut) -> usize
     ensures { Starts (remaining (kept_in n src.now) cut) result dst.old dst.new }
 {
     let mut p = first_place(cut);
-    let mut i: usize = 0;
-    while i < n {
+    for i in 0..n {
         p = turn(dst, read_hint(src, i), cut, p);
-        i += 1;
     }
     p.kept
 }
@@ -193,11 +177,9 @@ fn close_up(t: &mut [u8], n: usize, cut: Cut) -> usize
     ensures { Starts (remaining (kept_in n t.old) cut) result t.old t.new }
 {
     let mut p = first_place(cut);
-    let mut i: usize = 0;
-    while i < n {
+    for i in 0..n {
         let h = read_hint(t, i);
         p = turn(t, h, cut, p);
-        i += 1;
     }
     p.kept
 }
@@ -222,6 +204,5 @@ pub fn thin_hints(t: &mut [u8], n: usize, most: usize) -> usize
     if n <= most {
         return n;
     }
-    let cut = cutoff(t, n, n - most);
-    close_up(t, n, cut)
+    close_up(t, n, cutoff(t, n, n - most))
 }

@@ -1,4 +1,3 @@
-use Prim.Native.Nat.{◌≤◌, ◌-◌}
 use mathlib.Core.Path.{◌≡◌}
 use lib.ListN.{length}
 use Rattle.tables.specs.Tables.{kept_in}
@@ -6,7 +5,4 @@ use Rattle.thin.proofs.Steps.{Pass}
 use Rattle.thin.proofs.close_up.Given as goal
 
 abbrev pub invariant-loop-i : goal.invariant-loop-i
-invariant-loop-i l = (l.i ≤ l.n) × (length l.t ≡ length l.initial.t) × Pass (kept_in l.n l.initial.t) l.cut l.initial.t l.t l.p l.i
-
-abbrev pub decreases-loop-i : goal.decreases-loop-i
-decreases-loop-i l = l.n - l.i
+invariant-loop-i l = (length l.t ≡ length l.initial.t) × Pass (kept_in l.n l.initial.t) l.cut l.initial.t l.t l.p l.i

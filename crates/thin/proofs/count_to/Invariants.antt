@@ -1,10 +1,7 @@
-use Prim.Native.Nat.{◌+◌, ◌≤◌, ◌-◌}
+use Prim.Native.Nat.{◌+◌}
 use Rattle.tables.specs.Tables.{kept_in}
 use Rattle.thin.proofs.Steps.{Counted}
 use Rattle.thin.proofs.count_to.Given as goal
 
 abbrev pub invariant-loop-i : goal.invariant-loop-i
-invariant-loop-i l = (l.i ≤ l.n) × Counted (kept_in l.n l.t) (l.g + 1) l.found l.before l.i
-
-abbrev pub decreases-loop-i : goal.decreases-loop-i
-decreases-loop-i l = l.n - l.i
+invariant-loop-i l = Counted (kept_in l.n l.t) (l.g + 1) l.found l.before l.i

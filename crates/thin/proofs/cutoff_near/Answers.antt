@@ -19,4 +19,4 @@ returns-then-m-excess c = found_cut _ c.count_below-m.ensures c.if-m-excess.true
 pub returns : goal.returns
 returns c =
     let inv = c.loop-low.invariant in
-    last_cut _ inv.3 inv.2 inv.4 c.loop-low-test.false
+    last_cut _ inv.3 inv.2 inv.4 c.loop-low-test.false (omega arith) (omega arith)

@@ -10,4 +10,4 @@ returns-then-n-most c =
     (sym (take-append-drop (c.args.n * 8) _))
 
 pub returns : goal.returns
-returns c = thinned _ _ _ c.cutoff-cut.ensures c.close_up.ensures
+returns c = thinned _ _ _ c.cutoff.ensures c.close_up.ensures
