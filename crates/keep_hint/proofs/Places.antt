@@ -1,12 +1,12 @@
 -- The place of an LSN, and how many hints are kept, over the rest of a list. Assumes nothing.
 use mathlib.Core.Path.{◌≡◌, sym, ◌∙◌}
-use mathlib.Core.Bool.{Bool, false, ◌||◌, cond}
+use mathlib.Core.Bool.{true, false}
 use mathlib.Core.List.{List, [], ◌∷◌}
-use Prim.Native.Nat.{ℕ, ◌+◌, ◌/◌, ◌<◌, ◌≤◌}
+use lib.ListN.{length, get_or}
+use Prim.Native.Nat.{ℕ, ◌+◌, ◌<◌}
 use native.Mathlib.Nat.{zero-add, add_assoc}
 use native.Mathlib.Omega.{arith}
-use borrow.Author.Tests.{eq-eqb, ne_eqb, lt-ltb, le-ltb}
-use lib.Dec.{ltb}
+use borrow.Author.Tests.{eq-eqb, ne_eqb}
 use Rattle.field.specs.Records.{record_at}
 use Rattle.field.proofs.Records.{records_length, records_at}
 use Rattle.rules.specs.declared.Hint.{Hint}
@@ -14,7 +14,6 @@ use Rattle.rules.specs.Values.{no_hint}
 use Rattle.rules.specs.Sections.{is_kept, kept_count}
 use Rattle.rules.specs.Hints.{place_of}
 use Rattle.tables.specs.Tables.{decode_kept, kept_in}
-use Rattle.keep_hint.specs.Steps.{may_keep}
 
 -- ---- the place
 abbrev pub place_from : ℕ → ℕ → List Hint → ℕ
@@ -32,9 +31,9 @@ pub place_on : (lsn j : ℕ) (h : Hint) (hs : List Hint) → (h.lsn ≡ lsn → 
 unfolding place_of
 place_on lsn j h hs e = rw (ne_eqb h.lsn lsn e) (omega arith)
 
-pub place_end : (lsn j : ℕ) → j ≡ place_from lsn j []
+pub place_end : {n : ℕ} (lsn j : ℕ) → n ≡ j → n ≡ place_from lsn j []
 unfolding place_of
-place_end lsn j = omega arith
+place_end lsn j e = omega arith
 
 -- ---- how many
 abbrev pub count_from : ℕ → List Hint → ℕ
@@ -43,33 +42,22 @@ count_from kept hs = kept + kept_count hs
 pub count_start : (hs : List Hint) → count_from 0 hs ≡ kept_count hs
 count_start hs = zero-add (kept_count hs)
 
-pub count_on : {b : Bool} {k : ℕ} (kept : ℕ) (h : Hint) (hs : List Hint) → b ≡ is_kept h → k ≡ cond b 1 0
-    → count_from kept (h ∷ hs) ≡ count_from (kept + k) hs
-unfolding kept_count
-count_on kept h hs e f = rw (f, e) (sym (add_assoc kept (cond (is_kept h) 1 0) (kept_count hs)))
+module _ (kept : ℕ) (h : Hint) (hs : List Hint) where
+  pub count_kept : true ≡ is_kept h → count_from kept (h ∷ hs) ≡ count_from (kept + 1) hs
+  unfolding kept_count
+  count_kept e = rw (← e) (sym (add_assoc kept 1 (kept_count hs)))
+
+  pub count_other : false ≡ is_kept h → count_from kept (h ∷ hs) ≡ count_from kept hs
+  unfolding kept_count
+  count_other e = rw (← e, zero-add)
 
 pub count_end : (kept : ℕ) → kept ≡ count_from kept []
 unfolding kept_count
 count_end kept = omega arith
 
--- ---- 53
-module _ (most n : ℕ) (t : List ℕ) (i : ℕ) where
-  pub may_not : n ≤ i → false ≡ may_keep most (kept_in n t) i
-  unfolding may_keep
-  may_not l = sym (rw (records_length 8 decode_kept n t, le-ltb i n l))
+-- ---- a hint of a table, and how many there are
+pub hint_at : {h : Hint} (n : ℕ) (t : List ℕ) (i : ℕ) → i < n → h ≡ record_at 8 decode_kept t i → get_or (kept_in n t) i no_hint ≡ h
+hint_at n t i l e = records_at 8 decode_kept n t i no_hint l ∙ sym e
 
-  pub may_be : {h : Hint} {a b r : Bool} {k : ℕ} → i < n → h ≡ record_at 8 decode_kept t i → a ≡ is_kept h
-      → k ≡ kept_count (kept_in n t) → b ≡ ltb k (most / 4)
-      → r ≡ (a || b) → r ≡ may_keep most (kept_in n t) i
-  unfolding may_keep
-  may_be l e f g m q =
-      q
-      ∙ sym (rw (
-        records_length 8 decode_kept n t,
-        lt-ltb i n l,
-        records_at 8 decode_kept n t i no_hint l,
-        ← e,
-        ← f,
-        ← g,
-        ← m,
-      ))
+pub hint_count : (n : ℕ) (t : List ℕ) → length (kept_in n t) ≡ n
+hint_count n t = records_length 8 decode_kept n t

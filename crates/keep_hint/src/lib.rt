@@ -11,7 +11,6 @@ ghost use Rattle.tables.specs.Index.{tables, made_out};
 ghost use Rattle.keep_hint.specs.Steps.{may_keep};
 ghost use Rattle.keep_hint.specs.KeepHint.{keep_hint_in};
 
-use field::or;
 use index::refuses;
 use rules::{AreaIndex, Hint, Made};
 use tables::{read_hint, write_hint};
@@ -21,27 +20,19 @@ fn place_of(hints: &[u8], n: usize, lsn: u64) -> usize
     requires { n * 8 ≤ length hints.now }
     ensures { result ≡ place_of lsn (kept_in n hints.now) }
 {
-    let mut j = 0;
-    while j < n {
-        let h = read_hint(hints, j);
-        if h.lsn as u64 == lsn {
+    for j in 0..n {
+        if read_hint(hints, j).lsn as u64 == lsn {
             return j;
         }
-        j += 1;
     }
-    j
+    n
 }
 
+#[tactic(auto, unfolding(rules::specs::Sections::is_kept))]
 fn is_kept(h: Hint) -> bool
     ensures { result ≡ is_kept h }
 {
     h.mark == 1
-}
-
-fn one_if(kept: bool) -> usize
-    ensures { (result ≡ cond kept 1 0) × (result ≤ 1) }
-{
-    if kept { 1 } else { 0 }
 }
 
 // How many of the first n hints are kept.
@@ -50,25 +41,21 @@ fn kept_count(hints: &[u8], n: usize) -> usize
     ensures { result ≡ kept_count (kept_in n hints.now) }
 {
     let mut kept = 0;
-    let mut j = 0;
-    while j < n {
-        kept += one_if(is_kept(read_hint(hints, j)));
-        j += 1;
+    for j in 0..n {
+        if is_kept(read_hint(hints, j)) {
+            kept += 1;
+        }
     }
     kept
 }
 
 // 53 of a place among the first n hints.
+#[tactic(auto, using(crate::proofs::Places::hint_at, crate::proofs::Places::hint_count), unfolding(crate::specs::Steps::may_keep))]
 fn question53(hints: &[u8], n: usize, place: usize, most: u32) -> bool
     requires { n * 8 ≤ length hints.now }
     ensures { result ≡ may_keep most (kept_in n hints.now) place }
 {
-    if n <= place {
-        return false;
-    }
-    let held = is_kept(read_hint(hints, place));
-    let quarter = (most / 4) as usize;
-    or(held, kept_count(hints, n) < quarter)
+    place < n && (is_kept(read_hint(hints, place)) || kept_count(hints, n) < (most / 4) as usize)
 }
 
 // The mark of hint number j set.
@@ -77,9 +64,11 @@ fn set_mark(hints: &mut [u8], j: usize)
     ensures { hints.new ≡ sets hints.old (j * 8)
         (encode_kept (kept_hint (record_at 8 decode_kept hints.old j))) }
 {
-    let mut h = read_hint(hints, j);
-    h.mark = 1;
-    write_hint(hints, j, h);
+    let kept = Hint {
+        mark: 1,
+        ..read_hint(hints, j)
+    };
+    write_hint(hints, j, kept);
 }
 
 // The hint with that LSN marked, so that thinning passes over it.

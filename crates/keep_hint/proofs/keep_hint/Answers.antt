@@ -2,6 +2,7 @@ use mathlib.Core.Bool.{not}
 use mathlib.Core.Path.{ap}
 use mathlib.Core.Path.{sym, ◌∙◌}
 use native.Mathlib.Omega.{arith}
+use borrow.Author.Rules.{rules}
 use Rattle.index.proofs.Questions.{passes, passes_hints}
 use Rattle.keep_hint.proofs.Marked.{keep_no, keep_53, keep_yes, place_within}
 use Rattle.keep_hint.proofs.keep_hint.Goals as goal
@@ -40,6 +41,6 @@ returns c =
       store = λ i. (c.type_inv.store i).fits;
       parts = λ i. (c.type_inv.parts i).fits;
       malformed = λ i. (c.type_inv.malformed i).fits;
-      hints = λ i. (c.slice_known-1.given i).fits;
+      hints = λ i. search rules;
       confirmed = λ i. (c.type_inv.confirmed i).fits;
     }) c.set_mark.ensures
