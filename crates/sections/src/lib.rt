@@ -16,12 +16,12 @@ ghost use Rattle.sections.specs.Sections.{asked, stretch};
 
 use crate::part_records::check_parts;
 use crate::records::{check_frames, check_lsns};
-use field::{and, min_u64, not, or};
 use rules::{Area, Checkpoint, End, EndState, MAX_MALFORMED_WARNINGS, MAX_NEXT_ACCEPTABLE};
 use tables::get_checkpoint;
 
 // ---- questions
 // The refusal number after one more question, whose refusal is number.
+#[tactic(auto, using(std::proofs::lemmas::Bool::Decides::nat_tests), unfolding(crate::specs::Sections::asked))]
 pub fn ask(before: u32, ok: bool, number: u32) -> u32
     ensures { result ≡ asked before ok number }
 {
@@ -56,17 +56,12 @@ pub fn area_boundaries(area: Area, interval: u32) -> u64
 }
 
 // Counts of boundaries, checkpoints, frames, parts and malformed LSNs; whole is a complete list.
+#[tactic(auto, using(std::proofs::lemmas::Bool::Decides::nat_tests), unfolding(rules::specs::Sections::counts_ok, rules::specs::Tests::all))]
 pub fn counts_ok(b: u64, n: u32, whole: bool, f: u32, h: u32, m: u32) -> bool
     ensures { result ≡ counts_ok b n whole f h m }
 {
     let count = n as u64;
-    and(
-        count <= b,
-        and(
-            or(not(whole), count == b),
-            and(h <= n, and(f <= h, m <= MAX_MALFORMED_WARNINGS)),
-        ),
-    )
+    count <= b && (!whole || count == b) && h <= n && f <= h && m <= MAX_MALFORMED_WARNINGS
 }
 
 // ---- held parts
@@ -86,19 +81,16 @@ pub fn held_ok(
     requires { (h * 24 ≤ length parts.now) × (n * 24 ≤ length checkpoints.now) × (f * 8 ≤ length frames.now) × (first + n ≤ 4294967296) × (area.start ≤ 4294967295) }
     ensures { (store : List ℕ) → result ≡ held_ok area interval budget first (checkpoints_in n checkpoints.now) (frames_in f frames.now store) (parts_in h parts.now) }
 {
-    let filling = check_frames(frames, f, area, budget);
-    let held = check_parts(parts, h, area, interval, first, checkpoints, n, frames, f);
-    and(filling.ok, held)
+    check_frames(frames, f, area, budget).ok
+        && check_parts(parts, h, area, interval, first, checkpoints, n, frames, f)
 }
 
 // ---- the end
+#[tactic(auto, unfolding(rules::specs::Tests::is_some, tables::specs::Index::end_in))]
 pub fn is_complete_end(ending: End) -> bool
     ensures { result ≡ is_some (end_in ending) }
 {
-    match ending {
-        End::Open => false,
-        End::Closed(_) => true,
-    }
+    matches!(ending, End::Closed(_))
 }
 
 // The LSN of checkpoint number j.
@@ -109,31 +101,26 @@ pub fn lsn_at(area: Area, interval: u32, j: u32) -> u64
     area.start + j as u64 * interval as u64
 }
 
+#[tactic(auto, using(rules::proofs::Frontier::frontier_open), unfolding(rules::specs::Values::frontier_of, tables::specs::Index::end_in))]
 pub fn frontier_of(area: Area, interval: u32, n: u32, ending: End) -> u64
     requires { area.start ≤ 4294967295 }
     ensures { result ≡ frontier_of area interval n (end_in ending) }
 {
     match ending {
-        End::Open => {
-            if n == 0 {
-                return area.start;
-            }
-            lsn_at(area, interval, n - 1)
-        }
+        End::Open => lsn_at(area, interval, n.saturating_sub(1)),
         End::Closed(_) => area.end,
     }
 }
 
+#[tactic(auto, using(field::proofs::Records::records_length), unfolding(rules::specs::Tests::last_or))]
 pub fn last_checkpoint(t: &[u8], n: usize) -> Checkpoint
     requires { n * 24 ≤ length t.now }
     ensures { result ≡ last_checkpoint (checkpoints_in n t.now) }
 {
-    if n == 0 {
-        return get_checkpoint(t, n, 0);
-    }
-    get_checkpoint(t, n, n - 1)
+    get_checkpoint(t, n, n.saturating_sub(1))
 }
 
+#[tactic(auto, unfolding(rules::specs::Values::counted, tables::specs::Index::end_in))]
 pub fn counted(c: Checkpoint, ending: End) -> u64
     ensures { (cs : List Checkpoint) → c ≡ last_checkpoint cs → result ≡ counted cs (end_in ending) }
 {
@@ -143,20 +130,18 @@ pub fn counted(c: Checkpoint, ending: End) -> u64
     }
 }
 
+#[tactic(auto, using(std::proofs::lemmas::Bool::Decides::nat_tests), unfolding(rules::specs::Sections::end_ok, rules::specs::Tests::all))]
 fn end_ok(area: Area, c: Checkpoint, e: EndState) -> bool
     requires { area.start ≤ area.end }
     ensures { result ≡ end_ok area c e }
 {
-    let fits = and(
-        c.malformed <= e.malformed,
-        e.malformed <= area.end - area.start,
-    );
-    and(
-        c.threshold <= e.threshold,
-        and(e.threshold <= MAX_NEXT_ACCEPTABLE, fits),
-    )
+    c.threshold <= e.threshold
+        && e.threshold <= MAX_NEXT_ACCEPTABLE
+        && c.malformed <= e.malformed
+        && e.malformed <= area.end - area.start
 }
 
+#[tactic(auto, unfolding(rules::specs::Sections::ending_ok, tables::specs::Index::end_in))]
 pub fn ending_ok(area: Area, c: Checkpoint, ending: End) -> bool
     requires { area.start ≤ area.end }
     ensures { (cs : List Checkpoint) → c ≡ last_checkpoint cs → result ≡ ending_ok area cs (end_in ending) }
@@ -167,14 +152,12 @@ pub fn ending_ok(area: Area, c: Checkpoint, ending: End) -> bool
     }
 }
 
+#[tactic(auto, using(std::proofs::lemmas::Bool::Decides::nat_tests, field::proofs::Records::records_length), unfolding(rules::specs::Sections::malformed_ok, rules::specs::Tests::all))]
 fn malformed_ok(area: Area, front: u64, counted: u64, malformed: &[u8], m: usize) -> bool
     requires { m * 4 ≤ length malformed.now }
     ensures { result ≡ malformed_ok area front counted (lsns_in m malformed.now) }
 {
-    and(
-        m as u64 == min_u64(counted, MAX_MALFORMED_WARNINGS as u64),
-        check_lsns(malformed, m, area, front),
-    )
+    m as u64 == counted.min(MAX_MALFORMED_WARNINGS as u64) && check_lsns(malformed, m, area, front)
 }
 
 // End state and malformed LSNs, after n checkpoints.
@@ -192,6 +175,5 @@ pub fn ends_ok(
 {
     let last = last_checkpoint(checkpoints, n as usize);
     let front = frontier_of(area, interval, n, ending);
-    let rest = malformed_ok(area, front, counted(last, ending), malformed, m);
-    and(ending_ok(area, last, ending), rest)
+    ending_ok(area, last, ending) && malformed_ok(area, front, counted(last, ending), malformed, m)
 }

@@ -6,54 +6,49 @@ ghost use Rattle.rules.specs.Tests.{walk};
 ghost use Rattle.rules.specs.Sections.{follows, belongs, part_ok, parts_ok, reached};
 ghost use Rattle.tables.specs.Tables.{checkpoints_in, parts_in, frame_of, frames_in, before, part_next, part_near, part_here};
 
-use field::{and, or};
 use rules::{Area, Checkpoint, FrameKind, Held, MAX_NEXT_ACCEPTABLE};
 use tables::{FrameHeader, get_checkpoint, get_header, read_held};
 
+#[tactic(auto, unfolding(rules::specs::Values::same_kind))]
 fn same_kind(a: FrameKind, b: FrameKind) -> bool
     ensures { result ≡ same_kind a b }
 {
-    match a {
-        FrameKind::Dst => match b {
-            FrameKind::Dst => true,
-            FrameKind::Dsd => false,
-        },
-        FrameKind::Dsd => match b {
-            FrameKind::Dst => false,
-            FrameKind::Dsd => true,
-        },
-    }
+    matches!(
+        (a, b),
+        (FrameKind::Dst, FrameKind::Dst) | (FrameKind::Dsd, FrameKind::Dsd)
+    )
 }
 
 // q is the part before p, unless p is the first.
+#[tactic(auto, using(std::proofs::lemmas::Bool::Decides::nat_tests, tables::proofs::Tests::follows_is))]
 fn follows_ok(first: bool, q: Held, p: Held) -> bool
     ensures { result ≡ follows (before first q) p }
 {
     if first {
         return p.frame == 0;
     }
-    let kind = q.kind;
-    let other = p.kind;
-    let alike = and(q.number == p.number, same_kind(kind, other));
-    let grown = and(p.frame == q.frame, and(q.len <= p.len, alike));
-    let next = p.frame as u64 == q.frame as u64 + 1;
-    and(q.at < p.at, or(grown, next))
+    let grown = p.frame == q.frame
+        && q.len <= p.len
+        && q.number == p.number
+        && same_kind(q.kind, p.kind);
+    q.at < p.at && (grown || p.frame as u64 == q.frame as u64 + 1)
 }
 
 // What is left of a after b; 0 where b is more.
 pub fn less(a: u64, b: u64) -> u64
     ensures { result ≡ a - b }
 {
-    if b <= a { a - b } else { 0 }
+    a.saturating_sub(b)
 }
 
+#[tactic(auto, using(std::proofs::lemmas::Bool::Decides::nat_tests, tables::proofs::Frames::stretch_length), unfolding(rules::specs::Sections::belongs, rules::specs::Tests::all))]
 fn belongs_ok(area: Area, interval: u32, p: Held, c: Checkpoint, h: FrameHeader) -> bool
     requires { area.start ≤ 4294967295 }
     ensures { result ≡ belongs area interval p c (frame_of h []) }
 {
     let lsn = area.start + p.at as u64 * interval as u64;
-    let from = less(lsn, c.back as u64);
-    and(0 < c.back, and(from == h.start as u64, p.len <= h.len))
+    let from = lsn.saturating_sub(c.back as u64);
+    0 < c.back && from == h.start as u64 && p.len <= h.len
 }
 
 // How many frames the parts reach.
@@ -64,15 +59,14 @@ pub fn reached(parts: &[u8], h: usize) -> u64
     if h == 0 {
         return 0;
     }
-    let p = read_held(parts, h - 1);
-    p.frame as u64 + 1
+    read_held(parts, h - 1).frame as u64 + 1
 }
 
 // Is p of the f frames, and may it come after q, unless it is the first?
 pub fn near_ok(f: usize, begins: bool, q: Held, p: Held) -> bool
     ensures { result ≡ part_near f (before begins q) p }
 {
-    and((p.frame as usize) < f, follows_ok(begins, q, p))
+    (p.frame as usize) < f && follows_ok(begins, q, p)
 }
 
 // Does p belong to a checkpoint and to the frame of h?
@@ -89,15 +83,15 @@ pub fn here_ok(
     ensures { result ≡ part_here area interval first n (checkpoints_in n checkpoints.now) p h }
 {
     let at = p.at as usize;
-    let c = get_checkpoint(checkpoints, n, less(at as u64, first as u64) as usize);
-    let rest = and(
-        belongs_ok(area, interval, p, c, h),
-        p.number < MAX_NEXT_ACCEPTABLE,
-    );
-    and(first <= at, and(at < first + n, rest))
+    let c = get_checkpoint(checkpoints, n, at.saturating_sub(first));
+    first <= at
+        && at < first + n
+        && belongs_ok(area, interval, p, c, h)
+        && p.number < MAX_NEXT_ACCEPTABLE
 }
 
 // q is the part before p, unless p is the first.
+#[tactic(auto, using(crate::proofs::Parts::part_is))]
 fn part_ok(
     area: Area,
     interval: u32,
@@ -114,10 +108,7 @@ fn part_ok(
     ensures { result ≡ part_ok area interval first (checkpoints_in n checkpoints.now) (frames_in f headers.now []) (before begins q) p }
 {
     let h = get_header(headers, f, p.frame as usize);
-    and(
-        near_ok(f, begins, q, p),
-        here_ok(area, interval, first, checkpoints, n, p, h),
-    )
+    near_ok(f, begins, q, p) && here_ok(area, interval, first, checkpoints, n, p, h)
 }
 
 pub fn no_part() -> Held
@@ -148,8 +139,7 @@ fn walk_parts(
     ensures { result ≡ walk (part_ok area interval first (checkpoints_in n checkpoints.now) (frames_in f headers.now [])) part_next none (parts_in h parts.now) }
 {
     let mut q = no_part();
-    let mut j = 0;
-    while j < h {
+    for j in 0..h {
         let p = read_held(parts, j);
         if !part_ok(
             area,
@@ -166,7 +156,6 @@ fn walk_parts(
             return false;
         }
         q = p;
-        j += 1;
     }
     true
 }
@@ -186,8 +175,6 @@ pub fn check_parts(
     requires { (h * 24 ≤ length parts.now) × (n * 24 ≤ length checkpoints.now) × (f * 8 ≤ length headers.now) × (first + n ≤ 4294967296) × (area.start ≤ 4294967295) }
     ensures { (store : List ℕ) → result ≡ parts_ok area interval first (checkpoints_in n checkpoints.now) (frames_in f headers.now store) (parts_in h parts.now) }
 {
-    and(
-        walk_parts(parts, h, area, interval, first, checkpoints, n, headers, f),
-        reached(parts, h) == f as u64,
-    )
+    walk_parts(parts, h, area, interval, first, checkpoints, n, headers, f)
+        && reached(parts, h) == f as u64
 }

@@ -6,39 +6,39 @@ ghost use Rattle.rules.specs.Sections.{checkpoint_ok, checkpoints_ok, frames_ok,
 ghost use Rattle.rules.specs.File.{decode_hint};
 ghost use Rattle.tables.specs.Tables.{checkpoints_in, lsns_in, hints_in, kept_in, confirmations_in, frames_in, header_ok, filled_to, passed_at, Checked};
 
-use field::and;
 use rules::{Area, CONFIRMED, Checkpoint, HINT, Hint, MAX_FRAME_BYTES, MAX_NEXT_ACCEPTABLE};
 use tables::{FrameHeader, hint_at, read_checkpoint, read_given, read_header, read_hint, read_lsn};
 
 // b is the checkpoint before c, which is number.
+#[tactic(auto, using(std::proofs::lemmas::Bool::Decides::nat_tests), unfolding(rules::specs::Sections::checkpoint_ok, rules::specs::Tests::all))]
 fn checkpoint_ok(interval: u32, number: usize, b: Checkpoint, c: Checkpoint) -> bool
     requires { number < 4294967296 }
     ensures { result ≡ checkpoint_ok interval (passed_at number b) c }
 {
     let most = number as u64 * interval as u64;
-    let counted = and(c.malformed <= most, c.back as u64 <= most);
-    let grows = and(b.malformed <= c.malformed, counted);
-    and(
-        b.threshold <= c.threshold,
-        and(c.threshold <= MAX_NEXT_ACCEPTABLE, grows),
-    )
+    b.threshold <= c.threshold
+        && c.threshold <= MAX_NEXT_ACCEPTABLE
+        && b.malformed <= c.malformed
+        && c.malformed <= most
+        && c.back as u64 <= most
 }
 
 // floor and used are of the frames before it.
+#[tactic(auto, using(std::proofs::lemmas::Bool::Decides::nat_tests, tables::proofs::Frames::header_is))]
 pub fn header_ok(area: Area, budget: u64, floor: u64, used: u64, h: FrameHeader) -> bool
     requires { used ≤ budget }
     ensures { result ≡ header_ok area budget (filled_to floor used) h }
 {
     let start = h.start as u64;
     let len = h.len as u64;
-    let fits = and(h.len <= MAX_FRAME_BYTES, len <= budget - used);
-    and(floor <= start, and(start < area.end, fits))
+    floor <= start && start < area.end && h.len <= MAX_FRAME_BYTES && len <= budget - used
 }
 
-fn rising_ok(end: u64, floor: u64, lsn: u64, ok: bool) -> bool
-    ensures { result ≡ (leb floor lsn && (ltb lsn end && ok)) }
+// Is the LSN at floor or above and below end?
+fn rising_ok(end: u64, floor: u64, lsn: u64) -> bool
+    ensures { result ≡ (leb floor lsn && ltb lsn end) }
 {
-    and(floor <= lsn, and(lsn < end, ok))
+    floor <= lsn && lsn < end
 }
 
 pub fn check_checkpoints(section: &[u8], n: usize, interval: u32, first: usize) -> bool
@@ -51,14 +51,12 @@ pub fn check_checkpoints(section: &[u8], n: usize, interval: u32, first: usize) 
         malformed: 0,
         digest: 0,
     };
-    let mut j = 0;
-    while j < n {
+    for j in 0..n {
         let c = read_checkpoint(section, j);
         if !checkpoint_ok(interval, first + j, b, c) {
             return false;
         }
         b = c;
-        j += 1;
     }
     true
 }
@@ -68,14 +66,12 @@ pub fn check_lsns(section: &[u8], m: usize, area: Area, front: u64) -> bool
     ensures { result ≡ rising own_lsn any_lsn area.start front (lsns_in m section.now) }
 {
     let mut floor = area.start;
-    let mut j = 0;
-    while j < m {
-        let l = read_lsn(section, j) as u64;
-        if !rising_ok(front, floor, l, true) {
+    for j in 0..m {
+        let lsn = read_lsn(section, j) as u64;
+        if !rising_ok(front, floor, lsn) {
             return false;
         }
-        floor = l + 1;
-        j += 1;
+        floor = lsn + 1;
     }
     true
 }
@@ -86,19 +82,12 @@ fn check_numbered(section: &[u8], n: usize, w: usize, area: Area) -> bool
     ensures { result ≡ hints_ok area (records w decode_hint n section.now) }
 {
     let mut floor = area.start;
-    let mut j = 0;
-    while j < n {
+    for j in 0..n {
         let h = hint_at(section, j * w);
-        if !rising_ok(
-            area.end,
-            floor,
-            h.lsn as u64,
-            h.number < MAX_NEXT_ACCEPTABLE,
-        ) {
+        if !rising_ok(area.end, floor, h.lsn as u64) || MAX_NEXT_ACCEPTABLE <= h.number {
             return false;
         }
         floor = h.lsn as u64 + 1;
-        j += 1;
     }
     true
 }
@@ -114,7 +103,7 @@ pub fn check_hints(section: &[u8], n: usize, area: Area) -> bool
 fn kept_ok(h: Hint) -> bool
     ensures { result ≡ (eqb h.mark 1 && ltb h.number lim) }
 {
-    and(h.mark == 1, h.number < MAX_NEXT_ACCEPTABLE)
+    h.mark == 1 && h.number < MAX_NEXT_ACCEPTABLE
 }
 
 // Hints of an index's table and their marks. A number below LIM with the mark behind it has the mark 0.
@@ -124,21 +113,17 @@ pub fn check_kept(hints: &[u8], n: usize, area: Area, most: u32) -> bool
 {
     let mut floor = area.start;
     let mut kept = 0;
-    let mut j = 0;
-    while j < n {
+    for j in 0..n {
         let given = read_given(hints, j);
-        if !rising_ok(area.end, floor, given.lsn as u64, true) {
+        if !rising_ok(area.end, floor, given.lsn as u64) {
             return false;
         }
         floor = given.lsn as u64 + 1;
-        if given.number < MAX_NEXT_ACCEPTABLE {
-            j += 1;
-        } else {
+        if MAX_NEXT_ACCEPTABLE <= given.number {
             if !kept_ok(read_hint(hints, j)) {
                 return false;
             }
             kept += 1;
-            j += 1;
         }
     }
     kept <= (most / 4) as usize
@@ -164,15 +149,13 @@ pub fn check_frames(headers: &[u8], f: usize, area: Area, budget: u64) -> Fillin
 {
     let mut floor = area.start;
     let mut used = 0;
-    let mut j = 0;
-    while j < f {
+    for j in 0..f {
         let h = read_header(headers, j);
         if !header_ok(area, budget, floor, used, h) {
             return Filling { ok: false, used: 0 };
         }
         floor = h.start as u64 + 1;
         used += h.len as u64;
-        j += 1;
     }
     Filling { ok: true, used }
 }

@@ -44,7 +44,7 @@ unfolding decode_kept decode_hint
 beside t j e f = rw (e, f) (record { lsn = refl; number = number_join 3 1 _ 4 })
 
 -- an LSN that does not rise or is past the end
-no_lsn : (x y z : Bool) → (x && (y && true)) ≡ false → (x && (y && z)) ≡ false
+no_lsn : (x y z : Bool) → (x && y) ≡ false → (x && (y && z)) ≡ false
 no_lsn true true z e = never {b = true} refl e
 no_lsn true false z e = refl
 no_lsn false y z e = refl
@@ -68,7 +68,7 @@ by_mark (suc zero) n g e l q = let z : ltb n lim ≡ false = q in rw z
 by_mark (suc (suc m)) n g e l q = rw (lt-leb (suc (suc m)) 1 (omega arith)) (and_no (ltb n lim))
 
 module _ (end most floor kept : ℕ) {h g : Hint} (b : Beside h g) (hs : List Hint) where
-  lsn_no : (leb floor g.lsn && (ltb g.lsn end && true)) ≡ false → held_from end most floor kept (h ∷ hs) ≡ false
+  lsn_no : (leb floor g.lsn && ltb g.lsn end) ≡ false → held_from end most floor kept (h ∷ hs) ≡ false
   unfolding held_from walk
   lsn_no q =
       let z : rising_ok hint_lsn hint_ok end floor h ≡ false =
@@ -81,9 +81,9 @@ module _ (end most floor kept : ℕ) {h g : Hint} (b : Beside h g) (hs : List Hi
       rw (rising_is hint_lsn hint_ok end floor h)
       (no_either (leb floor h.lsn) (ltb h.lsn end) (ltb h.number lim) (leb h.mark 1) _ _ _ (by_mark h.mark h.number g.number b.number l q))
 
-  module _ (r : (leb floor g.lsn && (ltb g.lsn end && true)) ≡ true) where
+  module _ (r : (leb floor g.lsn && ltb g.lsn end) ≡ true) where
     rises : hint_ok h ≡ true → rising_ok hint_lsn hint_ok end floor h ≡ true
-    rises n = rising_is hint_lsn hint_ok end floor h ∙ rw n (rw b.lsn at r)
+    rises n = rising_is hint_lsn hint_ok end floor h ∙ rw (n, and-true) (rw b.lsn at r)
 
     -- not kept
     held_on : g.number < lim → held_from end most floor kept (h ∷ hs) ≡ held_from end most (g.lsn + 1) kept hs
@@ -115,10 +115,10 @@ module _ {end most n : ℕ} {t : List ℕ} {x : Bool} {floor kept j : ℕ} (k : 
   asking_end l = sym (held_end end most floor kept) ∙ rest_end k.rest l
 
   module _ (l : j < n) {g : Hint} (f : g ≡ record_at 8 decode_hint t j) where
-    pub stop_lsn : (leb floor g.lsn && (ltb g.lsn end && true)) ≡ false → false ≡ x
+    pub stop_lsn : (leb floor g.lsn && ltb g.lsn end) ≡ false → false ≡ x
     stop_lsn q = rest_stop k.rest l refl (λ hs. lsn_no end most floor kept (beside t j refl f) hs q)
 
-    pub on_plain : (leb floor g.lsn && (ltb g.lsn end && true)) ≡ true → g.number < lim → Asking end most n t x (g.lsn + 1) kept (j + 1)
+    pub on_plain : (leb floor g.lsn && ltb g.lsn end) ≡ true → g.number < lim → Asking end most n t x (g.lsn + 1) kept (j + 1)
     on_plain r m =
         record { few = let p = k.few in omega arith; rest = rest_on k.rest _ l refl (λ hs. held_on end most floor kept (beside t j refl f) hs r m) }
 
@@ -126,7 +126,7 @@ module _ {end most n : ℕ} {t : List ℕ} {x : Bool} {floor kept j : ℕ} (k : 
       pub stop_mark : lim ≤ g.number → (eqb h.mark 1 && ltb h.number lim) ≡ false → false ≡ x
       stop_mark m q = rest_stop k.rest l e (λ hs. mark_no end most floor kept (beside t j e f) hs m q)
 
-      pub on_kept : (leb floor g.lsn && (ltb g.lsn end && true)) ≡ true → (eqb h.mark 1 && ltb h.number lim) ≡ true
+      pub on_kept : (leb floor g.lsn && ltb g.lsn end) ≡ true → (eqb h.mark 1 && ltb h.number lim) ≡ true
           → Asking end most n t x (g.lsn + 1) (kept + 1) (j + 1)
       on_kept r q =
           record { few = let p = k.few in omega arith; rest = rest_on k.rest _ l e (λ hs. kept_on end most floor kept (beside t j e f) hs r q) }

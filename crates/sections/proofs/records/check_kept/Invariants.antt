@@ -1,4 +1,3 @@
-use Prim.Native.Nat.{◌-◌}
 use mathlib.Core.Bool.{◌&&◌}
 use Rattle.rules.specs.Sections.{hints_ok, marks_ok}
 use Rattle.tables.specs.Tables.{kept_in}
@@ -7,6 +6,3 @@ use Rattle.sections.proofs.records.check_kept.Given as goal
 
 abbrev pub invariant-loop-j : goal.invariant-loop-j
 invariant-loop-j l = Asking l.area.end l.most l.n l.hints (hints_ok l.area (kept_in l.n l.hints) && marks_ok l.most (kept_in l.n l.hints)) l.floor l.kept l.j
-
-abbrev pub decreases-loop-j : goal.decreases-loop-j
-decreases-loop-j l = l.n - l.j
