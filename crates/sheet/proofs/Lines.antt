@@ -1,19 +1,20 @@
 -- Words, names and numbers of a line, from a place on, and what a line of so many words says. Assumes nothing.
 use Prim.Native.Nat.{ℕ, suc, ◌+◌, ◌-◌, ◌*◌, ◌^◌, ◌≤◌, ◌<◌}
 use mathlib.Core.Path.{◌≡◌, refl, sym, ap, ◌∙◌}
-use mathlib.Core.Bool.{Bool, true, false, ◌&&◌, cond}
+use mathlib.Core.Bool.{Bool, true, false, ◌&&◌, not, cond}
 use mathlib.Core.List.{List, [], ◌∷◌}
 use mathlib.Core.Option.{none, some}
-use native.Mathlib.Nat.{pow-suc, pow-le-pow_right}
+use native.Mathlib.Nat.{pow-suc}
 use native.Mathlib.Numerals.{add-one}
 use native.Mathlib.Omega.{arith}
-use borrow.Author.Tests.{eq-eqb, ne_eqb, leb-true}
+use borrow.Author.Tests.{eq-eqb, ne_eqb, leb-true, lt-leb}
 use lib.Dec.{eqb, leb}
 use lib.ListN.{length, get_or, take, drop, length-drop, drop_of_length-le}
 use lib.Seq.{drop-cons, drop-drop, take_all, length-take-le}
+use Rattle.std.specs.List.{list_any}
 use Rattle.rules.specs.Tests.{all, each}
 use Rattle.rules.proofs.Tests.{test, and_left, and_right}
-use Rattle.rules_coverage.specs.Lines.{on_first, words_of, is_name, is_number, is_digit, between, value_from, line_from, line_of}
+use Rattle.rules_coverage.specs.Lines.{not_zero, on_first, words_of, is_name, is_number, is_digit, between, value_from, line_from, line_of}
 use Rattle.sheet.specs.declared.line.Parsed.{Parsed}
 use Rattle.sheet.specs.declared.line.Parsed.TheVariants as parsed
 use Rattle.sheet.specs.declared.line.Number.TheVariants.{Nothing, Value}
@@ -52,6 +53,11 @@ module _ (i : ℕ) (s : List ℕ) where
     value_done v = ap (value_from v) (drop_of_length-le s k)
 
 -- ---- names and numbers
+pub no_zero_is : (s : List ℕ) → not (list_any (λ y. eqb y 0) s) ≡ each not_zero s
+unfolding each
+no_zero_is [] = refl
+no_zero_is (b ∷ s) = test (eqb b 0) (λ e. rw e) (λ e. rw e (no_zero_is s))
+
 pub digit→ : (b : ℕ) → is_digit b ≡ true → (48 ≤ b) × (b ≤ 57)
 unfolding between
 digit→ b e = (leb-true 48 b (and_left (leb 48 b) (leb b 57) e), leb-true b 57 (and_right (leb 48 b) (leb b 57) e))
@@ -60,17 +66,18 @@ digit→ b e = (leb-true 48 b (and_left (leb 48 b) (leb b 57) e), leb-true b 57 
 abbrev pub ten_at_most : ℕ → Bool
 ten_at_most n = leb 1 n && leb n 10
 
-pub at_most_ten : (n : ℕ) → ten_at_most n ≡ true → n ≤ 10
-at_most_ten n e = leb-true n 10 (and_right (leb 1 n) (leb n 10) e)
-
 and_false : (a : Bool) → (a && false) ≡ false
 and_false true = refl
 and_false false = refl
 
 module _ (s : List ℕ) where
-  pub wrong_length : ten_at_most (length s) ≡ false → Nothing ≡ number_of s
+  pub no_length : length s ≡ 0 → Nothing ≡ number_of s
   unfolding number_of is_number between
-  wrong_length e = rw e
+  no_length e = rw e
+
+  pub long_length : 10 < length s → Nothing ≡ number_of s
+  unfolding number_of is_number between
+  long_length l = rw (lt-leb (length s) 10 l, and_false (leb 1 (length s)))
 
   pub no_digits : each is_digit s ≡ false → Nothing ≡ number_of s
   unfolding number_of is_number
@@ -94,9 +101,6 @@ module _ (s : List ℕ) where
 -- a number of i digits and one digit more
 pub digits_more : (v i d : ℕ) → v < 10 ^ i → d ≤ 9 → v * 10 + d < 10 ^ (i + 1)
 digits_more v i d h k = rw (add-one, pow-suc) (omega arith)
-
-pub ten_digits : (i : ℕ) → i ≤ 10 → 10 ^ i ≤ 10000000000
-ten_digits i h = pow-le-pow_right {n = 10} (omega arith) h
 
 -- ---- words
 -- a list without a space is one word
@@ -181,17 +185,17 @@ module _ (s : List ℕ) (a : ℕ) (ea : a ≡ 0 + word_length (drop 0 s)) where
           (rw (words_at s 0 a ea ha, words_at s (a + 1) b eb hb, words_at s (b + 1) c ec h, r.1.1, ne_eqb (suc (suc (suc (suc (length r.1.0))))) 3 (omega arith)), no_name (length s))
 
       module _ (h : c ≡ length s) where
-        words : line_of s ≡ line_from (take (a - 0) s ∷ take (b - (a + 1)) (drop (a + 1) s) ∷ take (c - (b + 1)) (drop (b + 1) s) ∷ [])
+        words : line_of s ≡ line_from (take a s ∷ take (b - (a + 1)) (drop (a + 1) s) ∷ take (c - (b + 1)) (drop (b + 1) s) ∷ [])
         unfolding line_of
-        words = rw (words_at s 0 a ea ha, words_at s (a + 1) b eb hb, words_last s (b + 1) c ec h)
+        words = rw (words_at s 0 a ea ha, words_at s (a + 1) b eb hb, words_last s (b + 1) c ec h, (let z : a - 0 ≡ a = omega arith in z))
 
-        pub three_words : {r : Parsed} → r ≡ parsed_from (take (a - 0) s) (take (b - (a + 1)) (drop (a + 1) s)) (take (c - (b + 1)) (drop (b + 1) s)) → Says s r
+        pub three_words : {r : Parsed} → r ≡ parsed_from (take a s) (take (b - (a + 1)) (drop (a + 1) s)) (take (c - (b + 1)) (drop (b + 1) s)) → Says s r
         unfolding parsed_from line_from
         three_words q =
-            let n = take (a - 0) s in
+            let n = take a s in
             let x = take (b - (a + 1)) (drop (a + 1) s) in
             let y = take (c - (b + 1)) (drop (b + 1) s) in
-            let k : length n ≡ a - 0 = length-take-le (a - 0) s (omega arith) in
+            let k : length n ≡ a = length-take-le a s (omega arith) in
             rw q (
               by_tests (is_name n) (is_number x) (is_number y) s n (length n) (value_from 0 x) (value_from 0 y) (rw k) ∙ sym words,
               name_inside s n x y (omega arith),

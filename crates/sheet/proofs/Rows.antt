@@ -37,12 +37,11 @@ abbrev pub asked_area : List ℕ → ℕ → ℕ → Area
 asked_area b s e = record { key = asked_key b; start = s; end = e }
 
 -- ---- the key that stands in
-pub key_is : (b : List ℕ) (h : Header) {n : ℕ} → 88 ≤ length b → h ≡ read_header (take (length b - 8 - 0) b) → n ≡ asked_slot h.slot
+pub key_is : (b : List ℕ) (h : Header) {n : ℕ} → 88 ≤ length b → h ≡ read_header (take (length b - 8) b) → n ≡ asked_slot h.slot
     → ◌≡◌ {A = AreaKey} (record { slot = n; start = h.start; end = h.end; channels = h.channels; sectors = h.sectors }) (asked_key b)
 unfolding asked_key
 key_is b h l e q =
-    let z : length b - 8 - 0 ≡ length b - 8 = omega arith in
-    rw (le-ltb (length b) 88 l, q, e, z)
+    rw (le-ltb (length b) 88 l, q, e)
 
 -- a refusal does not look at what comes after it
 after_refused : {A : Type 0} (n : ℕ) (r q : Answer A) → eqb n 0 ≡ false → after n r ≡ after n q

@@ -4,8 +4,9 @@ use mathlib.Core.Path.{◌≡◌, refl, sym, ap, ◌∙◌}
 use mathlib.Core.List.{List, [], ◌∷◌, ◌++◌, append_assoc}
 use native.Mathlib.Omega.{arith}
 use borrow.Author.Tests.{eq-eqb, ne_eqb}
+use borrow.Rule.Slice.PartMut.{put_mid}
 use lib.ListN.{length, get_or, take, drop, set, length-append}
-use lib.Seq.{take_all, take_at, drop_at, take-set-le, drop-set-add, get_or-take, get_or-drop, sets, sets-eq, length-take-le}
+use lib.Seq.{take_all, take_at, drop_at, drop-drop, take-set-le, drop-set-add, get_or-take, get_or-drop, sets, sets-eq, length-take-le}
 use Rattle.field.specs.Records.{records, record_at}
 use Rattle.field.proofs.Records.{records_length, records_more}
 use Rattle.rules.specs.Tests.{Answer, Refused, Accepted}
@@ -31,6 +32,18 @@ four_stores : (n : ℕ) (t : List ℕ) (a b c d : ℕ) → records 4 words_row n
 four_stores n t a b c d =
     records_set n _ (suc (suc (suc (n * 4)))) d (omega arith) ∙ records_set n _ (suc (suc (n * 4))) c (omega arith) ∙ records_set n _ (suc (n * 4)) b (omega arith)
     ∙ records_set n t (n * 4) a (omega arith)
+
+-- four words written over a part of the table
+four_written : (n : ℕ) (t ws : List ℕ) → n * 4 + 4 ≤ length t → length ws ≡ 4 → put_mid (n * 4) (n * 4 + 4 - n * 4) t ws ≡ sets t (n * 4) ws
+four_written n t ws h l =
+    let k : n * 4 + 4 - n * 4 ≡ 4 = omega arith in
+    rw (k, drop-drop) (sym (sets-eq ws t (n * 4) (omega arith) ∙ rw (l, append_assoc)))
+
+pub row_written : (n : ℕ) (t : List ℕ) (r : RowAnswer) → n * 4 + 4 ≤ length t
+    → put_mid (n * 4) (n * 4 + 4 - n * 4) t (row_words r) ≡ sets t (n * 4) (row_words r)
+unfolding row_words
+row_written n t (answer.Refused k) h = four_written n t (row_words (answer.Refused k)) h refl
+row_written n t (answer.Accepted k b e) h = four_written n t (row_words (answer.Accepted k b e)) h refl
 
 -- the record that four stores make
 four_words : (n : ℕ) (t : List ℕ) (a b c d : ℕ) → n * 4 + 4 ≤ length t → take 4 (drop (n * 4) (sets t (n * 4) (a ∷ b ∷ c ∷ d ∷ []))) ≡ a ∷ b ∷ c ∷ d ∷ []
@@ -108,9 +121,9 @@ pub no_rows : (t : List ℕ) → row 0 0 0 ≡ totals (rows_in 0 t)
 unfolding rows_in records totals
 no_rows t = refl
 
-pub all_rows : (t : List ℕ) (n : ℕ) → 1000 ≤ n → rows_in 1000 t ≡ rows_in n t
+pub min_rows : (t : List ℕ) (n : ℕ) → rows_in (min n 1000) t ≡ rows_in n t
 unfolding rows_in
-all_rows t n h = let k : min n 1000 ≡ 1000 = omega arith in rw k
+min_rows t n = let k : min (min n 1000) 1000 ≡ min n 1000 = omega arith in rw k
 
 -- the words of record number i
 word_at : (t : List ℕ) (k j : ℕ) → j < 4 → get_or (take 4 (drop k t)) j 0 ≡ get_or t (k + j) 0

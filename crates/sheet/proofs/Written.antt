@@ -44,8 +44,8 @@ unfolding puts
 puts_done o i s k = ap (puts o) (drop_of_length-le s k)
 
 -- all behind a place
-pub cut_all : (t : List ℕ) (k : ℕ) → take (length t - k) (drop k t) ≡ drop k t
-cut_all t k = take_all (length t - k) (drop k t) (let l = length-drop k t in omega arith)
+pub cut_all : (t : List ℕ) (k : ℕ) {n : ℕ} → n ≡ length t → take (n - k) (drop k t) ≡ drop k t
+cut_all t k {n} e = take_all (n - k) (drop k t) (let l = length-drop k t in omega arith)
 
 -- as many as there is room for are stored
 Stores : List ℕ → List ℕ → ℕ → Type 0
@@ -115,10 +115,10 @@ pub name_told : (said : Parsed) (k a e n : ℕ) → said ≡ parsed.Line k a e �
 unfolding name_length
 name_told said k a e n q h = rw q at h
 
-pub name_put : (o : List ℕ) (at : ℕ) (line : List ℕ) (k a e : ℕ) (x : Output) → x ≡ puts (output o at) (take (k - 0) line)
+pub name_put : (o : List ℕ) (at : ℕ) (line : List ℕ) (k a e : ℕ) (x : Output) → x ≡ puts (output o at) (take k line)
     → x ≡ puts (output o at) (name_of (line_in line (parsed.Line k a e)))
 unfolding line_in name_of
-name_put o at line k a e x q = let z : k - 0 ≡ k = omega arith in rw z at q
+name_put o at line k a e x q = q
 
 module _ (x0 x1 x2 x3 : Output) where
   pub numbers_put : (x4 x5 : Output) (r : Row) (c : ℕ) → x1 ≡ puts x0 (number_text r.checkpoints) → x2 ≡ puts x1 (number_text r.boundaries) → x3 ≡ puts x2 (number_text r.held)

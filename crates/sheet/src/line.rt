@@ -4,8 +4,6 @@ ghost use Rattle.rules.specs.Tests.{each};
 ghost use Rattle.rules_coverage.specs.Lines.{not_zero, is_digit, is_name, line_of};
 ghost use Rattle.sheet.specs.Lines.{word_length, number_of, parsed_from, line_in, name_length};
 
-use field::and;
-
 // The length of the name, start and end; or another shape, which is 46.
 #[derive(Clone, Copy)]
 pub enum Parsed {
@@ -25,42 +23,34 @@ fn word_end(line: &[u8], from: usize) -> usize
     requires { from ≤ length line.now }
     ensures { (result ≡ from + word_length (drop from line.now)) × (from ≤ result) × (result ≤ length line.now) }
 {
-    let mut i = from;
-    while i < line.len() {
-        if line[i] == 32 {
+    for i in from..line.len() {
+        if line[i] == b' ' {
             return i;
         }
-        i += 1;
     }
-    i
+    line.len()
 }
 
 // ---- names
 fn no_zero(s: &[u8]) -> bool
     ensures { result ≡ each not_zero s.now }
 {
-    let mut i = 0;
-    while i < s.len() {
-        if s[i] == 0 {
-            return false;
-        }
-        i += 1;
-    }
-    true
+    !s.contains(&0)
 }
 
+#[tactic(auto, unfolding(rules_coverage::specs::Lines::between, rules_coverage::specs::Lines::is_name))]
 fn is_name(s: &[u8]) -> bool
     ensures { result ≡ is_name s.now }
 {
-    let n = s.len();
-    and(and(1 <= n, n <= 255), no_zero(s))
+    1 <= s.len() && s.len() <= 255 && no_zero(s)
 }
 
 // ---- numbers
+#[tactic(auto, unfolding(rules_coverage::specs::Lines::between))]
 fn is_digit(b: u8) -> bool
     ensures { result ≡ is_digit b }
 {
-    and(48 <= b, b <= 57)
+    b.is_ascii_digit()
 }
 
 // The value of a digit.
@@ -68,26 +58,22 @@ fn digit(b: u8) -> u64
     requires { (48 ≤ b) × (b ≤ 57) }
     ensures { (result ≡ b - 48) × (result ≤ 9) }
 {
-    (b - 48) as u64
+    (b - b'0') as u64
 }
 
 // The number of one to ten digits.
 fn read_number(s: &[u8]) -> Number
     ensures { result ≡ number_of s.now }
 {
-    let n = s.len();
-    if !and(1 <= n, n <= 10) {
+    if s.is_empty() || 10 < s.len() {
         return Number::Nothing;
     }
     let mut v = 0;
-    let mut i = 0;
-    while i < n {
-        let b = s[i];
-        if !is_digit(b) {
+    for b in s {
+        if !is_digit(*b) {
             return Number::Nothing;
         }
-        v = v * 10 + digit(b);
-        i += 1;
+        v = v * 10 + digit(*b);
     }
     Number::Value(v)
 }
@@ -128,5 +114,5 @@ pub fn parse(line: &[u8]) -> Parsed
     if c != n {
         return Parsed::Broken;
     }
-    parse_words(&line[0..a], &line[second..b], &line[third..c])
+    parse_words(&line[..a], &line[second..b], &line[third..c])
 }

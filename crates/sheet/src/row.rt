@@ -6,7 +6,6 @@ ghost use Rattle.rules_coverage.specs.Coverage.{range_ok, row_of, file_row, line
 ghost use Rattle.sheet.specs.Rows.{answer_in, found_row, file_in, asked_key, asked_slot};
 
 use crate::line::{Parsed, parse};
-use field::and;
 use header::read_header;
 use inspect::{Found, Inspected, inspect};
 use rules::{Area, AreaKey, MAX_U32};
@@ -21,10 +20,11 @@ pub enum RowAnswer {
 
 // ---- the area
 // 1, of the range only.
+#[tactic(auto, unfolding(rules::specs::Tests::all, rules_coverage::specs::Coverage::range_ok))]
 fn range_ok(start: u64, end: u64) -> bool
     ensures { result ≡ range_ok start end }
 {
-    and(start <= end, end <= MAX_U32)
+    start <= end && end <= MAX_U32
 }
 
 // Slot 0 stands in for one above 1, which 24 refuses whatever the area's.
@@ -38,8 +38,7 @@ fn asked_slot(slot: u8) -> u8
 fn asked_key(bytes: &[u8]) -> AreaKey
     ensures { result ≡ asked_key bytes.now }
 {
-    let len = bytes.len();
-    if len < 88 {
+    if bytes.len() < 88 {
         return AreaKey {
             slot: 0,
             start: 0,
@@ -48,8 +47,7 @@ fn asked_key(bytes: &[u8]) -> AreaKey
             sectors: 0,
         };
     }
-    let end = len - 8;
-    let h = read_header(&bytes[0..end]);
+    let h = read_header(&bytes[..bytes.len() - 8]);
     AreaKey {
         slot: asked_slot(h.slot),
         start: h.start,
@@ -65,9 +63,8 @@ fn found_row(found: Found) -> RowAnswer
     ensures { result ≡ found_row found }
 {
     let x = found.index;
-    let area = x.area;
-    let b = area_boundaries(area, x.interval);
-    RowAnswer::Accepted(x.checkpoints, b as u32, found.used as u32)
+    let boundaries = area_boundaries(x.area, x.interval);
+    RowAnswer::Accepted(x.checkpoints, boundaries as u32, found.used as u32)
 }
 
 // 1, then 20 to 38, or the row.
@@ -78,21 +75,18 @@ pub fn row_of(bytes: &[u8], start: u64, end: u64) -> RowAnswer
         return RowAnswer::Refused(1);
     }
     let key = asked_key(bytes);
-    let read = inspect(Area { key, start, end }, bytes);
-    match read {
+    match inspect(Area { key, start, end }, bytes) {
         Inspected::Refused(n) => RowAnswer::Refused(n),
         Inspected::Passed(found) => found_row(found),
     }
 }
 
 // 45, then those of the row; whole tells whether bytes are all that the file has, or its first 65,537.
+#[tactic(auto, unfolding(rules::specs::Tests::first_no, rules::specs::Tests::after, rules_coverage::specs::Coverage::file_row, crate::specs::Rows::answer_in, crate::specs::Rows::file_in))]
 fn file_row(whole: bool, bytes: &[u8], start: u64, end: u64) -> RowAnswer
     ensures { answer_in result ≡ file_row (file_in whole bytes.now) start end }
 {
-    if !whole {
-        return RowAnswer::Refused(45);
-    }
-    if 65536 < bytes.len() {
+    if !whole || 65536 < bytes.len() {
         return RowAnswer::Refused(45);
     }
     row_of(bytes, start, end)
@@ -102,8 +96,7 @@ fn file_row(whole: bool, bytes: &[u8], start: u64, end: u64) -> RowAnswer
 pub fn line_row(line: &[u8], whole: bool, bytes: &[u8]) -> RowAnswer
     ensures { answer_in result ≡ line_row (line_of line.now) (file_in whole bytes.now) }
 {
-    let said = parse(line);
-    match said {
+    match parse(line) {
         Parsed::Broken => RowAnswer::Refused(46),
         Parsed::Line(_, start, end) => file_row(whole, bytes, start, end),
     }

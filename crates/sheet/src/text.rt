@@ -14,24 +14,24 @@ use crate::totals::totals;
 use rules_coverage::Row;
 
 // ---- bytes behind each other; what does not fit is left out
+#[tactic(auto, unfolding(crate::specs::Text::put))]
 fn put_byte(out: &mut [u8], at: usize, b: u8) -> usize
     ensures { output out.new result ≡ put (output out.old at) b }
 {
     if at < out.len() {
         out[at] = b;
-        return at + 1;
+        at + 1
+    } else {
+        at
     }
-    at
 }
 
 fn put_bytes(out: &mut [u8], at: usize, s: &[u8]) -> usize
     ensures { output out.new result ≡ puts (output out.old at) s.now }
 {
     let mut q = at;
-    let mut i = 0;
-    while i < s.len() {
-        q = put_byte(out, q, s[i]);
-        i += 1;
+    for b in s {
+        q = put_byte(out, q, *b);
     }
     q
 }
@@ -46,20 +46,12 @@ fn spell(v: u64, text: &mut [u8]) -> usize
     let mut rest = v;
     while 10 <= rest {
         at -= 1;
-        text[at] = 48 + (rest % 10) as u8;
+        text[at] = b'0' + (rest % 10) as u8;
         rest /= 10;
     }
     at -= 1;
-    text[at] = 48 + rest as u8;
+    text[at] = b'0' + rest as u8;
     at
-}
-
-// The bytes of text from from on.
-fn put_from(out: &mut [u8], at: usize, text: &[u8], from: usize) -> usize
-    requires { from ≤ length text.now }
-    ensures { output out.new result ≡ puts (output out.old at) (drop from text.now) }
-{
-    put_bytes(out, at, &text[from..])
 }
 
 fn put_decimal(out: &mut [u8], at: usize, v: u64) -> usize
@@ -67,14 +59,14 @@ fn put_decimal(out: &mut [u8], at: usize, v: u64) -> usize
 {
     let mut text = [0u8; 20];
     let from = spell(v, &mut text);
-    put_from(out, at, &text, from)
+    put_bytes(out, at, &text[from..])
 }
 
 // A space and the number behind it.
 fn put_number(out: &mut [u8], at: usize, v: u64) -> usize
     ensures { output out.new result ≡ puts (output out.old at) (number_text v) }
 {
-    let q = put_byte(out, at, 32);
+    let q = put_byte(out, at, b' ');
     put_decimal(out, q, v)
 }
 
@@ -98,7 +90,7 @@ fn put_numbers(out: &mut [u8], at: usize, r: Row) -> usize
     let b = put_number(out, a, r.boundaries);
     let c = put_number(out, b, r.held);
     let d = put_number(out, c, coverage(r));
-    put_byte(out, d, 10)
+    put_byte(out, d, b'\n')
 }
 
 fn put_refused(out: &mut [u8], at: usize, n: u32) -> usize
@@ -106,7 +98,7 @@ fn put_refused(out: &mut [u8], at: usize, n: u32) -> usize
 {
     let a = put_bytes(out, at, b" refused");
     let b = put_number(out, a, n as u64);
-    put_byte(out, b, 10)
+    put_byte(out, b, b'\n')
 }
 
 fn put_answer(out: &mut [u8], at: usize, row: RowAnswer) -> usize
@@ -133,8 +125,8 @@ fn put_name(out: &mut [u8], line: &[u8], said: Parsed) -> usize
     ensures { output out.new result ≡ puts (output out.old 0) (name_of (line_in line.now said)) }
 {
     match said {
-        Parsed::Broken => put_byte(out, 0, 45),
-        Parsed::Line(k, _, _) => put_bytes(out, 0, &line[0..k]),
+        Parsed::Broken => put_byte(out, 0, b'-'),
+        Parsed::Line(k, _, _) => put_bytes(out, 0, &line[..k]),
     }
 }
 

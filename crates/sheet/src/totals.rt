@@ -10,25 +10,22 @@ use crate::row::RowAnswer;
 use rules_coverage::Row;
 
 // ---- a row into the table
-fn put_words(table: &mut [u32], n: usize, a: u32, b: u32, c: u32, d: u32)
-    requires { (n * 4 + 4 ≤ length table.old) × (n < 1000) }
-    ensures { table.new ≡ sets table.old (n * 4) (a ∷ b ∷ c ∷ d ∷ []) }
+// The four words of a row.
+#[tactic(auto, unfolding(crate::specs::Steps::row_words))]
+fn row_words(row: RowAnswer) -> [u32; 4]
+    ensures { result ≡ row_words row }
 {
-    let at = n * 4;
-    table[at] = a;
-    table[at + 1] = b;
-    table[at + 2] = c;
-    table[at + 3] = d;
+    match row {
+        RowAnswer::Refused(k) => [0, k, 0, 0],
+        RowAnswer::Accepted(k, b, h) => [1, k, b, h],
+    }
 }
 
 fn put_at(table: &mut [u32], n: usize, row: RowAnswer)
     requires { (n * 4 + 4 ≤ length table.old) × (n < 1000) }
     ensures { table.new ≡ sets table.old (n * 4) (row_words row) }
 {
-    match row {
-        RowAnswer::Refused(k) => put_words(table, n, 0, k, 0, 0),
-        RowAnswer::Accepted(k, b, h) => put_words(table, n, 1, k, b, h),
-    }
+    table[n * 4..n * 4 + 4].copy_from_slice(&row_words(row));
 }
 
 // The row number n, behind the first n; nothing where there are 1,000.
@@ -41,12 +38,6 @@ pub fn put_row(table: &mut [u32; 4000], n: usize, row: RowAnswer)
 }
 
 // ---- the sums
-fn wide(x: u32) -> u64
-    ensures { (result ≡ x) × (result ≤ 4294967295) }
-{
-    x as u64
-}
-
 // With record number i of the table.
 fn add_row(t: Row, table: &[u32], i: usize) -> Row
     requires { (i * 4 + 4 ≤ length table.now) × (i < 1000) × (Small i t) }
@@ -57,9 +48,9 @@ fn add_row(t: Row, table: &[u32], i: usize) -> Row
         return t;
     }
     Row {
-        checkpoints: t.checkpoints + wide(table[at + 1]),
-        boundaries: t.boundaries + wide(table[at + 2]),
-        held: t.held + wide(table[at + 3]),
+        checkpoints: t.checkpoints + table[at + 1] as u64,
+        boundaries: t.boundaries + table[at + 2] as u64,
+        held: t.held + table[at + 3] as u64,
     }
 }
 
@@ -72,10 +63,8 @@ fn sum(table: &[u32], n: usize) -> Row
         boundaries: 0,
         held: 0,
     };
-    let mut i = 0;
-    while i < n {
+    for i in 0..n {
         t = add_row(t, table, i);
-        i += 1;
     }
     t
 }
@@ -84,9 +73,5 @@ fn sum(table: &[u32], n: usize) -> Row
 pub fn totals(table: &[u32; 4000], n: usize) -> Row
     ensures { (result ≡ totals (rows_in n table.now)) × (Small 1000 result) }
 {
-    if 1000 < n {
-        sum(table, 1000)
-    } else {
-        sum(table, n)
-    }
+    sum(table, n.min(1000))
 }

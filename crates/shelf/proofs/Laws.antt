@@ -57,9 +57,6 @@ pub record Seeking (k : Kept) (a : Area) (from i : ℕ) : Type 0 where
   pub inside : i ≤ k.n
   pub same : i + area_place a (drop i (list_of k)) ≡ from + area_place a (drop from (list_of k))
 
-pub seek_start : (k : Kept) (a : Area) (from : ℕ) → Sound k → from ≤ k.n → Seeking k a from from
-seek_start k a from h l = record { sound = h; inside = l; same = refl }
-
 module _ {k : Kept} {a : Area} {from i : ℕ} {r : ShelfRecord} {b : Bool} (s : Seeking k a from i) where
   seek_is : i < k.n → r ≡ get_or k.all i no_record → b ≡ same_area (area_of r) a
       → same_area (area_of (get_or (list_of k) i no_record)) a ≡ b
@@ -98,9 +95,6 @@ pub record Pairing (k : Kept) (i : ℕ) : Type 0 where
   pub sound : Sound k
   pub inside : i ≤ k.n
   pub same : no_two (drop i (list_of k)) ≡ no_two (list_of k)
-
-pub pair_start : (k : Kept) → Sound k → Pairing k 0
-pair_start k h = record { sound = h; inside = omega arith; same = refl }
 
 module _ {k : Kept} {i p : ℕ} {r : ShelfRecord} (s : Pairing k i) (l : i < k.n) (e : r ≡ get_or k.all i no_record)
     (t : p ≡ i + 1 + area_place (area_of r) (drop (i + 1) (list_of k))) where

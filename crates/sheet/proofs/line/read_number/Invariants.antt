@@ -1,7 +1,7 @@
 use Rattle.rules.specs.Tests.{each}
 use Rattle.rules_coverage.specs.Lines.{is_digit, value_from}
 use Rattle.sheet.proofs.Lines.{ten_at_most}
-use Prim.Native.Nat.{ℕ, ◌-◌, ◌^◌, ◌≤◌, ◌<◌}
+use Prim.Native.Nat.{ℕ, ◌^◌, ◌≤◌, ◌<◌}
 use mathlib.Core.Path.{◌≡◌}
 use mathlib.Core.Bool.{true}
 use mathlib.Core.List.{List}
@@ -9,17 +9,12 @@ use lib.ListN.{length, drop}
 use Rattle.sheet.proofs.line.read_number.Given as goal
 
 -- after i bytes the value is v
-pub record Upto (s : List ℕ) (n v i : ℕ) : Type 0 where
-  pub inside : i ≤ n
-  pub whole : n ≡ length s
+pub record Upto (s : List ℕ) (v i : ℕ) : Type 0 where
   pub few : ten_at_most (length s) ≡ true
-  pub most : n ≤ 10
+  pub most : length s ≤ 10
   pub digits : each is_digit (drop i s) ≡ each is_digit s
   pub value : value_from v (drop i s) ≡ value_from 0 s
   pub small : v < 10 ^ i
 
-abbrev pub invariant-loop-i : goal.invariant-loop-i
-invariant-loop-i l = Upto l.s l.n l.v l.i
-
-abbrev pub decreases-loop-i : goal.decreases-loop-i
-decreases-loop-i l = l.n - l.i
+abbrev pub invariant-loop-b : goal.invariant-loop-b
+invariant-loop-b l = Upto l.fn.s l.v l.b-index

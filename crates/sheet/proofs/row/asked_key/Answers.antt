@@ -5,9 +5,9 @@ use lib.ListN.{length}
 use borrow.Author.Rules.{rules}
 use Rattle.sheet.proofs.row.asked_key.Goals as goal
 
-pub returns-then-len-lt88 : goal.returns-then-len-lt88
+pub returns-then-bytes-lt88 : goal.returns-then-bytes-lt88
 unfolding asked_key
-returns-then-len-lt88 c = rw (lt-ltb (length c.args.bytes.now) 88 c.if-len-lt88.true)
+returns-then-bytes-lt88 c = rw (lt-ltb (length c.args.bytes.now) 88 c.if-bytes-lt88.true)
 
 pub returns : goal.returns
 returns c = key_is _ _ (search rules) c.read_header-h.ensures c.asked_slot.ensures

@@ -4,8 +4,8 @@ use native.Mathlib.Omega.{arith}
 use Rattle.sheet.proofs.row.found_row.Goals as goal
 
 pub overflow_cast-result : goal.overflow_cast-result
-overflow_cast-result c = omega (arith, c.area_boundaries-b.ensures, boundaries_small c.args.found.index.area c.args.found.index.interval c.requires.0)
+overflow_cast-result c = omega (arith, c.area_boundaries-boundaries.ensures, boundaries_small c.args.found.index.area c.args.found.index.interval c.requires.0)
 
 pub returns : goal.returns
 unfolding found_row
-returns c = rw c.area_boundaries-b.ensures
+returns c = rw c.area_boundaries-boundaries.ensures

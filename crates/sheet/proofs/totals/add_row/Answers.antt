@@ -9,6 +9,6 @@ returns-then-table-at-ne1 c = (not_added c.args.t c.args.table.now c.args.i c.if
 
 pub returns : goal.returns
 returns c = (
-  rw (c.wide.ensures.0, c.wide-2.ensures.0, c.wide-3.ensures.0) (row_added c.args.t c.args.table.now c.args.i c.if-table-at-ne1.false),
+  row_added c.args.t c.args.table.now c.args.i c.if-table-at-ne1.false,
   record { checkpoints = search rules; boundaries = search rules; held = search rules },
 )

@@ -1,10 +1,6 @@
-use Rattle.sheet.specs.Steps.{row_words}
+use mathlib.Core.Path.{◌∙◌}
+use Rattle.sheet.proofs.Sums.{row_written}
 use Rattle.sheet.proofs.totals.put_at.Goals as goal
 
-pub returns-in-Refused : goal.returns-in-Refused
-unfolding row_words
-returns-in-Refused c = rw c.in-Refused.is c.put_words.ensures
-
-pub returns-in-Accepted : goal.returns-in-Accepted
-unfolding row_words
-returns-in-Accepted c = rw c.in-Accepted.is c.put_words-in-Accepted.ensures
+pub returns : goal.returns
+returns c = rw (c.copy_from_slice.ensures.after ∙ c.row_words.ensures) (row_written c.args.n c.args.table.now c.args.row c.requires.0)

@@ -1,8 +1,11 @@
-use Rattle.rules_coverage.specs.Coverage.{totals}
-use Rattle.sheet.proofs.Sums.{all_rows}
+use native.Mathlib.Omega.{arith}
 use mathlib.Core.Path.{ap, ◌∙◌}
-use borrow.Author.Rules.{rules}
+use Rattle.rules_coverage.specs.Coverage.{totals}
+use Rattle.sheet.proofs.Sums.{min_rows, small_by}
 use Rattle.sheet.proofs.totals.totals.Goals as goal
 
-pub returns-then-n-gt1000 : goal.returns-then-n-gt1000
-returns-then-n-gt1000 c = (c.sum.ensures.0 ∙ ap totals (all_rows c.args.table.now c.args.n (search rules)), c.sum.ensures.1)
+pub returns : goal.returns
+returns c = (
+  rw c.min.ensures at c.sum.ensures.0 ∙ ap totals (min_rows c.args.table.now c.args.n),
+  small_by c.min.result 1000 c.sum.result (omega arith) c.sum.ensures.1,
+)
