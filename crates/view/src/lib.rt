@@ -13,7 +13,6 @@ ghost use Rattle.view.specs.Steps.{asked};
 
 use crate::write::{put_listener, put_workshop};
 use blocks::read::is_index;
-use field::or;
 use index::refuses;
 use rules::{AreaIndex, Viewed};
 use save::output::long_enough;
@@ -21,20 +20,18 @@ use sections::ask;
 
 // ---- questions and lengths
 // 52: is the role 1 (listener) or 2 (workshop)?
+#[tactic(auto, unfolding(rules_view::specs::View::is_role))]
 pub fn is_role(role: u32) -> bool
     ensures { result ≡ is_role role }
 {
-    or(role == 1, role == 2)
+    role == 1 || role == 2
 }
 
 // 52 of what the workshop alone may call: is the role 2?
 pub fn is_workshop(role: u32) -> bool
     ensures { result ≡ is_workshop role }
 {
-    if role == 2 {
-        return true;
-    }
-    false
+    role == 2
 }
 
 // 52, then 3 of the block with the list's numbers: the number of the first answered no, 0 for none.
@@ -89,9 +86,10 @@ fn size(role: u32, x: AreaIndex) -> u64
     ensures { (t : Tables) → result ≡ view_length role (index_in x t) }
 {
     if role == 1 {
-        return 88 + 8 * x.checkpoints as u64;
+        88 + 8 * x.checkpoints as u64
+    } else {
+        workshop_size(x.checkpoints, x.malformed, x.parts, x.hints, x.confirmed)
     }
-    workshop_size(x.checkpoints, x.malformed, x.parts, x.hints, x.confirmed)
 }
 
 // The length that a view will have: 52, then 1 to 4.
@@ -154,10 +152,9 @@ fn write_view(
         out.old }
 {
     let at = put_listener(out, role, x, checkpoints);
-    if role == 1 {
-        return;
+    if role != 1 {
+        put_workshop(out, at, x, checkpoints, parts, malformed, hints, confirmed);
     }
-    put_workshop(out, at, x, checkpoints, parts, malformed, hints, confirmed);
 }
 
 // number is that of the first of 52 and 1 to 4 answered no, 0 for none.

@@ -8,7 +8,7 @@ ghost use Rattle.tables.specs.Tables.{checkpoints_in, parts_in, lsns_in, kept_in
 ghost use Rattle.save.specs.Output.{Put};
 ghost use Rattle.view.specs.Sections.{head_in, totals_in, seen_of, backing_of, listener_in, behind_bytes, behind_size, Shown};
 
-use field::{copy_first, copy_part, write_u32, write_u64};
+use field::{copy_first, write_u32, write_u64};
 use index::{is_complete, is_stated};
 use rules::{AreaIndex, Checkpoint};
 use save::layout::hint_header_of;
@@ -16,19 +16,18 @@ use sections::lsn_at;
 use tables::part_records::write_header;
 use tables::{read_checkpoint, read_held, read_hint, write_given};
 
+#[tactic(auto, unfolding(rules::specs::File::bit))]
 fn bit(b: bool) -> u64
     ensures { result ≡ bit b }
 {
-    if b { 1 } else { 0 }
+    u64::from(b)
 }
 
 // ---- words
 fn head_words(role: u32, x: AreaIndex) -> [u64; 11]
     ensures { result ≡ head_words (head_in role x) }
 {
-    let area = x.area;
-    let key = area.key;
-    let complete = bit(is_complete(x));
+    let key = x.area.key;
     [
         role as u64,
         key.slot as u64,
@@ -36,40 +35,11 @@ fn head_words(role: u32, x: AreaIndex) -> [u64; 11]
         key.start as u64,
         key.end as u64,
         key.sectors,
-        area.start,
-        area.end,
+        x.area.start,
+        x.area.end,
         x.interval as u64,
-        complete,
+        bit(is_complete(x)),
         x.checkpoints as u64,
-    ]
-}
-
-fn total_array(
-    malformed: u32,
-    parts: u32,
-    hints: u32,
-    known: u64,
-    fingerprint: u64,
-    confirmed: u32,
-) -> [u64; 6]
-    ensures { result
-        ≡ total_words
-        (record {
-          malformed = malformed;
-          parts = parts;
-          hints = hints;
-          known = known;
-          fingerprint = fingerprint;
-          confirmed = confirmed;
-        }) }
-{
-    [
-        malformed as u64,
-        parts as u64,
-        hints as u64,
-        known,
-        fingerprint,
-        confirmed as u64,
     ]
 }
 
@@ -77,29 +47,24 @@ fn total_array(
 fn total_words(x: AreaIndex) -> [u64; 6]
     ensures { result ≡ total_words (totals_in x) }
 {
-    let fingerprint = x.fingerprint;
-    let known = bit(is_stated(fingerprint));
-    let header = hint_header_of(x);
-    total_array(
-        x.malformed,
-        x.parts,
-        x.hints,
-        known,
-        header.fingerprint,
-        x.confirmed,
-    )
+    [
+        x.malformed as u64,
+        x.parts as u64,
+        x.hints as u64,
+        bit(is_stated(x.fingerprint)),
+        hint_header_of(x).fingerprint,
+        x.confirmed as u64,
+    ]
 }
 
 // ---- each section over the start of the stretch that is lent
-// The eleven words that a view begins with.
-fn write_head(out: &mut [u8], words: [u64; 11])
-    requires { 88 ≤ length out.old }
-    ensures { out.new ≡ over (word_bytes words) out.old }
+// Words of eight bytes each.
+fn write_words(out: &mut [u8], words: &[u64])
+    requires { length words.now * 8 ≤ length out.old }
+    ensures { out.new ≡ over (word_bytes words.now) out.old }
 {
-    let mut i = 0;
-    while i < 11 {
-        write_u64(out, i * 8, words[i]);
-        i += 1;
+    for (i, word) in words.iter().enumerate() {
+        write_u64(out, i * 8, *word);
     }
 }
 
@@ -111,26 +76,10 @@ fn write_seen(out: &mut [u8], x: AreaIndex, table: &[u8])
     ensures { out.new
         ≡ over (bytes_of encode_seen (seen_of x table.now)) out.old }
 {
-    let area = x.area;
-    let n = x.checkpoints;
-    let mut j: u32 = 0;
-    while j < n {
+    for j in 0..x.checkpoints {
         let c = read_checkpoint(table, j as usize);
-        let lsn = lsn_at(area, x.interval, j);
+        let lsn = lsn_at(x.area, x.interval, j);
         write_header(out, j as usize, (lsn % 4294967296) as u32, c.threshold);
-        j += 1;
-    }
-}
-
-// The six words behind the checkpoints.
-fn write_totals(out: &mut [u8], words: [u64; 6])
-    requires { 48 ≤ length out.old }
-    ensures { out.new ≡ over (word_bytes words) out.old }
-{
-    let mut i = 0;
-    while i < 6 {
-        write_u64(out, i * 8, words[i]);
-        i += 1;
     }
 }
 
@@ -151,11 +100,8 @@ fn write_backings(out: &mut [u8], table: &[u8], n: u32)
         ≡ over (bytes_of encode_backing (backings_of (checkpoints_in n table.now)))
         out.old }
 {
-    let mut j: u32 = 0;
-    while j < n {
-        let c = read_checkpoint(table, j as usize);
-        write_backing(out, j as usize, c);
-        j += 1;
+    for j in 0..n as usize {
+        write_backing(out, j, read_checkpoint(table, j));
     }
 }
 
@@ -165,11 +111,9 @@ fn write_lengths(out: &mut [u8], table: &[u8], n: u32)
     ensures { out.new
         ≡ over (bytes_of encode_held_length (lengths_of (parts_in n table.now))) out.old }
 {
-    let mut j: u32 = 0;
-    while j < n {
-        let p = read_held(table, j as usize);
-        write_header(out, j as usize, p.at, p.len);
-        j += 1;
+    for j in 0..n as usize {
+        let p = read_held(table, j);
+        write_header(out, j, p.at, p.len);
     }
 }
 
@@ -179,11 +123,8 @@ fn write_hints(out: &mut [u8], table: &[u8], n: u32)
     ensures { out.new
         ≡ over (bytes_of encode_hint (kept_in n table.now)) out.old }
 {
-    let mut j: u32 = 0;
-    while j < n {
-        let h = read_hint(table, j as usize);
-        write_given(out, j as usize, h);
-        j += 1;
+    for j in 0..n as usize {
+        write_given(out, j, read_hint(table, j));
     }
 }
 
@@ -193,11 +134,8 @@ fn write_marks(out: &mut [u8], table: &[u8], n: u32)
     ensures { out.new
         ≡ over (bytes_of encode_mark (kept_in n table.now)) out.old }
 {
-    let mut j: u32 = 0;
-    while j < n {
-        let at = j as usize;
-        copy_part(out, at, table, at * 8 + 7, 1);
-        j += 1;
+    for j in 0..n as usize {
+        out[j] = table[j * 8 + 7];
     }
 }
 
@@ -218,9 +156,8 @@ fn put_totals(out: &mut [u8], at: usize, x: AreaIndex) -> usize
     requires { at + 48 ≤ length out.old }
     ensures { Put (word_bytes (total_words (totals_in x))) 48 out.old at result out.new }
 {
-    let words = total_words(x);
     let to = at + 48;
-    write_totals(&mut out[at..to], words);
+    write_words(&mut out[at..to], &total_words(x));
     to
 }
 
@@ -295,7 +232,7 @@ pub fn put_listener(out: &mut [u8], role: u32, x: AreaIndex, checkpoints: &[u8])
     ensures { Put (seen_bytes role (listener_in x checkpoints.now))
         (88 + x.checkpoints * 8) out.old 0 result out.new }
 {
-    write_head(out, head_words(role, x));
+    write_words(out, &head_words(role, x));
     put_seen(out, 88, x, checkpoints)
 }
 

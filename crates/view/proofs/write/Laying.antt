@@ -4,8 +4,8 @@ use mathlib.Core.List.{List, [], ◌∷◌, ◌++◌, append-nil}
 use Prim.Native.Nat.{ℕ, suc, ◌+◌, ◌*◌, ◌%◌, ◌≤◌}
 use native.Mathlib.Nat.{zero-add}
 use native.Mathlib.Omega.{arith}
-use lib.ListN.{length, take, drop}
-use lib.Seq.{sets}
+use lib.ListN.{length, get_or, take, drop, set, length-set}
+use lib.Seq.{sets, drop-cons}
 use Rattle.field.specs.Number.{encode, put}
 use Rattle.field.specs.Records.{records, bytes_of, record_at, Bytes}
 use Rattle.field.proofs.Bytes.{sets_more}
@@ -22,7 +22,6 @@ use Rattle.rules_view.specs.View.{seen_from, backings_of, lengths_of, encode_see
 use Rattle.tables.specs.Tables.{checkpoints_in, parts_in, decode_kept, kept_in}
 use Rattle.laws.proofs.Layouts.{hint_layout}
 use Rattle.laws.proofs.Length.{length_each}
-use Rattle.save.proofs.output.Stretches.{put_copy}
 use Rattle.view.specs.Sections.{backing_of}
 use Rattle.view.proofs.Layouts.{seen_layout, behind_layout, length_layout, seen_count, behind_count, lengths_count, mark_length, marks_length}
 use Rattle.view.proofs.write.Words.{sets_over}
@@ -140,16 +139,15 @@ mark_at : (t : List ℕ) (j : ℕ) → Bytes t → j * 8 + 8 ≤ length t → ta
 unfolding encode_mark decode_kept
 mark_at t j b h = sym (rw (number_part 1 8 (j * 8) 7 t refl) (encode_number 1 t (j * 8 + 7) b (omega arith)))
 
-mark_put : {new : List ℕ} (old t : List ℕ) (j : ℕ) → Bytes t → j * 8 + 8 ≤ length t → j + 1 ≤ length old
-    → new ≡ take j old ++ (take 1 (drop (j * 8 + 7) t) ++ drop (j + 1) old) → new ≡ sets old j (encode_mark (record_at 8 decode_kept t j))
-mark_put old t j b h g c = (put_copy (encode_mark (record_at 8 decode_kept t j)) 1 old j (mark_length (record_at 8 decode_kept t j)) g (rw (mark_at t j b h) at c)).bytes
+mark_byte : (t : List ℕ) (j : ℕ) → Bytes t → j * 8 + 8 ≤ length t → encode_mark (record_at 8 decode_kept t j) ≡ get_or t (j * 8 + 7) 0 ∷ []
+mark_byte t j b h = sym (mark_at t j b h) ∙ rw (drop-cons t (j * 8 + 7) 0 (omega arith))
 
 -- one mark more
 pub marks_more : {old new new' : List ℕ} (t : List ℕ) (j : ℕ) → Laid encode_mark (kept_in j t) old new
-    → new' ≡ take j new ++ (take 1 (drop (j * 8 + 7) t) ++ drop (j + 1) new) → length new' ≡ length new → Bytes t → j * 8 + 8 ≤ length t → j + 1 ≤ length new
-    → Laid encode_mark (kept_in (j + 1) t) old new'
-marks_more {new = new} t j i c z b h g =
-    laid_more encode_mark mark_length j j (record_at 8 decode_kept t j) (omega arith) (records_length 8 decode_kept j t) (records_more 8 decode_kept j t) i (mark_put new t j b h g c) z
+    → new' ≡ set new j (get_or t (j * 8 + 7) 0) → Bytes t → j * 8 + 8 ≤ length t → Laid encode_mark (kept_in (j + 1) t) old new'
+marks_more {new = new} t j i c b h =
+    laid_more encode_mark mark_length j j (record_at 8 decode_kept t j) (omega arith) (records_length 8 decode_kept j t) (records_more 8 decode_kept j t) i
+    (rw (mark_byte t j b h) c) (ap length c ∙ length-set new j (get_or t (j * 8 + 7) 0))
 
 pub hints_bytes : (n : ℕ) (t : List ℕ) → length (bytes_of encode_hint (kept_in n t)) ≡ n * 8
 hints_bytes n t = size_of encode_hint hint_layout.size (kept_in n t) ∙ rw records_length

@@ -6,4 +6,4 @@ use mathlib.Core.Path.{refl}
 use Rattle.view.proofs.write.put_totals.Goals as goal
 
 pub returns : goal.returns
-returns c = lent _ _ _ _ _ (counts_length (totals_in c.args.x)) refl (omega arith) (rw c.total_words-words.ensures at c.write_totals.ensures)
+returns c = lent _ _ _ _ _ (counts_length (totals_in c.args.x)) refl (omega arith) (rw c.total_words.ensures at c.write_words.ensures)

@@ -10,14 +10,12 @@ use Rattle.view.proofs.write.write_hints.Goals as goal
 
 pub loop-j-init : goal.loop-j-init
 unfolding records
-loop-j-init c = (laid_none _ _, omega arith)
+loop-j-init c = laid_none _ _
 
 pub loop-j-preserved : goal.loop-j-preserved
-loop-j-preserved c = (
-  laid_more encode_hint hint_layout.size _ _ _ refl (records_length 8 decode_kept _ _) (records_more 8 decode_kept _ _) c.loop-j.invariant.0
-      (rw c.read_hint-h.ensures at c.write_given.ensures) c.write_given.auto.t,
-  omega (arith, c.loop-j-test.true),
-)
+loop-j-preserved c =
+    laid_more encode_hint hint_layout.size _ _ _ refl (records_length 8 decode_kept _ _) (records_more 8 decode_kept _ _) c.loop-j.invariant
+    (rw c.read_hint.ensures at c.write_given.ensures) c.write_given.auto.t
 
 pub returns : goal.returns
-returns c = laid_all encode_hint hint_layout.size (λ k. kept_in k c.args.table.now) (λ k. records_length 8 decode_kept k c.args.table.now) c.loop-j.invariant.1 c.loop-j-test.false c.loop-j.invariant.0 c.requires.1
+returns c = laid_all encode_hint hint_layout.size (λ k. kept_in k c.args.table.now) (λ k. records_length 8 decode_kept k c.args.table.now) (omega arith) (omega arith) c.loop-j.invariant c.requires.1

@@ -9,14 +9,12 @@ use Rattle.view.proofs.write.write_lengths.Goals as goal
 
 pub loop-j-init : goal.loop-j-init
 unfolding records lengths_of
-loop-j-init c = (laid_none _ _, omega arith)
+loop-j-init c = laid_none _ _
 
 pub loop-j-preserved : goal.loop-j-preserved
-loop-j-preserved c = (
-  laid_more encode_held_length length_layout.size _ _ _ refl (lengths_are _ _) (lengths_more _ _) c.loop-j.invariant.0
-      (length_put _ _ c.read_held-p.ensures c.write_header.ensures) c.write_header.auto.t,
-  omega (arith, c.loop-j-test.true),
-)
+loop-j-preserved c =
+    laid_more encode_held_length length_layout.size _ _ _ refl (lengths_are _ _) (lengths_more _ _) c.loop-j.invariant
+    (length_put _ _ c.read_held-p.ensures c.write_header.ensures) c.write_header.auto.t
 
 pub returns : goal.returns
-returns c = laid_all encode_held_length length_layout.size (λ k. lengths_of (parts_in k c.args.table.now)) (λ k. lengths_are k c.args.table.now) c.loop-j.invariant.1 c.loop-j-test.false c.loop-j.invariant.0 c.requires.1
+returns c = laid_all encode_held_length length_layout.size (λ k. lengths_of (parts_in k c.args.table.now)) (λ k. lengths_are k c.args.table.now) (omega arith) (omega arith) c.loop-j.invariant c.requires.1

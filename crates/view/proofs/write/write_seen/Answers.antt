@@ -9,14 +9,12 @@ use Rattle.view.proofs.write.write_seen.Goals as goal
 
 pub loop-j-init : goal.loop-j-init
 unfolding records seen_from
-loop-j-init c = (laid_none _ _, omega arith)
+loop-j-init c = laid_none _ _
 
 pub loop-j-preserved : goal.loop-j-preserved
-loop-j-preserved c = (
-  laid_more encode_seen seen_layout.size _ _ _ refl (seen_are _ _ _ _) (seen_more _ _ _ _) c.loop-j.invariant.0
-      (seen_put _ _ c.lsn_at-lsn.ensures c.read_checkpoint-c.ensures c.write_header.ensures) c.write_header.auto.t,
-  omega (arith, c.loop-j-test.true),
-)
+loop-j-preserved c =
+    laid_more encode_seen seen_layout.size _ _ _ refl (seen_are _ _ _ _) (seen_more _ _ _ _) c.loop-j.invariant
+    (seen_put _ _ c.lsn_at-lsn.ensures c.read_checkpoint-c.ensures c.write_header.ensures) c.write_header.auto.t
 
 pub returns : goal.returns
-returns c = laid_all encode_seen seen_layout.size (λ k. seen_from c.args.x.area c.args.x.interval 0 (checkpoints_in k c.args.table.now)) (λ k. seen_are c.args.x.area c.args.x.interval k c.args.table.now) c.loop-j.invariant.1 c.loop-j-test.false c.loop-j.invariant.0 c.requires.2
+returns c = laid_all encode_seen seen_layout.size (λ k. seen_from c.args.x.area c.args.x.interval 0 (checkpoints_in k c.args.table.now)) (λ k. seen_are c.args.x.area c.args.x.interval k c.args.table.now) (omega arith) (omega arith) c.loop-j.invariant c.requires.2

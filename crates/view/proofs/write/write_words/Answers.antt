@@ -1,6 +1,6 @@
 use Rattle.blocks.proofs.Words.{put_none, put_more, put_all}
 use borrow.Author.Rules.{rules}
-use Rattle.view.proofs.write.write_head.Goals as goal
+use Rattle.view.proofs.write.write_words.Goals as goal
 
 pub loop-i-init : goal.loop-i-init
 loop-i-init c = put_none _ _ (search rules)
