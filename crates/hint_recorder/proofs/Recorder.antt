@@ -1,6 +1,6 @@
 -- The hint recorder in its table. Assumes nothing.
 use mathlib.Core.Path.{◌≡◌, refl, sym, ◌∙◌}
-use mathlib.Core.Bool.{Bool, true, false, ◌&&◌, not}
+use mathlib.Core.Bool.{Bool, true, false, not}
 use mathlib.Core.List.{List, [], ◌∷◌, ◌++◌}
 use Prim.Native.Nat.{ℕ, ◌+◌, ◌*◌, ◌/◌, ◌<◌, ◌≤◌}
 use native.Mathlib.Omega.{arith}
@@ -27,7 +27,6 @@ use Rattle.rules.specs.File.{decode_hint, encode_hint, over}
 use Rattle.rules.specs.FirstRecord.{first_record}
 use Rattle.rules.specs.Create.{hint_recorder}
 use Rattle.rules.specs.Hints.{spaced, seen_record, see, flush, flushed_list, take_list}
-use Rattle.rules.proofs.Tests.{and_right}
 use Rattle.laws.proofs.Layouts.{hint_layout}
 use Rattle.tables.specs.Tables.{hints_in}
 use Rattle.tables.specs.Index.{Tables, refusal}
@@ -126,25 +125,27 @@ pub has_room : {q : Bool} (n : ℕ) → q ≡ ltb n 65536 → not q ≡ false �
 has_room {q} n e h = ltb-true n 65536 (sym e ∙ not-false q h)
 
 module _ (r : HintRecorder) (t : List ℕ) (p : Roomy r t) (b : Bytes t) where
-  module _ {q y : Bool} (h : Hint) (e : y ≡ spaced (last_in r.last) r.spacing h.number)
-      (f : q ≡ (y && ltb r.count 65536)) where
-    both_are : q ≡ (spaced (last_in r.last) r.spacing h.number && ltb (length (hints_in r.count t)) 65536)
-    both_are = rw (records_length 8 decode_hint r.count t, ← e) f
-
-    pub room_left : q ≡ true → r.count < 65536
-    room_left z = ltb-true r.count 65536 (and_right y _ (sym f ∙ z))
-
-    pub hint_listed : {k : HintRecorder} {new : List ℕ} → q ≡ true → new ≡ sets t (r.count * 8) (encode_hint h)
+  module _ (h : Hint) where
+    pub hint_listed : {k : HintRecorder} {new : List ℕ} → true ≡ spaced (last_in r.last) r.spacing h.number
+        → true ≡ ltb r.count 65536 → new ≡ sets t (r.count * 8) (encode_hint h)
         → k ≡ tailless r.spacing (Number h.number) (r.count + 1)
         → Steps k (hint_seen (hint_recorder_in r t) h) t new
     unfolding last_in tail_in
-    hint_listed z w v = rw (← both_are, z, v) (step_more r t p b (Number h.number) tail.Empty h (room_left z) w)
+    hint_listed e f w v =
+        rw (records_length 8 decode_hint r.count t, ← e, ← f, v)
+        (step_more r t p b (Number h.number) tail.Empty h (ltb-true r.count 65536 (sym f)) w)
 
-    pub hint_tailed : q ≡ false
-        → Steps (record { spacing = r.spacing; last = r.last; tail = tail.Hint h; count = r.count })
-        (hint_seen (hint_recorder_in r t) h) t t
+    abbrev kept : HintRecorder
+    kept = record { spacing = r.spacing; last = r.last; tail = tail.Hint h; count = r.count }
+
+    pub hint_unspaced : false ≡ spaced (last_in r.last) r.spacing h.number → Steps kept (hint_seen (hint_recorder_in r t) h) t t
     unfolding tail_in
-    hint_tailed z = rw (← both_are, z) (step_none r t p b r.last (tail.Hint h))
+    hint_unspaced e = rw (← e) (step_none r t p b r.last (tail.Hint h))
+
+    pub hint_full : true ≡ spaced (last_in r.last) r.spacing h.number → false ≡ ltb r.count 65536
+        → Steps kept (hint_seen (hint_recorder_in r t) h) t t
+    unfolding tail_in
+    hint_full e f = rw (records_length 8 decode_hint r.count t, ← e, ← f) (step_none r t p b r.last (tail.Hint h))
 
   pub same_step : Steps r (hint_recorder_in r t) t t
   same_step = step_none r t p b r.last r.tail

@@ -11,7 +11,6 @@ ghost use Rattle.hint_recorder.specs.HintRecorder.{seen_out, saw_out, see_in, fl
 ghost use Rattle.hint_recorder.specs.Steps.{refusal_of, Roomy, Steps, flushed_record, hint_seen};
 
 use crate::spacing::{cleared, emptied, has_room, is_spaced};
-use field::and;
 use first_record::first_record;
 use rules::{
     AreaIndex, Created, First, HINT, Hint, HintRecorder, LastListed, MAX_LIST, MAX_U32, Saw, Seen,
@@ -37,47 +36,33 @@ fn list_or_keep(r: HintRecorder, h: Hint, list: &mut [u8]) -> HintRecorder
     requires { Roomy r list.old }
     ensures { Steps result (hint_seen (hint_recorder_in r list.old) h) list.old list.new }
 {
-    let last = r.last;
-    if and(is_spaced(last, r.spacing, h.number), has_room(r.count)) {
+    if is_spaced(r.last, r.spacing, h.number) && has_room(r.count) {
         write_given(list, r.count as usize, h);
         return cleared(r.spacing, LastListed::Number(h.number), r.count + 1);
     }
     HintRecorder {
-        spacing: r.spacing,
-        last,
         tail: Tail::Hint(h),
-        count: r.count,
+        ..r
     }
 }
 
-// A hint recorder in its step.
-#[derive(Clone, Copy)]
-struct Step {
-    recorder: HintRecorder,
-}
-
-impl Step {
-    // The first record of a sector seen: listed, or the tail.
-    fn seen(self, lsn: u64, first: First, list: &mut [u8]) -> Step
-        requires { Roomy self.recorder list.old }
-        ensures { Steps result.recorder (seen_record (hint_recorder_in self.recorder list.old) lsn first)
-            list.old list.new }
-    {
-        let First::Number(t) = first else {
-            return self;
-        };
-        if MAX_U32 < lsn {
-            return self;
-        }
-        let h = Hint {
-            lsn: lsn as u32,
-            number: t.number,
-            mark: 0,
-        };
-        let r = self.recorder;
-        let recorder = list_or_keep(r, h, list);
-        Step { recorder }
+// The first record of a sector seen: listed, or the tail.
+fn see_first(r: HintRecorder, lsn: u64, first: First, list: &mut [u8]) -> HintRecorder
+    requires { Roomy r list.old }
+    ensures { Steps result (seen_record (hint_recorder_in r list.old) lsn first) list.old list.new }
+{
+    let First::Number(t) = first else {
+        return r;
+    };
+    if MAX_U32 < lsn {
+        return r;
     }
+    let h = Hint {
+        lsn: lsn as u32,
+        number: t.number,
+        mark: 0,
+    };
+    list_or_keep(r, h, list)
 }
 
 // A sector seen at an LSN: its first record is told, also where it is passed over.
@@ -89,9 +74,7 @@ pub fn see(r: HintRecorder, lsn: u64, sector: &[u8], list: &mut [u8]) -> Saw
         return Saw::Refused(number);
     }
     let first = first_record(sector);
-    let step = Step { recorder: r };
-    let after = step.seen(lsn, first, list);
-    let recorder = after.recorder;
+    let recorder = see_first(r, lsn, first, list);
     Saw::Sector(SeenSector { first, recorder })
 }
 
@@ -100,16 +83,14 @@ fn flushed(r: HintRecorder, list: &mut [u8]) -> HintRecorder
     requires { Roomy r list.old }
     ensures { Steps result (flushed_record (hint_recorder_in r list.old)) list.old list.new }
 {
-    let last = r.last;
-    let tail = r.tail;
-    let Tail::Hint(h) = tail else {
-        return cleared(r.spacing, last, r.count);
+    let Tail::Hint(h) = r.tail else {
+        return cleared(r.spacing, r.last, r.count);
     };
     if !has_room(r.count) {
-        return cleared(r.spacing, last, r.count);
+        return cleared(r.spacing, r.last, r.count);
     }
     write_given(list, r.count as usize, h);
-    cleared(r.spacing, last, r.count + 1)
+    cleared(r.spacing, r.last, r.count + 1)
 }
 
 pub fn flush(r: HintRecorder, list: &mut [u8]) -> Seen
@@ -163,10 +144,7 @@ pub fn hint_recorder(
     if number != 0 {
         return Created::Refused(number);
     }
-    if x.spacing == 0 {
-        return Created::Nothing;
-    }
-    if x.most == 0 {
+    if x.spacing == 0 || x.most == 0 {
         return Created::Nothing;
     }
     Created::Recorder(HintRecorder {

@@ -5,18 +5,17 @@ ghost use Rattle.rules.specs.Hints.{spaced};
 ghost use Rattle.tables.specs.HintRecorder.{last_in};
 ghost use Rattle.hint_recorder.specs.Steps.{tailless, emptied};
 
-use field::{min_u64, or};
-use rules::{HintRecorder, LastListed, MAX_LIST, MAX_U32, Tail};
+use rules::{HintRecorder, LastListed, MAX_LIST, Tail};
 
 // None was ever listed, or it is at least last + spacing, or below last.
+#[tactic(auto, unfolding(rules::specs::Hints::spaced, tables::specs::HintRecorder::last_in))]
 pub fn is_spaced(last: LastListed, spacing: u32, t: u32) -> bool
     ensures { result ≡ spaced (last_in last) spacing t }
 {
-    let LastListed::Number(l) = last else {
-        return true;
-    };
-    let next = min_u64(l as u64 + spacing as u64, MAX_U32);
-    or(next <= t as u64, t < l)
+    match last {
+        LastListed::Never => true,
+        LastListed::Number(l) => l.saturating_add(spacing) <= t || t < l,
+    }
 }
 
 // Has the list under 65,536?
@@ -42,12 +41,5 @@ pub fn cleared(spacing: u32, last: LastListed, count: u32) -> HintRecorder
 pub fn emptied(r: HintRecorder) -> HintRecorder
     ensures { result ≡ emptied r }
 {
-    let l = r.last;
-    let t = r.tail;
-    HintRecorder {
-        spacing: r.spacing,
-        last: l,
-        tail: t,
-        count: 0,
-    }
+    HintRecorder { count: 0, ..r }
 }

@@ -1,6 +1,7 @@
 use mathlib.Core.Bool.{not}
 use mathlib.Core.Path.{ap}
 use native.Mathlib.Omega.{arith}
+use borrow.Author.Rules.{rules}
 use Rattle.hint_recorder.proofs.Recorder.{has_room, flushed_none, flushed_full, flushed_listed}
 use Rattle.hint_recorder.proofs.flushed.Goals as goal
 
@@ -19,5 +20,5 @@ write_given-requires c = omega (arith, c.requires.room, has_room c.args.r.count 
 
 pub returns : goal.returns
 returns c =
-    flushed_listed c.args.r c.args.list.now c.requires (λ i. (c.slice_known-1.given i).fits) c.in-Hint.is
+    flushed_listed c.args.r c.args.list.now c.requires (λ i. search rules) c.in-Hint.is
     c.has_room.ensures (ap not c.if-not-has_room.false) c.write_given.ensures c.cleared-2.ensures
