@@ -1,16 +1,15 @@
 -- What absorb answers, by the number that refuses. Assumes nothing.
 use mathlib.Core.Path.{◌≡◌, refl, sym, ap, ◌∙◌}
-use mathlib.Core.Bool.{Bool, true, false, ◌&&◌, not, cond}
+use mathlib.Core.Bool.{Bool, true, false, ◌&&◌, cond}
 use mathlib.Core.List.{List}
 use mathlib.Core.Option.{Option}
 use Prim.Native.Nat.{ℕ, ◌+◌, ◌≤◌}
 use native.Mathlib.Omega.{arith}
-use borrow.Author.Tests.{eq-eqb, ne_eqb, eqb-true, eqb-false, ltb-true, leb-true, not-true, not-false}
+use borrow.Author.Tests.{eq-eqb, ne_eqb, eqb-true, ltb-true, leb-true}
 use lib.Dec.{eqb, leb, ltb}
 use Rattle.field.proofs.Records.{records_length}
 use Rattle.rules.specs.declared.AreaIndex.{AreaIndex}
 use Rattle.rules.specs.declared.ImageId.{ImageId}
-use Rattle.rules.specs.declared.Mode.{Mode}
 use Rattle.rules.specs.declared.Mode.TheVariants.{Stopped}
 use Rattle.rules.specs.declared.Recorder.{Recorder}
 use Rattle.rules.specs.Values.{Index}
@@ -73,11 +72,6 @@ module _ (r : Recorder) (u : RecorderTables) where
   refused_is : (n : ℕ) → recorder_from (cond (eqb n 8) (with_mode (recorder_in r u) Stopped) (recorder_in r u)) ≡ cond (eqb n 8) (mode_of r Stopped) r
   refused_is n = test (eqb n 8) (λ e. rw e stopped_is) (λ e. rw e recorder_back)
 
--- ---- a refused recorder
-pub stopped_by : (r : Recorder) (n : ℕ) {m : Mode} → m ≡ cond (eqb n 8) Stopped r.mode → mode_of r m ≡ cond (eqb n 8) (mode_of r Stopped) r
-unfolding mode_of
-stopped_by r n e = test (eqb n 8) (λ h. rw (e, h)) (λ h. rw (e, h))
-
 -- ---- the call
 module _ (x : AreaIndex) (t : Tables) (image : ImageId) (given : List ℕ) (r : Recorder) (u : RecorderTables) {n : ℕ} (e : n ≡ absorb_refusal x t image given r u) where
   by_number : absorb_in x t image given r u ≡ absorbed_out_of t (absorbed_by n (index_in x t) (recorder_in r u) (id_in image) (given_in given))
@@ -85,7 +79,7 @@ module _ (x : AreaIndex) (t : Tables) (image : ImageId) (given : List ℕ) (r : 
   by_number =
       rw (kinded_by (index_in x t) (recorder_in r u) (id_in image) (given_in given) (kinds_in x t && recorder_kinds r u) (absorb_number (room_of t) (index_in x t) (recorder_room u) (recorder_in r u) (id_in image) (given_in given)), ← e)
 
-  absorb_refused : {q : Recorder} → (n ≡ 0 → ⊥) → q ≡ cond (eqb n 8) (mode_of r Stopped) r → absorbed_out (absorbed n x q) t ≡ absorb_in x t image given r u
+  pub absorb_refused : {q : Recorder} → (n ≡ 0 → ⊥) → q ≡ cond (eqb n 8) (mode_of r Stopped) r → absorbed_out (absorbed n x q) t ≡ absorb_in x t image given r u
   unfolding absorbed_out_of
   absorb_refused h p = rw p (sym (by_number ∙ rw (ne_eqb n 0 h, ne_eqb n 0 h, numbers_back x t, refused_is r u n)))
 
@@ -93,39 +87,19 @@ module _ (x : AreaIndex) (t : Tables) (image : ImageId) (given : List ℕ) (r : 
     both_pass : absorb_refusal x t image given r u ≡ 0
     both_pass = sym e ∙ z
 
-    absorb_stopped : TableBytes t → is_stopped r.mode ≡ true → absorbed_out (absorbed 0 x r) t ≡ absorb_in x t image given r u
+    pub absorb_stopped : {q : Recorder} → TableBytes t → is_stopped r.mode ≡ true → q ≡ cond (eqb n 8) (mode_of r Stopped) r → absorbed_out (absorbed n x q) t ≡ absorb_in x t image given r u
     unfolding absorbed_out_of
-    absorb_stopped b s =
-        sym (by_number ∙ rw (eq-eqb n 0 z, s, numbers_back x t, recorder_back r u, put_back (passes x t (passed x t image given r u both_pass).0) b))
+    absorb_stopped {q} b s p =
+        let is : q ≡ r = p ∙ rw z in
+        rw (is, z) (sym (by_number ∙ rw (eq-eqb n 0 z, s, numbers_back x t, recorder_back r u, put_back (passes x t (passed x t image given r u both_pass).0) b)))
 
-  module _ {q : Bool} (p : q ≡ (eqb n 0 && not (is_stopped r.mode))) where
-    -- where nothing is taken
-    pub absorb_left : {s : Recorder} → not q ≡ true → TableBytes t → s ≡ cond (eqb n 8) (mode_of r Stopped) r → absorbed_out (absorbed n x s) t ≡ absorb_in x t image given r u
-    absorb_left {s} h b d =
-        let no : (eqb n 0 && not (is_stopped r.mode)) ≡ false = sym p ∙ not-true q h in
-        test (eqb n 0)
-        (λ e. let z = eqb-true n 0 e in
-        let f : not (is_stopped r.mode) ≡ false = rw e at no in
-        let is : s ≡ r = d ∙ rw z in
-        rw (is, z) (absorb_stopped z b (not-false (is_stopped r.mode) f)))
-        (λ e. absorb_refused (eqb-false n 0 e) d)
-
-    module _ (h : not q ≡ false) where
-      yes : (eqb n 0 && not (is_stopped r.mode)) ≡ true
-      yes = sym p ∙ not-false q h
-
-      accepted : n ≡ 0
-      accepted = eqb-true n 0 (and_left (eqb n 0) (not (is_stopped r.mode)) yes)
-
-      brings : is_stopped r.mode ≡ false
-      brings = not-true (is_stopped r.mode) (and_right (eqb n 0) (not (is_stopped r.mode)) yes)
-
+    module _ (brings : is_stopped r.mode ≡ false) where
       pub absorbs : Absorbs x t image given r u
-      absorbs = record { accepted = both_pass accepted; brings = brings }
+      absorbs = record { accepted = both_pass; brings = brings }
 
       -- the number of the recorder's next checkpoint
       pub few : r.first + r.checkpoints ≤ 4294967295
-      few = (passes_long r u refl (passed x t image given r u (both_pass accepted)).1).few
+      few = (passes_long r u refl (passed x t image given r u both_pass).1).few
 
       pub absorb_done : {s : Recorder} {y : AreaIndex} {cs fs st ps ms : List ℕ} → TableBytes t → s ≡ drained_of r
           → ((hints confirmed : List ℕ) → Kept x hints confirmed
@@ -134,4 +108,4 @@ module _ (x : AreaIndex) (t : Tables) (image : ImageId) (given : List ℕ) (r : 
       unfolding absorbed_out_of absorbed_in
       absorb_done {s = s} b d w =
           let v = w t.hints t.confirmed (kept absorbs b.hints b.confirmed) in
-          ap (λ (i : Written). absorbed_out (absorbed 0 i.index s) i.tables) v ∙ rw d (sym (by_number ∙ rw (eq-eqb n 0 accepted, brings, drained_is r u)))
+          ap (λ (i : Written). absorbed_out (absorbed 0 i.index s) i.tables) v ∙ rw d (sym (by_number ∙ rw (eq-eqb n 0 z, brings, drained_is r u)))

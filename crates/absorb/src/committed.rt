@@ -9,7 +9,6 @@ ghost use Rattle.tables.specs.Tables.{given_in};
 ghost use Rattle.absorb.specs.Steps.{written, Kept, absorbed_in, AbsorbReady, TakesBelow, TakenBelow, numbers_by};
 
 use crate::tests::{count_below, or_else};
-use field::min_u64;
 use merge::numbers::image_of;
 use merge::take::{append_checkpoints, take_malformed, take_parts};
 use parts::Counts;
@@ -22,8 +21,7 @@ use sections::frontier_of;
 fn count_taken(given: &[u8], front: u64) -> u32
     ensures { result ≡ length (take max_malformed (below front (given_in given.now))) }
 {
-    let c = count_below(given, given.len() / 4, front);
-    min_u64(c as u64, MAX_MALFORMED_WARNINGS as u64) as u32
+    count_below(given, given.len() / 4, front).min(MAX_MALFORMED_WARNINGS as usize) as u32
 }
 
 // The given LSNs below the frontier over the held ones, where n checkpoints and this end state move it. Answers how many there are then.
@@ -31,37 +29,26 @@ fn take_below(x: AreaIndex, n: u32, end: End, given: &[u8], malformed: &mut [u8]
     requires { TakesBelow x n (end_in end) malformed.old given.now }
     ensures { TakenBelow x n (end_in end) malformed.old given.now result malformed.new }
 {
-    let area = x.area;
-    let ending = x.ending;
-    let before = frontier_of(area, x.interval, x.checkpoints, ending);
-    let front = frontier_of(area, x.interval, n, end);
+    let before = frontier_of(x.area, x.interval, x.checkpoints, x.ending);
+    let front = frontier_of(x.area, x.interval, n, end);
     let m = count_taken(given, front);
     take_malformed(malformed, x.malformed, given, m, before < front)
 }
 
 // ---- the numbers
 // With these counts and this end state; the image id is filled in.
+#[tactic(auto, unfolding(crate::specs::Steps::numbers_by))]
 fn numbers(x: AreaIndex, image: ImageId, n: u32, c: Counts, m: u32, ending: End) -> AreaIndex
     ensures { result ≡ numbers_by x image n c m ending }
 {
-    let area = x.area;
-    let fingerprint = x.fingerprint;
-    let own = x.image;
     AreaIndex {
-        area,
-        interval: x.interval,
-        budget: x.budget,
-        spacing: x.spacing,
-        most: x.most,
         checkpoints: n,
         frames: c.frames,
         parts: c.parts,
         malformed: m,
-        hints: x.hints,
-        confirmed: x.confirmed,
         ending,
-        fingerprint,
-        image: image_of(own, image),
+        image: image_of(x.image, image),
+        ..x
     }
 }
 
@@ -85,10 +72,8 @@ pub fn commit(
     requires { AbsorbReady x checkpoints.old frames.old store.old parts.old malformed.old r (recorder_tables new_checkpoints.now new_frames.now new_store.now new_parts.now) given.now }
     ensures { (hints confirmed : List ℕ) → Kept x hints confirmed → written result (tables checkpoints.new frames.new store.new parts.new malformed.new hints confirmed) ≡ absorbed_in x (tables checkpoints.old frames.old store.old parts.old malformed.old hints confirmed) r (recorder_tables new_checkpoints.now new_frames.now new_store.now new_parts.now) image given.now }
 {
-    let mode = r.mode;
-    let ending = x.ending;
     let skip = x.checkpoints - r.first;
-    let end = or_else(end_of(mode), ending);
+    let end = or_else(end_of(r.mode), x.ending);
     let n = append_checkpoints(
         checkpoints,
         x.checkpoints,

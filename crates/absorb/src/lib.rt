@@ -2,24 +2,21 @@
 #![tactic(auto)]
 
 mod committed;
-mod modes;
 mod questions;
 mod refusal;
 mod tests;
 
-ghost use Rattle.std.specs.Prelude.{◌≡◌, ◌&&◌, not, cond, ◌+◌, ◌≤◌, eqb};
+ghost use Rattle.std.specs.Prelude.{◌≡◌, cond, ◌+◌, ◌≤◌, eqb};
 ghost use Rattle.rules.specs.declared.Mode.TheVariants.{Stopped};
-ghost use Rattle.rules.specs.Record.{is_stopped};
+ghost use Rattle.rules.specs.Record.{drained};
 ghost use Rattle.tables.specs.Index.{tables};
 ghost use Rattle.tables.specs.Recorder.{recorder_tables};
 ghost use Rattle.recorder.specs.Recorder.{mode_of};
-ghost use Rattle.absorb.specs.Absorb.{absorbed_out, absorbed, absorb_in};
+ghost use Rattle.absorb.specs.Absorb.{absorbed_out, absorb_in};
 ghost use Rattle.absorb.specs.Steps.{drained_of};
 
 use crate::committed::commit;
-use crate::modes::{drained, mode_after};
 use crate::refusal::{absorb_refuses, is_stopped};
-use field::and;
 use recorder::with_mode;
 use rules::{Absorbed, AreaIndex, ImageId, Mode, Recorder};
 
@@ -28,50 +25,41 @@ use rules::{Absorbed, AreaIndex, ImageId, Mode, Recorder};
 fn stop_recording(r: Recorder, number: u32) -> Recorder
     ensures { result ≡ cond (eqb number 8) (mode_of r Stopped) r }
 {
-    let held = r.mode;
-    let mode = mode_after(held, number);
-    with_mode(r, mode)
+    if number == 8 {
+        with_mode(r, Mode::Stopped)
+    } else {
+        r
+    }
+}
+
+// The mode of an emptied recorder: stopped if finished.
+#[tactic(auto, unfolding(rules::specs::Record::drained))]
+fn drained(mode: Mode) -> Mode
+    ensures { result ≡ drained mode }
+{
+    match mode {
+        Mode::Running => Mode::Running,
+        Mode::Finished(_) | Mode::Stopped => Mode::Stopped,
+    }
 }
 
 // The recorder emptied.
+#[tactic(auto, unfolding(crate::specs::Steps::drained_of))]
 fn drain(r: Recorder) -> Recorder
     requires { r.first + r.checkpoints ≤ 4294967295 }
     ensures { result ≡ drained_of r }
 {
-    let area = r.area;
-    let held = r.mode;
-    let mode = drained(held);
     Recorder {
-        area,
-        interval: r.interval,
-        budget: r.budget,
         first: r.first + r.checkpoints,
-        from: r.from,
         checkpoints: 0,
         frames: 0,
         parts: 0,
-        mode,
+        mode: drained(r.mode),
+        ..r
     }
 }
 
 // ---- the call
-fn answer(number: u32, index: AreaIndex, recorder: Recorder) -> Absorbed
-    ensures { result ≡ absorbed number index recorder }
-{
-    Absorbed {
-        number,
-        index,
-        recorder,
-    }
-}
-
-// Does nothing refuse, and is the recorder not stopped?
-fn takes(number: u32, mode: Mode) -> bool
-    ensures { result ≡ (eqb number 0 && not (is_stopped mode)) }
-{
-    and(number == 0, !is_stopped(mode))
-}
-
 // What the recorder r has, only read, into the index x; image is the image that was read, and given the malformed LSNs of the reading.
 pub fn absorb(
     x: AreaIndex,
@@ -109,11 +97,13 @@ pub fn absorb(
         new_store,
         new_parts,
     );
-    let mode = r.mode;
-    if !takes(number, mode) {
-        return answer(number, x, stop_recording(r, number));
+    if number != 0 || is_stopped(r.mode) {
+        return Absorbed {
+            number,
+            index: x,
+            recorder: stop_recording(r, number),
+        };
     }
-    let recorder = drain(r);
     let index = commit(
         x,
         r,
@@ -129,5 +119,9 @@ pub fn absorb(
         new_store,
         new_parts,
     );
-    answer(0, index, recorder)
+    Absorbed {
+        number: 0,
+        index,
+        recorder: drain(r),
+    }
 }

@@ -5,7 +5,6 @@ ghost use Rattle.tables.specs.Tables.{lsns_in};
 ghost use Rattle.absorb.specs.Steps.{nine_in, eleven_in, list_in, moved_in, twelve_in, Joinable};
 
 use crate::tests::{continues, count_below, joined_last, opens_with, or_else, same_counts};
-use field::{and, min_u64};
 use merge::questions::{same_area, same_end};
 use recorder::end_of;
 use rules::{Area, AreaIndex, End, MAX_MALFORMED_WARNINGS, MAX_U32, Recorder};
@@ -15,25 +14,22 @@ use tables::read_lsn;
 
 // ---- 9 and 11
 // 9: same area and interval?
+#[tactic(auto, unfolding(crate::specs::Steps::nine_in, rules::specs::Record::question9, rules::specs::Tests::all))]
 pub fn question9(x: AreaIndex, r: Recorder) -> bool
     ensures { result ≡ nine_in x r }
 {
-    let a = x.area;
-    let b = r.area;
-    and(same_area(a, b), x.interval == r.interval)
+    same_area(x.area, r.area) && x.interval == r.interval
 }
 
 // 11: thresholds, malformed counts and end state agree where both have them?
+#[tactic(auto, unfolding(crate::specs::Steps::eleven_in, rules::specs::Record::question11, rules::specs::Tests::all))]
 pub fn question11(x: AreaIndex, r: Recorder, checkpoints: &[u8], theirs: &[u8]) -> bool
     requires { (x.checkpoints * 24 ≤ length checkpoints.now) × (r.checkpoints * 24 ≤ length theirs.now) × (r.first ≤ x.checkpoints) }
     ensures { result ≡ eleven_in x checkpoints.now r theirs.now }
 {
-    let ending = x.ending;
-    let mode = r.mode;
     let n = x.checkpoints as usize;
     let m = r.checkpoints as usize;
-    let counts = same_counts(checkpoints, n, r.first as usize, theirs, m);
-    and(counts, same_end(ending, end_of(mode)))
+    same_counts(checkpoints, n, r.first as usize, theirs, m) && same_end(x.ending, end_of(r.mode))
 }
 
 // ---- malformed LSNs
@@ -42,11 +38,7 @@ fn starts_in(start: u64, given: &[u8], k: usize, c: usize) -> bool
     requires { (k * 4 ≤ length given.now) × (c ≤ k) }
     ensures { result ≡ (eqb c 0 || leb start (get_or (lsns_in k given.now) 0 start)) }
 {
-    if c == 0 {
-        return true;
-    }
-    let l = read_lsn(given, 0) as u64;
-    start <= l
+    c == 0 || start <= read_lsn(given, 0) as u64
 }
 
 // Do the k given LSNs, those below front, fit n counted ones and the m held ones?
@@ -54,26 +46,16 @@ fn list_ok(area: Area, front: u64, n: u64, given: &[u8], k: usize, held: &[u8], 
     requires { (k * 4 ≤ length given.now) × (m * 4 ≤ length held.now) }
     ensures { result ≡ list_in area.start front n (lsns_in k given.now) (lsns_in m held.now) }
 {
-    let mut any = area;
-    any.start = 0;
-    let rises = check_lsns(given, k, any, MAX_U32 + 1);
+    let rises = check_lsns(given, k, Area { start: 0, ..area }, MAX_U32 + 1);
     let opens = opens_with(given, k, held, m);
     let c = count_below(given, k, front);
     let most = MAX_MALFORMED_WARNINGS as u64;
-    let counts = min_u64(c as u64, most) == min_u64(n, most);
+    let counts = (c as u64).min(most) == n.min(most);
     let starts = starts_in(area.start, given, k, c);
-    and(rises, and(opens, and(counts, starts)))
+    rises && opens && counts && starts
 }
 
 // ---- 12
-// How many checkpoints n and those of m from number i on are.
-fn joined_count(n: u32, m: u32, i: u32) -> u32
-    requires { n + (m - i) ≤ 4294967295 }
-    ensures { result ≡ n + (m - i) }
-{
-    if m <= i { n } else { n + (m - i) }
-}
-
 // 12 where the frontier moves to front: the other's checkpoints from number i on are further, and end is the end state then.
 fn moved_ok(
     x: AreaIndex,
@@ -89,16 +71,15 @@ fn moved_ok(
     requires { Joinable x checkpoints.now malformed.now r theirs.now }
     ensures { result ≡ moved_in x checkpoints.now malformed.now r theirs.now given.now i (end_in end) front }
 {
-    let area = x.area;
     let n = x.checkpoints as usize;
     let m = r.checkpoints as usize;
     let h = x.malformed as usize;
     let last = joined_last(checkpoints, n, theirs, m, i);
     let goes = continues(checkpoints, n, theirs, m, i);
-    let ends = ending_ok(area, last, end);
+    let ends = ending_ok(x.area, last, end);
     let count = counted(last, end);
-    let lists = list_ok(area, front, count, given, given.len() / 4, malformed, h);
-    and(lists, and(goes, ends))
+    let lists = list_ok(x.area, front, count, given, given.len() / 4, malformed, h);
+    lists && goes && ends
 }
 
 // 12, where 4 holds of both and 9 to 11 hold.
@@ -113,26 +94,21 @@ pub fn question12(
     requires { Joinable x checkpoints.now malformed.now r theirs.now }
     ensures { result ≡ twelve_in x checkpoints.now malformed.now r theirs.now given.now }
 {
-    let area = x.area;
-    let ending = x.ending;
-    let mode = r.mode;
     let i = x.checkpoints - r.first;
-    let end = or_else(end_of(mode), ending);
-    let count = joined_count(x.checkpoints, r.checkpoints, i);
-    let before = frontier_of(area, x.interval, x.checkpoints, ending);
-    let front = frontier_of(area, x.interval, count, end);
-    if front <= before {
-        return true;
-    }
-    moved_ok(
-        x,
-        r,
-        i as usize,
-        end,
-        front,
-        given,
-        checkpoints,
-        malformed,
-        theirs,
-    )
+    let end = or_else(end_of(r.mode), x.ending);
+    let count = x.checkpoints + r.checkpoints.saturating_sub(i);
+    let before = frontier_of(x.area, x.interval, x.checkpoints, x.ending);
+    let front = frontier_of(x.area, x.interval, count, end);
+    front <= before
+        || moved_ok(
+            x,
+            r,
+            i as usize,
+            end,
+            front,
+            given,
+            checkpoints,
+            malformed,
+            theirs,
+        )
 }

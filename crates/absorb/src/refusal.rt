@@ -6,37 +6,32 @@ ghost use Rattle.tables.specs.Recorder.{recorder_tables};
 ghost use Rattle.absorb.specs.Steps.{absorb_refusal, ten_in, later_number, Readable};
 
 use crate::questions::{question9, question11, question12};
-use field::and;
 use index::refuses;
 use index::room::lowest;
 use merge::questions::same_image;
 use recorder::recorder_refuses;
 use rules::{AreaIndex, ImageId, Mode, Recorder};
-use sections::{ask, frontier_of};
+use sections::frontier_of;
 
+#[tactic(auto, unfolding(rules::specs::Record::is_stopped))]
 pub fn is_stopped(mode: Mode) -> bool
     ensures { result ≡ is_stopped mode }
 {
-    match mode {
-        Mode::Running => false,
-        Mode::Finished(_) => false,
-        Mode::Stopped => true,
-    }
+    matches!(mode, Mode::Stopped)
 }
 
 // ---- 8 to 12
 // 10: recorder joins the index?
+#[tactic(auto, unfolding(crate::specs::Steps::ten_in))]
 fn question10(x: AreaIndex, r: Recorder) -> bool
     requires { x.area.start ≤ 4294967295 }
     ensures { result ≡ ten_in x r }
 {
-    let area = x.area;
-    let ending = x.ending;
-    let front = frontier_of(area, x.interval, x.checkpoints, ending);
-    and(r.from <= front, r.first <= x.checkpoints)
+    r.from <= frontier_of(x.area, x.interval, x.checkpoints, x.ending) && r.first <= x.checkpoints
 }
 
 // The number of the first of questions 8 to 12 answered no, 0 for none.
+#[tactic(auto, unfolding(crate::specs::Steps::later_number, rules::specs::Tests::first_no))]
 fn later_number(
     x: AreaIndex,
     r: Recorder,
@@ -50,19 +45,22 @@ fn later_number(
     ensures { result ≡ later_number x checkpoints.now malformed.now r theirs.now image
         given.now }
 {
-    let own = x.image;
-    let eight = ask(0, same_image(own, image), 8);
-    let nine = ask(eight, question9(x, r), 9);
-    let ten = ask(nine, question10(x, r), 10);
-    if ten != 0 {
-        return ten;
+    if !same_image(x.image, image) {
+        return 8;
     }
-    let eleven = ask(0, question11(x, r, checkpoints, theirs), 11);
-    ask(
-        eleven,
-        question12(x, r, given, checkpoints, malformed, theirs),
-        12,
-    )
+    if !question9(x, r) {
+        return 9;
+    }
+    if !question10(x, r) {
+        return 10;
+    }
+    if !question11(x, r, checkpoints, theirs) {
+        return 11;
+    }
+    if !question12(x, r, given, checkpoints, malformed, theirs) {
+        return 12;
+    }
+    0
 }
 
 // ---- all questions of an absorb
@@ -106,8 +104,7 @@ pub fn absorb_refuses(
     if number != 0 {
         return number;
     }
-    let mode = r.mode;
-    if is_stopped(mode) {
+    if is_stopped(r.mode) {
         return 0;
     }
     later_number(x, r, image, given, checkpoints, malformed, new_checkpoints)

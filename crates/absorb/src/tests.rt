@@ -8,17 +8,18 @@ ghost use Rattle.laws.specs.Twelve.{not_below, continues};
 ghost use Rattle.tables.specs.Tables.{checkpoints_in, lsns_in};
 ghost use Rattle.tables.specs.Index.{end_in};
 
-use field::{and, min_u64, same};
+use field::same;
 use rules::{Checkpoint, End};
 use sections::last_checkpoint;
 use tables::{get_checkpoint, read_checkpoint, read_lsn};
 
 // ---- checkpoints
 // The same threshold and malformed count?
+#[tactic(auto, unfolding(rules::specs::Record::same_counts, rules::specs::Tests::all))]
 fn same_pair(c: Checkpoint, d: Checkpoint) -> bool
     ensures { result ≡ same_counts c d }
 {
-    and(c.threshold == d.threshold, c.malformed == d.malformed)
+    c.threshold == d.threshold && c.malformed == d.malformed
 }
 
 // 11: the checkpoints that both have, of which the other's first is number first.
@@ -26,23 +27,21 @@ pub fn same_counts(t: &[u8], n: usize, first: usize, other: &[u8], m: usize) -> 
     requires { (n * 24 ≤ length t.now) × (m * 24 ≤ length other.now) × (first ≤ n) }
     ensures { result ≡ agrees same_counts (drop first (checkpoints_in n t.now)) (checkpoints_in m other.now) }
 {
-    let common = min_u64((n - first) as u64, m as u64) as usize;
-    let mut i: usize = 0;
-    while i < common {
+    for i in 0..m.min(n - first) {
         let c = read_checkpoint(t, first + i);
         let d = read_checkpoint(other, i);
         if !same_pair(c, d) {
             return false;
         }
-        i += 1;
     }
     true
 }
 
+#[tactic(auto, unfolding(laws::specs::Twelve::not_below, rules::specs::Tests::all))]
 fn not_below(c: Checkpoint, d: Checkpoint) -> bool
     ensures { result ≡ not_below c d }
 {
-    and(c.threshold <= d.threshold, c.malformed <= d.malformed)
+    c.threshold <= d.threshold && c.malformed <= d.malformed
 }
 
 // May the first further checkpoint, number i of the other's, if there is one, come after the n of t?
@@ -50,10 +49,7 @@ pub fn continues(t: &[u8], n: usize, other: &[u8], m: usize, i: usize) -> bool
     requires { (n * 24 ≤ length t.now) × (m * 24 ≤ length other.now) }
     ensures { result ≡ continues (checkpoints_in n t.now) i (checkpoints_in m other.now) }
 {
-    if m <= i {
-        return true;
-    }
-    not_below(last_checkpoint(t, n), get_checkpoint(other, m, i))
+    m <= i || not_below(last_checkpoint(t, n), get_checkpoint(other, m, i))
 }
 
 // The last of the n checkpoints of t and the other's from number i on.
@@ -62,19 +58,21 @@ pub fn joined_last(t: &[u8], n: usize, other: &[u8], m: usize, i: usize) -> Chec
     ensures { result ≡ last_checkpoint (checkpoints_in n t.now ++ drop i (checkpoints_in m other.now)) }
 {
     if m <= i {
-        return last_checkpoint(t, n);
+        last_checkpoint(t, n)
+    } else {
+        last_checkpoint(other, m)
     }
-    last_checkpoint(other, m)
 }
 
 // ---- the end state
 // The first, or the second where the first is open.
+#[tactic(auto, unfolding(rules::specs::Tests::or_else, tables::specs::Index::end_in))]
 pub fn or_else(a: End, b: End) -> End
     ensures { end_in result ≡ or_else (end_in a) (end_in b) }
 {
     match a {
         End::Open => b,
-        End::Closed(e) => End::Closed(e),
+        End::Closed(_) => a,
     }
 }
 
@@ -84,18 +82,7 @@ pub fn opens_with(given: &[u8], k: usize, held: &[u8], m: usize) -> bool
     requires { (k * 4 ≤ length given.now) × (m * 4 ≤ length held.now) }
     ensures { result ≡ same_bytes (take m (lsns_in k given.now)) (lsns_in m held.now) }
 {
-    if k < m {
-        return false;
-    }
-    let e = m * 4;
-    same(&given[0..e], &held[0..e])
-}
-
-fn one_more(go: bool, n: usize) -> usize
-    requires { n < 9223372036854775808 }
-    ensures { result ≡ cond go (n + 1) n }
-{
-    if go { n + 1 } else { n }
+    m <= k && same(&given[..m * 4], &held[..m * 4])
 }
 
 // How many of the k given LSNs lie below front.
@@ -103,12 +90,11 @@ pub fn count_below(given: &[u8], k: usize, front: u64) -> usize
     requires { k * 4 ≤ length given.now }
     ensures { result ≡ length (below front (lsns_in k given.now)) }
 {
-    let mut c: usize = 0;
-    let mut j: usize = 0;
-    while j < k {
-        let l = read_lsn(given, j) as u64;
-        c = one_more(l < front, c);
-        j += 1;
+    let mut count = 0;
+    for j in 0..k {
+        if (read_lsn(given, j) as u64) < front {
+            count += 1;
+        }
     }
-    c
+    count
 }

@@ -39,19 +39,16 @@ under : (a b c d e : Bool) → (a ≡ true → d ≡ e) → (a && (b && (c && d)
 under true b c d e h = rw (h refl) refl
 under false b c d e h = refl
 
-pub list_is : (start front n : ℕ) (ms held : List ℕ) {r rises opens starts : Bool} {c t u m : ℕ} → length held ≡ m → rises ≡ rising own_lsn any_lsn 0 (max32 + 1) ms
+pub list_is : (start front n : ℕ) (ms held : List ℕ) {rises opens starts : Bool} {c t u m : ℕ} → length held ≡ m → rises ≡ rising own_lsn any_lsn 0 (max32 + 1) ms
     → opens ≡ same_bytes (take m ms) held → c ≡ length (below front ms) → t ≡ min c max_malformed → u ≡ min n max_malformed
-    → starts ≡ (eqb c 0 || leb start (get_or ms 0 start)) → r ≡ (rises && (opens && (eqb t u && starts))) → r ≡ list_in start front n ms held
+    → starts ≡ (eqb c 0 || leb start (get_or ms 0 start)) → (rises && (opens && (eqb t u && starts))) ≡ list_in start front n ms held
 unfolding list_in all
-list_is start front n ms held {r} {rises} {opens} {starts} {c} {t} {u} {m} h p o q v w s e =
+list_is start front n ms held {rises} {opens} {starts} {c} {t} {u} {m} h p o q v w s =
     let z : t ≡ length (take max_malformed (below front ms)) = omega (arith, length-take max_malformed (below front ms)) in
     let k = under rises opens (eqb t u) starts (leb start (get_or (take max_malformed (below front ms)) 0 start)) (λ g. s ∙ rw q (first_taken front (max32 + 1) 4095 start ms (sym p ∙ g))) in
-    e ∙ k ∙ rw (p, o, z, w, h) (simp and-true)
+    k ∙ rw (p, o, z, w, h) (simp and-true)
 
 -- whether any is taken, and the first given
-pub none_taken : (c start : ℕ) (ms : List ℕ) → c ≡ 0 → true ≡ (eqb c 0 || leb start (get_or ms 0 start))
-none_taken c start ms h = sym (rw h refl)
-
 pub some_taken : (c start : ℕ) (ms : List ℕ) {l : ℕ} {q : Bool} → (c ≡ 0 → ⊥) → l ≡ get_or ms 0 start → q ≡ leb start l → q ≡ (eqb c 0 || leb start (get_or ms 0 start))
 some_taken c start ms h e q = q ∙ rw e (sym (rw (ne_eqb c 0 h) refl))
 

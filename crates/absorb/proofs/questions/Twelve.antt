@@ -5,9 +5,9 @@ use mathlib.Core.List.{List, ◌++◌}
 use mathlib.Core.Option.{Option}
 use Prim.Native.Nat.{ℕ, ◌+◌, ◌-◌, ◌≤◌, ◌<◌}
 use native.Mathlib.Omega.{arith}
-use lib.Dec.{ltb}
+use lib.Dec.{leb, ltb}
 use lib.ListN.{length, drop, length-append, length-drop}
-use borrow.Author.Tests.{le-ltb, lt-ltb, leb-true}
+use borrow.Author.Tests.{le-leb, le-ltb, lt-ltb, leb-true}
 use Rattle.field.proofs.Records.{records_length}
 use Rattle.rules.specs.declared.Area.{Area}
 use Rattle.rules.specs.declared.AreaIndex.{AreaIndex}
@@ -56,21 +56,21 @@ module _ (x : AreaIndex) (cs held : List ℕ) (r : Recorder) (ds ms : List ℕ) 
     is_front : front ≡ frontier_of x.area x.interval (x.checkpoints + (r.checkpoints - (x.checkpoints - r.first))) joined_end
     is_front = hf ∙ rw (hn, hi, he)
 
-    pub stays : front ≤ before → true ≡ twelve_in x cs held r ds ms
-    stays h = sym (twelve_opens ∙ rw (← hb, ← is_front, le-ltb before front h))
+    pub stays : front ≤ before → leb front before ≡ twelve_in x cs held r ds ms
+    stays h = rw (le-leb front before h) (sym (twelve_opens ∙ rw (← hb, ← is_front, le-ltb before front h)))
 
     pub moves_on : {q : Bool} → before < front → q ≡ moved_in x cs held r ds ms i e front → q ≡ twelve_in x cs held r ds ms
     unfolding moved_in
     moves_on h q = q ∙ rw (hi, he) (sym (twelve_opens ∙ rw (← hb, ← is_front, lt-ltb before front h)))
 
 -- ---- where the frontier moves
-pub moved_is : (x : AreaIndex) (cs held : List ℕ) (r : Recorder) (ds ms : List ℕ) (i front : ℕ) (e : Option EndState) {last : Checkpoint} {n : ℕ} {q lists goes ends : Bool}
+pub moved_is : (x : AreaIndex) (cs held : List ℕ) (r : Recorder) (ds ms : List ℕ) (i front : ℕ) (e : Option EndState) {last : Checkpoint} {n : ℕ} {lists goes ends : Bool}
     → last ≡ last_checkpoint (checkpoints_in x.checkpoints cs ++ drop i (checkpoints_in r.checkpoints ds))
     → ((es : List Checkpoint) → last ≡ last_checkpoint es → n ≡ counted es e) → ((es : List Checkpoint) → last ≡ last_checkpoint es → ends ≡ ending_ok x.area es e)
     → goes ≡ continues (checkpoints_in x.checkpoints cs) i (checkpoints_in r.checkpoints ds)
-    → lists ≡ list_in x.area.start front n (given_in ms) (lsns_in x.malformed held) → q ≡ (lists && (goes && ends)) → q ≡ moved_in x cs held r ds ms i e front
+    → lists ≡ list_in x.area.start front n (given_in ms) (lsns_in x.malformed held) → (lists && (goes && ends)) ≡ moved_in x cs held r ds ms i e front
 unfolding moved_in
-moved_is x cs held r ds ms i front e l c d g h q = q ∙ rw (h, g, d _ l, c _ l) refl
+moved_is x cs held r ds ms i front e l c d g h = rw (h, g, d _ l, c _ l) refl
 
 -- ---- what the questions need
 pub started : (a : Area) → area_ok a ≡ true → (a.start ≤ a.end) × (a.start ≤ max32)

@@ -6,9 +6,9 @@ use mathlib.Core.List.{List, [], ◌∷◌, ◌++◌, append-nil, append_assoc}
 use Prim.Native.Nat.{ℕ, ◌+◌, ◌-◌, ◌*◌, ◌≤◌, ◌<◌, min}
 use native.Mathlib.Nat.{add-zero}
 use native.Mathlib.Omega.{arith}
-use lib.Dec.{eqb, ltb}
+use lib.Dec.{eqb, leb, ltb}
 use lib.ListN.{length, take, drop, length-drop, length-take, take-append-drop, drop_of_length-le}
-use borrow.Author.Tests.{le-leb, lt-leb, eqb-true}
+use borrow.Author.Tests.{le-leb, lt-leb, le-ltb, lt-ltb, eqb-true}
 use Rattle.field.specs.Number.{same_bytes}
 use Rattle.field.specs.Records.{records, record_at, Bytes}
 use Rattle.field.proofs.Records.{records_length, take_records}
@@ -22,7 +22,7 @@ use Rattle.rules.proofs.Walk.{Snoc, ends, last_or_snoc}
 use Rattle.rules.proofs.Same.{eqb_self}
 use Rattle.tables.proofs.Walk.{records_turn}
 use Rattle.laws.proofs.Layouts.{lsn_layout}
-use Rattle.merge.proofs.common.Common.{common_by}
+use Rattle.merge.proofs.common.Common.{common_is}
 use Rattle.laws.specs.Twelve.{not_below, continues}
 
 none_left : {A : Type 0} (same : A → A → Bool) (xs ys : List A) → min (length xs) (length ys) ≡ 0 → agrees same xs ys ≡ true
@@ -85,7 +85,7 @@ module _ {b k : ℕ} {t : List ℕ} where
   count_start = record { within = (omega arith, omega arith); total = omega arith }
 
   module _ {c j : ℕ} (h : Counted b k t c j) where
-    pub count_on : {l c' : ℕ} → j < k → l ≡ record_at 4 decode_lsn t j → c' ≡ cond (ltb l b) (c + 1) c → Counted b k t c' (j + 1)
+    count_on : {l c' : ℕ} → j < k → l ≡ record_at 4 decode_lsn t j → c' ≡ cond (ltb l b) (c + 1) c → Counted b k t c' (j + 1)
     count_on {l} {c'} g p q =
         let a = h.within in
         let e : drop j (records 4 decode_lsn k t) ≡ l ∷ drop (j + 1) (records 4 decode_lsn k t) = records_turn 4 decode_lsn k t j g ∙ rw p refl in
@@ -93,6 +93,12 @@ module _ {b k : ℕ} {t : List ℕ} where
           within = (omega arith, one_more (ltb l b) c c' j q a.1);
           total = h.total ∙ ap (λ (ls : List ℕ). c + length (below b ls)) e ∙ length_below b l (drop (j + 1) (records 4 decode_lsn k t)) c c' q;
         }
+
+    pub count_more : {l : ℕ} → j < k → l ≡ record_at 4 decode_lsn t j → l < b → Counted b k t (c + 1) (j + 1)
+    count_more {l} g p h = count_on g p (rw (lt-ltb l b h))
+
+    pub count_same : {l : ℕ} → j < k → l ≡ record_at 4 decode_lsn t j → b ≤ l → Counted b k t c (j + 1)
+    count_same {l} g p h = count_on g p (rw (le-ltb l b h))
 
     pub count_end : k ≤ j → c ≡ length (below b (records 4 decode_lsn k t))
     unfolding below
@@ -120,9 +126,9 @@ module _ (cs ds : List Checkpoint) (i m : ℕ) (n : length ds ≡ m) where
       ap last_checkpoint (sym (take-append-drop i ds)) ∙ last_append no_checkpoint (take i ds) (drop i ds) l ∙ sym (last_append no_checkpoint cs (drop i ds) l)
 
   -- and the first that is further
-  pub no_further : m ≤ i → true ≡ continues cs i ds
+  pub no_further : m ≤ i → leb m i ≡ continues cs i ds
   unfolding continues
-  no_further h = sym (rw (le-leb (length ds) i (omega arith)))
+  no_further h = rw (le-leb m i h) (sym (rw (le-leb (length ds) i (omega arith))))
 
   pub a_further : {r : Bool} {c d : Checkpoint} → i < m → c ≡ last_checkpoint cs → d ≡ checkpoint_at ds i → r ≡ not_below c d → r ≡ continues cs i ds
   unfolding continues
@@ -144,13 +150,14 @@ shorter (x ∷ xs) [] h = let f : ⊥ = omega arith in absurd f
 shorter (x ∷ xs) (y ∷ ys) h = rw (shorter xs ys (omega arith)) (and_false (eqb x y))
 
 module _ (k m : ℕ) (s t : List ℕ) where
-  pub opens_no : k < m → false ≡ same_bytes (take m (records 4 decode_lsn k s)) (records 4 decode_lsn m t)
+  pub opens_no : k < m → leb m k ≡ same_bytes (take m (records 4 decode_lsn k s)) (records 4 decode_lsn m t)
   opens_no h =
-      sym (shorter _ _ (omega (arith, length-take m (records 4 decode_lsn k s), records_length 4 decode_lsn k s, records_length 4 decode_lsn m t)))
+      rw (lt-leb m k h)
+      (sym (shorter _ _ (omega (arith, length-take m (records 4 decode_lsn k s), records_length 4 decode_lsn k s, records_length 4 decode_lsn m t))))
 
-  pub opens_yes : {r : Bool} {e : ℕ} → m ≤ k → r ≡ same_bytes (take (e - 0) (drop 0 s)) (take (e - 0) (drop 0 t)) → e ≡ m * 4
-      → Bytes s → Bytes t → k * 4 ≤ length s → m * 4 ≤ length t → r ≡ same_bytes (take m (records 4 decode_lsn k s)) (records 4 decode_lsn m t)
-  opens_yes h q f a b g l =
-      common_by lsn_layout eqb eqb-true eqb_self m m m s t q f a b (omega arith) l (omega arith)
+  pub opens_yes : m ≤ k → Bytes s → Bytes t → k * 4 ≤ length s → m * 4 ≤ length t
+      → same_bytes (take (m * 4) s) (take (m * 4) t) ≡ same_bytes (take m (records 4 decode_lsn k s)) (records 4 decode_lsn m t)
+  opens_yes h a b g l =
+      common_is lsn_layout eqb eqb-true eqb_self m m m s t a b (omega arith) l (omega arith)
       ∙ same_agrees (records 4 decode_lsn m s) (records 4 decode_lsn m t) (records_length 4 decode_lsn m s ∙ sym (records_length 4 decode_lsn m t))
       ∙ ap (λ (ls : List ℕ). same_bytes ls (records 4 decode_lsn m t)) (sym (take_records 4 decode_lsn m k s h))

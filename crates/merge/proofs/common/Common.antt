@@ -2,10 +2,10 @@
 use mathlib.Core.Path.{◌≡◌, refl, sym, ◌∙◌}
 use mathlib.Core.Bool.{Bool, true}
 use mathlib.Core.List.{List, [], ◌∷◌}
-use Prim.Native.Nat.{ℕ, zero, suc, ◌-◌, ◌*◌, ◌≤◌, min}
-use native.Mathlib.Nat.{mul-le-mul_right, sub-zero}
+use Prim.Native.Nat.{ℕ, zero, suc, ◌*◌, ◌≤◌, min}
+use native.Mathlib.Nat.{mul-le-mul_right}
 use native.Mathlib.Omega.{arith}
-use lib.ListN.{length, take, drop}
+use lib.ListN.{length, take}
 use Rattle.field.specs.Number.{same_bytes}
 use Rattle.field.specs.Records.{records, Bytes}
 use Rattle.field.proofs.Format.{Layout, records_same_bytes, same_records}
@@ -54,8 +54,3 @@ module _ {A : Type 0} {w : ℕ} {d : List ℕ → A} {e : A → List ℕ} {Fits 
       (sym (take_records w d k n s kn) ∙ agrees_first same eq k (records w d n s) (records w d m t) (rw records_length kn) (rw records_length km) y
       ∙ take_records w d k m t km)) z)
       (λ y. z ∙ sym y))
-
-  -- as the code asks it, of the first e bytes
-  pub common_by : {r : Bool} {e : ℕ} → r ≡ same_bytes (take (e - 0) (drop 0 s)) (take (e - 0) (drop 0 t)) → e ≡ k * w
-      → Bytes s → Bytes t → n * w ≤ length s → m * w ≤ length t → k ≡ min n m → r ≡ agrees same (records w d n s) (records w d m t)
-  common_by {r} {e} c f a b h g q = c ∙ rw (sub-zero e, f) (common_is a b h g q)

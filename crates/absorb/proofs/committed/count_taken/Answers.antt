@@ -2,4 +2,4 @@ use Rattle.absorb.proofs.committed.Below.{taken_count}
 use Rattle.absorb.proofs.committed.count_taken.Goals as goal
 
 pub returns : goal.returns
-returns c = taken_count _ c.args.given.now c.count_below-c.ensures c.min_u64.ensures
+returns c = taken_count _ c.args.given.now c.count_below.ensures c.min.ensures

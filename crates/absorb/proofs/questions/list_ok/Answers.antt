@@ -16,8 +16,20 @@ starts_in-starts-requires c = (
   ),
 )
 
-pub returns : goal.returns
-returns c =
-    list_is _ _ _ _ _ (records_length 4 decode_lsn _ _) c.check_lsns-rises.ensures c.opens_with-opens.ensures
-    c.count_below-c.ensures c.min_u64.ensures c.min_u64-2.ensures
-    c.starts_in-starts.ensures cc
+pub returns-then-counts : goal.returns-then-counts
+returns-then-counts c =
+    grind (
+      arith,
+      list_is c.args.area.start c.args.front c.args.n (lsns_in c.args.k c.args.given.now) (lsns_in c.args.m c.args.held.now)
+          (records_length 4 decode_lsn _ _) c.check_lsns-rises.ensures c.opens_with-opens.ensures
+          c.count_below-c.ensures c.min.ensures c.min-2.ensures c.starts_in-starts.ensures,
+    )
+
+pub returns-else-counts : goal.returns-else-counts
+returns-else-counts c =
+    grind (
+      arith,
+      list_is c.args.area.start c.args.front c.args.n (lsns_in c.args.k c.args.given.now) (lsns_in c.args.m c.args.held.now)
+          (records_length 4 decode_lsn _ _) c.check_lsns-rises.ensures c.opens_with-opens.ensures
+          c.count_below-c.ensures c.min.ensures c.min-2.ensures c.starts_in-starts.ensures,
+    )

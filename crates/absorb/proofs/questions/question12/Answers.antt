@@ -10,13 +10,13 @@ frontier_of-front-requires c = (started _ c.requires.area).1
 
 pub returns-then-front-before : goal.returns-then-front-before
 returns-then-front-before c =
-    stays _ _ _ _ _ _ refl (end_is _ c.end_of.ensures c.or_else-end.ensures) c.joined_count-count.ensures
+    stays _ _ _ _ _ _ refl (end_is _ c.end_of.ensures c.or_else-end.ensures) (rw c.saturating_sub.ensures)
     c.frontier_of-before.ensures c.frontier_of-front.ensures c.if-front-before.true
 
 pub moved_ok-requires : goal.moved_ok-requires
 moved_ok-requires c = c.requires
 
-pub returns : goal.returns
-returns c =
-    moves_on _ _ _ _ _ _ refl (end_is _ c.end_of.ensures c.or_else-end.ensures) c.joined_count-count.ensures
+pub returns-else-front-before : goal.returns-else-front-before
+returns-else-front-before c =
+    moves_on _ _ _ _ _ _ refl (end_is _ c.end_of.ensures c.or_else-end.ensures) (rw c.saturating_sub.ensures)
     c.frontier_of-before.ensures c.frontier_of-front.ensures c.if-front-before.false c.moved_ok.ensures

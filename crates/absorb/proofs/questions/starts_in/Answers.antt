@@ -1,4 +1,4 @@
-use Rattle.absorb.proofs.questions.Lists.{none_taken, some_taken}
+use Rattle.absorb.proofs.questions.Lists.{some_taken}
 use Rattle.field.proofs.Records.{records_at}
 use Rattle.rules.specs.File.{decode_lsn}
 use Rattle.tables.specs.Tables.{lsns_in}
@@ -7,11 +7,8 @@ use native.Mathlib.Omega.{arith}
 use Prim.Native.Nat.{◌<◌}
 use Rattle.absorb.proofs.questions.starts_in.Goals as goal
 
-pub returns-then-c-eq0 : goal.returns-then-c-eq0
-returns-then-c-eq0 c = none_taken c.args.c c.args.start (lsns_in c.args.k c.args.given.now) c.if-c-eq0.true
-
-pub returns : goal.returns
-returns c =
+pub returns-else-c-eq0 : goal.returns-else-c-eq0
+returns-else-c-eq0 c =
     let l : 0 < c.args.k = omega (arith, c.requires.1, c.if-c-eq0.false) in
     some_taken c.args.c c.args.start (lsns_in c.args.k c.args.given.now) c.if-c-eq0.false
-    (c.read_lsn-l.ensures ∙ sym (records_at 4 decode_lsn c.args.k c.args.given.now 0 c.args.start l)) refl
+    (c.read_lsn.ensures ∙ sym (records_at 4 decode_lsn c.args.k c.args.given.now 0 c.args.start l)) refl

@@ -11,8 +11,8 @@ returns-then-m-i c =
     ∙ last_own (checkpoints_in c.args.n c.args.t.now) (checkpoints_in c.args.m c.args.other.now) c.args.i
     c.args.m (records_length 24 decode_checkpoint _ _) c.if-m-i.true
 
-pub returns : goal.returns
-returns c =
-    c.last_checkpoint-2.ensures
+pub returns-else-m-i : goal.returns-else-m-i
+returns-else-m-i c =
+    c.last_checkpoint-else-m-i.ensures
     ∙ last_other (checkpoints_in c.args.n c.args.t.now) (checkpoints_in c.args.m c.args.other.now) c.args.i
     c.args.m (records_length 24 decode_checkpoint _ _) c.if-m-i.false

@@ -1,4 +1,3 @@
-use Prim.Native.Nat.{◌-◌}
 use Rattle.tables.specs.Tables.{checkpoints_in}
 use lib.ListN.{drop}
 use Rattle.rules.specs.Tests.{agrees}
@@ -10,6 +9,3 @@ use Rattle.absorb.proofs.tests.same_counts.Given as goal
 abbrev pub invariant-loop-i : goal.invariant-loop-i
 invariant-loop-i l = Compared 24 decode_checkpoint same_counts l.n l.first l.m l.t l.other
     (agrees same_counts (drop l.first (checkpoints_in l.n l.t)) (checkpoints_in l.m l.other)) l.i
-
-abbrev pub decreases-loop-i : goal.decreases-loop-i
-decreases-loop-i l = l.common - l.i
