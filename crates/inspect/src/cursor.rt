@@ -51,19 +51,16 @@ pub fn cut(s: &[u8], len: usize) -> &[u8]
     requires { len ≤ length s.now }
     ensures { result.now ≡ take len s.now }
 {
-    &s[0..len]
+    &s[..len]
 }
 
 impl Cursor {
     // Are w bytes there?
+    #[tactic(auto, using(std::proofs::lemmas::Bool::Decides::nat_tests))]
     pub fn holds(self, body: &[u8], w: usize) -> bool
         ensures { result ≡ leb (self.at + w) (length body.now) }
     {
-        let len = body.len();
-        if len < w {
-            return false;
-        }
-        self.at <= len - w
+        w <= body.len() && self.at <= body.len() - w
     }
 
     // Behind n bytes.
@@ -74,24 +71,24 @@ impl Cursor {
         Cursor { at: self.at + n }
     }
 
+    #[tactic(auto, using(std::proofs::lemmas::Bool::Decides::nat_tests), unfolding(crate::specs::Cursors::word_at))]
     pub fn u32(self, body: &[u8]) -> Word
         ensures { result ≡ word_at body.now self.at }
     {
-        let at = self.at;
         if !self.holds(body, 4) {
             return Word::Refused(20);
         }
-        Word::Number(read_u32(body, at), Cursor { at: at + 4 })
+        Word::Number(read_u32(body, self.at), self.past(4))
     }
 
+    #[tactic(auto, using(std::proofs::lemmas::Bool::Decides::nat_tests), unfolding(crate::specs::Cursors::long_at))]
     pub fn u64(self, body: &[u8]) -> Long
         ensures { result ≡ long_at body.now self.at }
     {
-        let at = self.at;
         if !self.holds(body, 8) {
             return Long::Refused(20);
         }
-        Long::Number(read_u64(body, at), Cursor { at: at + 8 })
+        Long::Number(read_u64(body, self.at), self.past(8))
     }
 
     // Two numbers, one behind the other.

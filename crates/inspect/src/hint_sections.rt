@@ -7,7 +7,6 @@ ghost use Rattle.inspect.specs.Behind.{headed_of, counted_of};
 ghost use Rattle.inspect.specs.Steps.{hint_rest, confirmed_rest, hints_from, confirmed_from};
 
 use crate::cursor::{Cursor, Headed, Pair, Word, cut};
-use field::{and, not, or};
 use header::has_fingerprint;
 use rules::{
     Area, CONFIRMED, DEFAULT_HINT_SPACING, DEFAULT_MAX_HINTS, HINT, Header, HintHeader, MAX_HINTS,
@@ -18,57 +17,54 @@ use sections::records::{check_confirmations, check_hints};
 
 // ---- questions of the sections' headers
 // Does version 2 add something? A later version does.
+#[tactic(auto, using(std::proofs::lemmas::Bool::Decides::nat_tests), unfolding(rules::specs::Load::adds))]
 fn adds_to(h: Header, g: HintHeader) -> bool
     ensures { result ≡ adds h g }
 {
-    let usual = and(
-        g.spacing == DEFAULT_HINT_SPACING,
-        g.most == DEFAULT_MAX_HINTS,
-    );
-    or(
-        has_fingerprint(h),
-        or(0 < g.count, or(not(usual), VERSION_CONFIRMED <= h.version)),
-    )
+    let usual = g.spacing == DEFAULT_HINT_SPACING && g.most == DEFAULT_MAX_HINTS;
+    has_fingerprint(h) || 0 < g.count || !usual || VERSION_CONFIRMED <= h.version
 }
 
 // May a file of this version have the limit M?
+#[tactic(auto, using(std::proofs::lemmas::Bool::Decides::nat_tests), unfolding(rules::specs::Load::most_ok))]
 fn most_ok(h: Header, most: u32) -> bool
     ensures { result ≡ most_ok h most }
 {
     if h.version < VERSION_MORE_HINTS {
         return most <= MAX_SHORT_HINTS;
     }
-    and(MAX_SHORT_HINTS < most, most <= MAX_HINTS)
+    MAX_SHORT_HINTS < most && most <= MAX_HINTS
 }
 
 // 28 and 36; there: are the hints there?
+#[tactic(auto, using(std::proofs::lemmas::Bool::Decides::nat_tests), unfolding(crate::specs::Steps::hint_rest, rules::specs::Tests::all, rules::specs::Tests::first_no, sections::specs::Sections::asked))]
 fn hint_number(h: Header, g: HintHeader, there: bool) -> u32
     ensures { result ≡ hint_rest h g there }
 {
-    let stated = or(has_fingerprint(h), g.fingerprint == 0);
-    let counts = and(most_ok(h, g.most), and(g.count <= g.most, there));
+    let stated = has_fingerprint(h) || g.fingerprint == 0;
+    let counts = most_ok(h, g.most) && g.count <= g.most && there;
     let n = ask(0, g.zero20 == 0, 28);
-    ask(n, and(adds_to(h, g), and(stated, counts)), 36)
+    ask(n, adds_to(h, g) && stated && counts, 36)
 }
 
 // May there be n confirmations?
+#[tactic(auto, using(std::proofs::lemmas::Bool::Decides::nat_tests), unfolding(rules::specs::Load::may_confirm))]
 fn may_have(h: Header, n: u32) -> bool
     ensures { result ≡ may_confirm h n }
 {
     let stated = has_fingerprint(h);
     if h.version < VERSION_MORE_HINTS {
-        return and(stated, 0 < n);
+        return stated && 0 < n;
     }
-    or(stated, n == 0)
+    stated || n == 0
 }
 
 // 37; there: are the n confirmations there?
+#[tactic(auto, using(std::proofs::lemmas::Bool::Decides::nat_tests), unfolding(crate::specs::Steps::confirmed_rest, rules::specs::Tests::all, rules::specs::Tests::first_no, sections::specs::Sections::asked))]
 fn confirmed_number(h: Header, n: u32, reserved: u32, most: u32, there: bool) -> u32
     ensures { result ≡ confirmed_rest h n reserved most there }
 {
-    let counts = and(n <= most, there);
-    let rest = and(may_have(h, n), counts);
-    ask(0, and(reserved == 0, rest), 37)
+    ask(0, reserved == 0 && may_have(h, n) && n <= most && there, 37)
 }
 
 // What a version 1 file stands for.
@@ -89,16 +85,14 @@ fn hints_ok(c: Cursor, body: &[u8], n: usize, area: Area) -> bool
     requires { c.at + n * 8 ≤ length body.now }
     ensures { result ≡ hints_ok area (hints_in n (drop c.at body.now)) }
 {
-    let at = c.at;
-    check_hints(cut(&body[at..], n * HINT), n, area)
+    check_hints(cut(&body[c.at..], n * HINT), n, area)
 }
 
 fn confirmations_ok(c: Cursor, body: &[u8], n: usize, area: Area) -> bool
     requires { c.at + n * 16 ≤ length body.now }
     ensures { result ≡ confirmations_ok area (confirmations_in n (drop c.at body.now)) }
 {
-    let at = c.at;
-    check_confirmations(cut(&body[at..], n * CONFIRMED), n, area)
+    check_confirmations(cut(&body[c.at..], n * CONFIRMED), n, area)
 }
 
 // 28 or 36, or the header g and the cursor behind its hints.

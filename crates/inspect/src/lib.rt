@@ -51,10 +51,11 @@ pub enum Inspected {
 fn fingerprint_of(h: Header, v: u64) -> Fingerprint
     ensures { result ≡ cond (has_fingerprint h) (Stated v) Unknown }
 {
-    if !has_fingerprint(h) {
-        return Fingerprint::Unknown;
+    if has_fingerprint(h) {
+        Fingerprint::Held(v)
+    } else {
+        Fingerprint::Unknown
     }
-    Fingerprint::Held(v)
 }
 
 fn found_by(area: Area, h: Header, used: u64, g: HintHeader, confirmed: u32) -> Found
@@ -160,8 +161,7 @@ fn inspect_end(
     if number != 0 {
         return Inspected::Refused(number);
     }
-    let ending = ending_of(h);
-    let front = frontier_of(area, h.interval, h.checkpoints, ending);
+    let front = frontier_of(area, h.interval, h.checkpoints, ending_of(h));
     inspect_malformed(area, h, used, front, body, c)
 }
 
@@ -245,10 +245,8 @@ pub fn inspect(area: Area, bytes: &[u8]) -> Inspected
     requires { area_ok area ≡ true }
     ensures { result ≡ inspection area bytes.now }
 {
-    let len = bytes.len();
-    if len < 8 {
+    if bytes.len() < 8 {
         return Inspected::Refused(20);
     }
-    let end = len - 8;
-    inspect_body(area, body_of(bytes), read_u64(bytes, end))
+    inspect_body(area, body_of(bytes), read_u64(bytes, bytes.len() - 8))
 }

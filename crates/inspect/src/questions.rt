@@ -9,12 +9,12 @@ ghost use Rattle.rules.specs.Load.{is_complete, ending_of, end_number, body_in};
 ghost use Rattle.tables.specs.Index.{end_in, end_from};
 
 use crate::cursor::cut;
-use field::{and, min_u64, or};
 use header::complete;
 use rules::{Area, Checkpoint, End, EndState, Header, MAX_MALFORMED_WARNINGS};
 use sections::{ask, counted, ending_ok};
 
 // The end state of a header.
+#[tactic(auto, unfolding(tables::specs::Index::end_from, tables::specs::Index::end_in))]
 pub fn ending_of(h: Header) -> End
     ensures { (result ≡ end_from (ending_of h)) × (end_in result ≡ ending_of h) }
 {
@@ -28,10 +28,11 @@ pub fn ending_of(h: Header) -> End
 }
 
 // 28 of the end state: has a list that is not complete none?
+#[tactic(auto, using(std::proofs::lemmas::Bool::Decides::nat_tests))]
 fn unset_ok(h: Header) -> bool
     ensures { result ≡ (is_complete h || (eqb h.threshold 0 && eqb h.counted 0)) }
 {
-    or(complete(h), and(h.threshold == 0, h.counted == 0))
+    complete(h) || h.threshold == 0 && h.counted == 0
 }
 
 // 32, 34, 28 and 35, by the last checkpoint and the count of frames that the parts reach.
@@ -40,11 +41,10 @@ pub fn end_questions(area: Area, h: Header, last: Checkpoint, reached: u64) -> u
     ensures { (cs : List Checkpoint) → (ps : List Held) → last ≡ last_checkpoint cs → reached ≡ framesReached ps → result ≡ end_number area h cs ps }
 {
     let ending = ending_of(h);
-    let most = MAX_MALFORMED_WARNINGS as u64;
     let n = ask(0, reached == h.frames as u64, 32);
     let n = ask(n, ending_ok(area, last, ending), 34);
     let n = ask(n, unset_ok(h), 28);
-    let count = min_u64(counted(last, ending), most);
+    let count = counted(last, ending).min(MAX_MALFORMED_WARNINGS as u64);
     ask(n, h.malformed as u64 == count, 35)
 }
 
@@ -60,7 +60,5 @@ pub fn body_of(bytes: &[u8]) -> &[u8]
     requires { 8 ≤ length bytes.now }
     ensures { result.now ≡ body_in bytes.now }
 {
-    let len = bytes.len();
-    let end = len - 8;
-    cut(bytes, end)
+    cut(bytes, bytes.len() - 8)
 }

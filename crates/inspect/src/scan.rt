@@ -65,21 +65,16 @@ pub fn inspect_frames(c: Cursor, body: &[u8], area: Area, h: Header) -> Taken
     requires { c.at ≤ length body.now }
     ensures { result ≡ taken_of body.now (read_frames area h (drop c.at body.now)) }
 {
-    let f = h.frames as usize;
     let mut here = c;
     let mut floor = area.start;
     let mut used = 0;
-    let mut j = 0;
-    while j < f {
+    for _ in 0..h.frames {
         match inspect_frame(here, body, area, h.budget, floor, used) {
-            OneFrame::Refused(k) => {
-                return Taken::Refused(k);
-            }
+            OneFrame::Refused(k) => return Taken::Refused(k),
             OneFrame::Header(g, d) => {
                 here = d;
                 floor = g.start as u64 + 1;
                 used += g.len as u64;
-                j += 1;
             }
         }
     }
@@ -93,9 +88,10 @@ fn place_by(frames: &[u8], place: usize, moves: bool) -> usize
     ensures { result ≡ cond moves (place + 8 + number_at 4 frames.now (place + 4)) place }
 {
     if moves {
-        return place + FRAME_HEADER + read_u32(frames, place + 4) as usize;
+        place + FRAME_HEADER + read_u32(frames, place + 4) as usize
+    } else {
+        place
     }
-    place
 }
 
 // 32, or p with the place of its frame and the cursor c, which is behind p; last is the part before it, unless p begins the section.
@@ -157,22 +153,17 @@ pub fn inspect_parts(
     requires { (HeaderReads area h checkpoints.now frames.now) × (c.at ≤ length body.now) }
     ensures { result ≡ taken_of body.now (read_parts area h (checkpoints_in h.checkpoints checkpoints.now) (frames_read h.frames frames.now) (drop c.at body.now)) }
 {
-    let n = h.parts as usize;
     let mut last = Placed {
         part: no_part(),
         place: 0,
     };
     let mut here = c;
-    let mut j = 0;
-    while j < n {
+    for j in 0..h.parts {
         match inspect_part(here, body, area, h, checkpoints, frames, j == 0, last) {
-            OnePart::Refused(k) => {
-                return Taken::Refused(k);
-            }
+            OnePart::Refused(k) => return Taken::Refused(k),
             OnePart::Part(next, d) => {
                 last = next;
                 here = d;
-                j += 1;
             }
         }
     }
@@ -185,8 +176,7 @@ fn there(n: usize, left: usize, w: usize) -> usize
     requires { 0 < w }
     ensures { (result ≤ n) × (result * w ≤ left) × (result < n → left < result * w + w) }
 {
-    let whole = left / w;
-    if n < whole { n } else { whole }
+    n.min(left / w)
 }
 
 // 20 or 35, or the cursor behind the malformed LSNs, which are below front.

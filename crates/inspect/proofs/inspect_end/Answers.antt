@@ -14,4 +14,4 @@ frontier_of-front-requires c = let o = ordered c.args.area c.requires.0 in searc
 
 pub returns : goal.returns
 unfolding from_end
-returns c = rw (← c.end_number-number.ensures, after_yes _ c.if-number-ne0.false, records_length, ← c.ending_of-ending.ensures.1, ← c.frontier_of-front.ensures) c.inspect_malformed.ensures
+returns c = rw (← c.end_number-number.ensures, after_yes _ c.if-number-ne0.false, records_length, ← c.ending_of.ensures.1, ← c.frontier_of-front.ensures) c.inspect_malformed.ensures

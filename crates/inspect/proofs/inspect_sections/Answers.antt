@@ -6,7 +6,7 @@ use Rattle.inspect.proofs.Tails.{checkpoints_fit, checkpoints_no, checkpoints_ye
 use Rattle.inspect.proofs.inspect_sections.Goals as goal
 
 pub check_checkpoints-requires : goal.check_checkpoints-requires
-check_checkpoints-requires c = (checkpoints_fit c.args.area c.args.h c.args.body.now c.requires.1 (rw (tail_is c.args.body.now 80) at c.cut-checkpoints.ensures), omega (arith, c.struct_known-1.given))
+check_checkpoints-requires c = (checkpoints_fit c.args.area c.args.h c.args.body.now c.requires.1 (rw (tail_is c.args.body.now 80) at c.cut-checkpoints.ensures), omega arith)
 
 pub returns-then-not-check_checkpoints : goal.returns-then-not-check_checkpoints
 returns-then-not-check_checkpoints c = checkpoints_no c.args.area c.args.h c.args.body.now c.requires.1 (rw (tail_is c.args.body.now 80) at c.cut-checkpoints.ensures) c.check_checkpoints.ensures (ap not c.if-not-check_checkpoints.true)

@@ -9,7 +9,7 @@ pub ending_ok-requires : goal.ending_ok-requires
 ending_ok-requires c = let o = ordered c.args.area c.requires in search rules
 
 pub overflow_cast-h-2 : goal.overflow_cast-h-2
-overflow_cast-h-2 c = omega (arith, c.struct_known-2-1.given)
+overflow_cast-h-2 c = omega arith
 
 pub returns : goal.returns
 unfolding end_number
@@ -18,7 +18,7 @@ returns c =
     asked_all _ refl
     (rw (
       c.ask.ensures,
-      c.min_u64-count.ensures,
+      c.min-count.ensures,
       c.counted.ensures cs e,
       c.ask-n-3.ensures,
       c.unset_ok.ensures,

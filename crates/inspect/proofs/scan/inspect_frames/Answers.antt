@@ -5,26 +5,23 @@ use Rattle.inspect.proofs.scan.Frames.{FrameRead, frame_read, frame_refused}
 use borrow.Author.Rules.{rules}
 use Rattle.inspect.proofs.scan.inspect_frames.Goals as goal
 
-pub loop-j-init : goal.loop-j-init
-loop-j-init c = (reading_start _ _ _ _ _ _ c.requires, search rules)
+pub loop-init : goal.loop-init
+loop-init c = (reading_start _ _ _ _ _ _ c.requires, search rules)
 
 pub returns-in-Refused : goal.returns-in-Refused
 returns-in-Refused c =
-    reading_stop c.loop-j.invariant.0 c.loop-j-test.true
-    (frame_refused _ _ _ c.args.body.now c.loop-j.here.at c.inspect_frame.ensures c.in-Refused.is)
+    reading_stop c.loop.invariant.0 c.loop-test.true
+    (frame_refused _ _ _ c.args.body.now c.loop.here.at c.inspect_frame.ensures c.in-Refused.is)
 
 pub overflow_add-used : goal.overflow_add-used
 overflow_add-used c =
-    let y = (let got : FrameRead c.args.area c.args.h.budget (filled_to c.loop-j.floor c.loop-j.used) c.args.body.now
-    c.loop-j.here.at c.in-Header.g c.in-Header.d = frame_read _ _ _ _ _ c.inspect_frame.ensures c.loop-j.invariant.0.inside c.in-Header.is in got) in record { fits = omega (arith, c.struct_known-1.given) }
+    let y = (let got : FrameRead c.args.area c.args.h.budget (filled_to c.loop.floor c.loop.used) c.args.body.now
+    c.loop.here.at c.in-Header.g c.in-Header.d = frame_read _ _ _ _ _ c.inspect_frame.ensures c.loop.invariant.0.inside c.in-Header.is in got) in record { fits = omega arith }
 
-pub overflow_add-j : goal.overflow_add-j
-overflow_add-j c = record { fits = omega (arith, c.loop-j-test.true, c.struct_known-1.given) }
-
-pub loop-j-preserved : goal.loop-j-preserved
-loop-j-preserved c =
-    let y = (let got : FrameRead c.args.area c.args.h.budget (filled_to c.loop-j.floor c.loop-j.used) c.args.body.now
-    c.loop-j.here.at c.in-Header.g c.in-Header.d = frame_read _ _ _ _ _ c.inspect_frame.ensures c.loop-j.invariant.0.inside c.in-Header.is in got) in (reading_on c.loop-j.invariant.0 c.loop-j-test.true y.is y.inside y.next, y.fits)
+pub loop-preserved : goal.loop-preserved
+loop-preserved c =
+    let y = (let got : FrameRead c.args.area c.args.h.budget (filled_to c.loop.floor c.loop.used) c.args.body.now
+    c.loop.here.at c.in-Header.g c.in-Header.d = frame_read _ _ _ _ _ c.inspect_frame.ensures c.loop.invariant.0.inside c.in-Header.is in got) in (reading_on c.loop.invariant.0 c.loop-test.true y.is y.inside y.next, y.fits)
 
 pub returns : goal.returns
-returns c = reading_end c.loop-j.invariant.0 c.loop-j-test.false
+returns c = reading_end c.loop.invariant.0 c.loop-test.false

@@ -1,5 +1,5 @@
 use lib.ListN.{drop}
-use Prim.Native.Nat.{◌≤◌, ◌-◌}
+use Prim.Native.Nat.{◌≤◌}
 use Rattle.rules.specs.Load.{read_frame, read_frames}
 use Rattle.tables.specs.Tables.{filled_to}
 use Rattle.tables.specs.Files.{frame_next}
@@ -7,9 +7,6 @@ use Rattle.inspect.specs.Steps.{taken_of}
 use Rattle.inspect.proofs.scan.Loop.{Reading}
 use Rattle.inspect.proofs.scan.inspect_frames.Given as goal
 
-abbrev pub invariant-loop-j : goal.invariant-loop-j
-invariant-loop-j l = Reading (read_frame l.area l.h.budget) frame_next l.f l.body (taken_of l.body (read_frames l.area l.h (drop l.initial.here.at l.body))) l.j l.here.at (filled_to l.floor l.used)
+abbrev pub invariant-loop : goal.invariant-loop
+invariant-loop l = Reading (read_frame l.area l.h.budget) frame_next l.h.frames l.body (taken_of l.body (read_frames l.area l.h (drop l.initial.here.at l.body))) l.counter l.here.at (filled_to l.floor l.used)
     × (l.used ≤ l.h.budget)
-
-abbrev pub decreases-loop-j : goal.decreases-loop-j
-decreases-loop-j l = l.f - l.j

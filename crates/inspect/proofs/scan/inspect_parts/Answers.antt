@@ -1,4 +1,3 @@
-use native.Mathlib.Omega.{arith}
 use lib.Dec.{eqb}
 use Rattle.tables.specs.Tables.{checkpoints_in, before}
 use Rattle.tables.specs.Files.{frames_read}
@@ -18,9 +17,6 @@ pub returns-in-Refused : goal.returns-in-Refused
 returns-in-Refused c =
     reading_stop c.loop-j.invariant.0 c.loop-j-test.true
     (part_refused _ _ _ _ _ _ c.args.body.now c.loop-j.here.at c.inspect_part.ensures c.in-Refused.is)
-
-pub overflow_add-j : goal.overflow_add-j
-overflow_add-j c = record { fits = omega (arith, c.loop-j-test.true, c.struct_known-1.given) }
 
 pub loop-j-preserved : goal.loop-j-preserved
 loop-j-preserved c =

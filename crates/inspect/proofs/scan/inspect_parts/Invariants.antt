@@ -1,4 +1,3 @@
-use Prim.Native.Nat.{◌-◌}
 use lib.Dec.{eqb}
 use lib.ListN.{drop}
 use Rattle.rules.specs.Load.{read_part, read_parts}
@@ -9,10 +8,7 @@ use Rattle.inspect.proofs.scan.Loop.{Reading}
 use Rattle.inspect.proofs.scan.inspect_parts.Given as goal
 
 abbrev pub invariant-loop-j : goal.invariant-loop-j
-invariant-loop-j l = Reading (read_part l.area l.h.interval (checkpoints_in l.h.checkpoints l.checkpoints) (frames_read l.h.frames l.frames)) part_next l.n l.body
+invariant-loop-j l = Reading (read_part l.area l.h.interval (checkpoints_in l.h.checkpoints l.checkpoints) (frames_read l.h.frames l.frames)) part_next l.h.parts l.body
     (taken_of l.body (read_parts l.area l.h (checkpoints_in l.h.checkpoints l.checkpoints) (frames_read l.h.frames l.frames) (drop l.initial.here.at l.body))) l.j l.here.at
     (before (eqb l.j 0) l.last.part)
     × LastAt l.frames (eqb l.j 0) l.last
-
-abbrev pub decreases-loop-j : goal.decreases-loop-j
-decreases-loop-j l = l.n - l.j
