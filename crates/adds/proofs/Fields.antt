@@ -4,7 +4,6 @@ use mathlib.Core.Bool.{Bool, true, false, ◌&&◌, not}
 use mathlib.Core.List.{List, [], ◌∷◌, ◌++◌}
 use mathlib.Core.Option.{Option, none, some}
 use Prim.Native.Nat.{ℕ, suc, ◌-◌, ◌*◌, ◌≤◌}
-use native.Mathlib.Nat.{sub-zero}
 use native.Mathlib.Omega.{arith}
 use lib.Dec.{eqb, ltb}
 use lib.ListN.{length, take, drop, length-drop}
@@ -84,7 +83,7 @@ module _ (own other : Scan) where
 
 -- two tables of LSNs compared as bytes
 module _ (n m : ℕ) (s t : List ℕ) (b : Bytes s) (c : Bytes t) (h : n * 4 ≤ length s) (g : m * 4 ≤ length t) where
-  lsns_same : same_bytes (take (n * 4) s) (take (m * 4) t)
+  pub lsns_same : same_bytes (take (n * 4) s) (take (m * 4) t)
       ≡ same_list eqb (records 4 decode_lsn n s) (records 4 decode_lsn m t)
   lsns_same =
       test (same_bytes (take (n * 4) s) (take (m * 4) t))
@@ -100,11 +99,6 @@ module _ (n m : ℕ) (s t : List ℕ) (b : Bytes s) (c : Bytes t) (h : n * 4 ≤
       sym (bytes_records lsn_layout n s b h) ∙ ap (bytes_of encode_lsn) r ∙ bytes_records lsn_layout m t c g in
       never (rw z (same_refl (take (m * 4) t))) e)
       (λ f. e ∙ sym f))
-
-  pub lsns_by : {r : Bool} {e f : ℕ} → r ≡ same_bytes (take (e - 0) (drop 0 s)) (take (f - 0) (drop 0 t)) → e ≡ n * 4
-      → f ≡ m * 4
-      → r ≡ same_list eqb (records 4 decode_lsn n s) (records 4 decode_lsn m t)
-  lsns_by {r} {e} {f} a p q = a ∙ rw (sub-zero e, sub-zero f, p, q) lsns_same
 
 -- ---- fingerprint and image id
 pub fingerprint_change : (f g : Fingerprint)

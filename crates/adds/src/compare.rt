@@ -8,7 +8,6 @@ ghost use Rattle.adds.specs.Confirmed.{absorbed, unmoved_by, arriving};
 ghost use Rattle.adds.specs.Answers.{LsnAt, Turned, HintsAnswered, ConfirmedAnswered};
 
 use add_hints::choice::read_arriving;
-use field::{and, or};
 use merge::keys::skip;
 use rules::{Confirmation, Hint, MAX_U32};
 use tables::{read_confirmation, read_hint};
@@ -50,10 +49,10 @@ fn lsn_at(t: &[u8], n: usize, i: usize) -> u64
     ensures { LsnAt (kept_in n t.now) n i result }
 {
     if i < n {
-        let h = read_hint(t, i);
-        return h.lsn as u64;
+        read_hint(t, i).lsn as u64
+    } else {
+        MAX_U32 + 1
     }
-    MAX_U32 + 1
 }
 
 // The next of the hints from i and j on.
@@ -93,20 +92,7 @@ fn next_hint(own: &[u8], n: usize, other: &[u8], m: usize, i: usize, j: usize) -
     }
 }
 
-// p where it counts and is no smaller, else q.
-fn larger(go: bool, p: Pair, q: Pair) -> Pair
-    ensures { result ≡ cond (go && leb q.gap p.gap) p q }
-{
-    if and(go, q.gap <= p.gap) { p } else { q }
-}
-
-// p where it counts and is smaller, else q.
-fn smaller(go: bool, p: Pair, q: Pair) -> Pair
-    ensures { result ≡ cond (go && ltb p.gap q.gap) p q }
-{
-    if and(go, p.gap < q.gap) { p } else { q }
-}
-
+#[tactic(auto, unfolding(crate::specs::Marks::weigh_one))]
 fn weigh_one(s: Weighed, new: bool, replaced: bool, h: Hint) -> Weighed
     requires { s.place < 18446744073709551615 }
     ensures { result ≡ weigh_one s new replaced h }
@@ -115,14 +101,16 @@ fn weigh_one(s: Weighed, new: bool, replaced: bool, h: Hint) -> Weighed
         gap: gap_of(s.before, h),
         place: s.place,
     };
-    let a = s.new;
-    let b = s.held;
     Weighed {
         place: s.place + 1,
         before: h.number,
-        new: larger(new, p, a),
-        held: smaller(!new, p, b),
-        replaced: or(s.replaced, replaced),
+        new: if new && s.new.gap <= p.gap { p } else { s.new },
+        held: if !new && p.gap < s.held.gap {
+            p
+        } else {
+            s.held
+        },
+        replaced: s.replaced || replaced,
     }
 }
 
@@ -158,12 +146,14 @@ fn weigh(own: &[u8], n: usize, other: &[u8], m: usize) -> Weighed
     s
 }
 
+#[tactic(auto, unfolding(crate::specs::Marks::lower))]
 fn lower_pair(p: Pair, q: Pair) -> bool
     ensures { result ≡ lower p q }
 {
-    or(p.gap < q.gap, and(p.gap == q.gap, p.place < q.place))
+    p.gap < q.gap || p.gap == q.gap && p.place < q.place
 }
 
+#[tactic(auto, unfolding(crate::specs::Marks::changed_by))]
 fn changed_by(w: Weighed, n: u32, most: u32) -> bool
     ensures { result ≡ changed_by w n most }
 {
@@ -179,9 +169,7 @@ fn changed_by(w: Weighed, n: u32, most: u32) -> bool
     if n != most - most / 4 {
         return true;
     }
-    let p = w.new;
-    let q = w.held;
-    !lower_pair(p, q)
+    !lower_pair(w.new, w.held)
 }
 
 // Would the m hints of another list change the n held ones, at the limit most?
@@ -192,37 +180,24 @@ pub fn changes_hints(most: u32, own: &[u8], n: u32, other: &[u8], m: u32) -> boo
     if most == 0 {
         return false;
     }
-    let w = weigh(own, n as usize, other, m as usize);
-    changed_by(w, n, most)
+    changed_by(weigh(own, n as usize, other, m as usize), n, most)
 }
 
 // ---- confirmations
 // Does c stay as it is where d arrives at its LSN?
+#[tactic(auto, using(crate::proofs::compare::Passing::stays_is))]
 fn stays(c: Confirmation, d: Confirmation) -> bool
     ensures { result ≡ same_confirmation c (held_confirmation c d) }
 {
-    and(c.digest == d.digest, c.threshold <= d.threshold)
+    c.digest == d.digest && c.threshold <= d.threshold
 }
 
 // Is d of a later LSN than c, or of the same one and c stays?
+#[tactic(auto, unfolding(crate::specs::Confirmed::unmoved_by))]
 fn unmoved(c: Confirmation, d: Confirmation) -> bool
     ensures { result ≡ unmoved_by c d }
 {
-    if c.lsn < d.lsn {
-        return true;
-    }
-    if d.lsn < c.lsn {
-        return false;
-    }
-    stays(c, d)
-}
-
-// Past the other's confirmation number j, where c meets it.
-fn met(c: Confirmation, d: Confirmation, j: usize) -> usize
-    requires { j < 18446744073709551615 }
-    ensures { result ≡ cond (ltb c.lsn d.lsn) j (j + 1) }
-{
-    if c.lsn < d.lsn { j } else { j + 1 }
+    c.lsn < d.lsn || c.lsn == d.lsn && stays(c, d)
 }
 
 // Is each of the other's confirmations from number first on held, which stays as it is?
@@ -242,8 +217,10 @@ fn absorbs(own: &[u8], n: usize, other: &[u8], m: usize, first: usize) -> bool
         if !unmoved(c, d) {
             return false;
         }
-        j = met(c, d, j);
         i += 1;
+        if d.lsn <= c.lsn {
+            j += 1;
+        }
     }
     true
 }
@@ -258,8 +235,7 @@ fn first_arriving(most: u32, own: &[u8], n: u32, other: &[u8], m: u32) -> usize
     if n != most {
         return 0;
     }
-    let c = read_confirmation(own, 0);
-    skip(other, 16, m as usize, 0, c.lsn)
+    skip(other, 16, m as usize, 0, read_confirmation(own, 0).lsn)
 }
 
 // Would the m confirmations of another list change the n held ones, at the limit most?
@@ -268,10 +244,7 @@ pub fn changes_confirmed(checked: bool, most: u32, own: &[u8], n: u32, other: &[
     ensures { ConfirmedAnswered checked most (confirmations_in n own.now)
         (confirmations_in m other.now) result }
 {
-    if !checked {
-        return false;
-    }
-    if most == 0 {
+    if !checked || most == 0 {
         return false;
     }
     let first = first_arriving(most, own, n, other, m);

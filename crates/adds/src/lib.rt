@@ -16,28 +16,30 @@ ghost use Rattle.adds.specs.Adds.{same_list, same_known, same_fingerprint, adds_
 ghost use Rattle.adds.specs.Steps.{some_stored, PartsRead, parts_change, brings_in};
 
 use crate::compare::{changes_confirmed, changes_hints};
-use field::{and, same};
+use field::same;
 use index::{is_checked, is_complete, is_stated};
 use merge::goes_further::further;
 use merge::numbers::has_id;
-use merge::questions::{merge_refuses, taken};
+use merge::questions::merge_refuses;
 use parts::{Counts, Piece, Source, source_at, stores, used_bytes};
 use rules::{Added, AreaIndex, Brings, Fingerprint, Held, ImageId};
 use tables::{read_header, read_held};
 
 // ---- fingerprint and image id
 // Would b fill in a fingerprint?
+#[tactic(auto, using(crate::proofs::Fields::fingerprint_change))]
 fn fills_fingerprint(a: Fingerprint, b: Fingerprint) -> bool
     ensures { result ≡ not (same_fingerprint a (merged_fingerprint a b)) }
 {
-    and(!is_stated(a), is_stated(b))
+    !is_stated(a) && is_stated(b)
 }
 
 // Would b fill in an image id?
+#[tactic(auto, using(crate::proofs::Fields::image_change))]
 fn fills_image(a: ImageId, b: ImageId) -> bool
     ensures { result ≡ not (same_known eqb (id_in a) (or_else (id_in a) (id_in b))) }
 {
-    and(!has_id(a), has_id(b))
+    !has_id(a) && has_id(b)
 }
 
 // ---- malformed LSNs
@@ -45,9 +47,7 @@ fn same_lsns(a: &[u8], n: u32, b: &[u8], m: u32) -> bool
     requires { (n * 4 ≤ length a.now) × (m * 4 ≤ length b.now) }
     ensures { result ≡ same_list eqb (lsns_in n a.now) (lsns_in m b.now) }
 {
-    let e = n as usize * 4;
-    let f = m as usize * 4;
-    same(&a[0..e], &b[0..f])
+    same(&a[..n as usize * 4], &b[..m as usize * 4])
 }
 
 // ---- held parts
@@ -75,12 +75,11 @@ fn stores_one(
     if p.at < n {
         return false;
     }
-    let kind = p.kind;
     let piece = Piece {
         at: p.at,
         start,
         number: p.number,
-        kind,
+        kind: p.kind,
         remaining: p.remaining,
     };
     let e = from + p.len as usize;
@@ -112,8 +111,7 @@ fn stores_some(
         frame: 0,
         offset: 0,
     };
-    let mut j: u32 = 0;
-    while j < h {
+    for j in 0..h {
         let p = read_held(theirs, j as usize);
         at = source_at(headers, f as usize, at, p.frame);
         let header = read_header(headers, p.frame as usize);
@@ -131,7 +129,6 @@ fn stores_some(
         ) {
             return true;
         }
-        j += 1;
     }
     false
 }
@@ -159,7 +156,7 @@ fn changes_parts(
         parts: x.parts,
         used: used_bytes(frames, x.frames),
     };
-    let h = taken(go, y.parts);
+    let h = if go { y.parts } else { 0 };
     stores_some(
         x.budget,
         x.checkpoints,
@@ -208,14 +205,10 @@ fn brought(
         other_confirmed.now) }
 {
     let go = further(x, y);
-    let a = x.fingerprint;
-    let b = y.fingerprint;
-    let i = x.image;
-    let k = y.image;
     let lsns = same_lsns(malformed, x.malformed, other_malformed, y.malformed);
     Brings {
-        checkpoints: and(go, x.checkpoints < y.checkpoints),
-        ending: and(go, is_complete(y)),
+        checkpoints: go && x.checkpoints < y.checkpoints,
+        ending: go && is_complete(y),
         parts: changes_parts(
             go,
             x,
@@ -227,18 +220,18 @@ fn brought(
             store,
             parts,
         ),
-        malformed: and(go, !lsns),
+        malformed: go && !lsns,
         hints: changes_hints(x.most, hints, x.hints, other_hints, y.hints),
         confirmed: changes_confirmed(
-            is_checked(a),
+            is_checked(x.fingerprint),
             x.most,
             confirmed,
             x.confirmed,
             other_confirmed,
             y.confirmed,
         ),
-        fingerprint: fills_fingerprint(a, b),
-        image: fills_image(i, k),
+        fingerprint: fills_fingerprint(x.fingerprint, y.fingerprint),
+        image: fills_image(x.image, y.image),
     }
 }
 

@@ -39,9 +39,6 @@ returns-then-stores_one c =
     c.read_held-p.ensures c.source_at-at.ensures
     c.read_header-header.ensures c.stores_one.ensures in got)).found c.if-stores_one.true
 
-pub overflow_add-j : goal.overflow_add-j
-overflow_add-j c = let a = c.loop-j-test.true in let b = c.ranges.h.fits in omega arith
-
 pub loop-j-preserved : goal.loop-j-preserved
 loop-j-preserved c =
     ((let got : let own = stored_in c.args.c.frames c.args.c.parts (part_tables c.args.frames.now c.args.store.now c.args.parts.now) in

@@ -1,3 +1,4 @@
+use borrow.Author.Tests.{lt-ltb, le-ltb}
 use mathlib.Core.Bool.{not}
 use mathlib.Core.Path.{ap}
 use Rattle.adds.proofs.compare.Passing.{absorb_end, absorb_short, absorb_moved, absorb_on}
@@ -26,6 +27,15 @@ returns-then-not-unmoved c =
     c.unmoved.ensures
     (ap not c.if-not-unmoved.true)
 
+pub loop-j-preserved-then-d-c : goal.loop-j-preserved-then-d-c
+loop-j-preserved-then-d-c c =
+    absorb_on c.loop-j.invariant
+    (read_turn 16 decode_confirmation _ _ _ c.loop-j-test.true
+    c.read_confirmation-d.ensures)
+    (read_turn 16 decode_confirmation _ _ _ c.if-n-i.false c.read_confirmation-c.ensures)
+    c.if-n-i.false
+    c.loop-j-test.true c.unmoved.ensures (ap not c.if-not-unmoved.false) (rw (le-ltb _ _ c.if-d-c.true))
+
 pub loop-j-preserved : goal.loop-j-preserved
 loop-j-preserved c =
     absorb_on c.loop-j.invariant
@@ -33,7 +43,7 @@ loop-j-preserved c =
     c.read_confirmation-d.ensures)
     (read_turn 16 decode_confirmation _ _ _ c.if-n-i.false c.read_confirmation-c.ensures)
     c.if-n-i.false
-    c.loop-j-test.true c.unmoved.ensures (ap not c.if-not-unmoved.false) c.met-j.ensures
+    c.loop-j-test.true c.unmoved.ensures (ap not c.if-not-unmoved.false) (rw (lt-ltb _ _ c.if-d-c.false))
 
 pub returns : goal.returns
 returns c = absorb_end c.loop-j.invariant (records_length 16 decode_confirmation _ _) c.loop-j-test.false

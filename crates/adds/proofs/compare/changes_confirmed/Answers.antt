@@ -4,12 +4,16 @@ use Rattle.adds.proofs.compare.Passing.{confirmed_unchecked, confirmed_none, con
 use Rattle.rules.specs.File.{decode_confirmation}
 use Rattle.field.proofs.Records.{records_length}
 use Rattle.adds.proofs.compare.changes_confirmed.Goals as goal
+use Rattle.adds.proofs.compare.changes_confirmed.Goals.{then-not-checked-via-then-not-checked, then-not-checked-via-else-not-checked+then-most-eq0}
 
 pub returns-then-not-checked : goal.returns-then-not-checked
-returns-then-not-checked c = confirmed_unchecked _ _ _ (records_length 16 decode_confirmation _ _) c.requires.2 (ap not c.if-not-checked.true)
-
-pub returns-then-most-eq0 : goal.returns-then-most-eq0
-returns-then-most-eq0 c = confirmed_none _ _ _ (records_length 16 decode_confirmation _ _) c.requires.2 c.if-most-eq0.true
+returns-then-not-checked c =
+    elim c.then-not-checked.branch [
+      | then-not-checked-via-then-not-checked w ↦
+          confirmed_unchecked _ _ _ (records_length 16 decode_confirmation _ _) c.requires.2 (ap not w.if-not-checked.true)
+      | then-not-checked-via-else-not-checked+then-most-eq0 w ↦
+          confirmed_none _ _ _ (records_length 16 decode_confirmation _ _) c.requires.2 w.if-most-eq0.true
+    ]
 
 pub returns : goal.returns
 returns c =

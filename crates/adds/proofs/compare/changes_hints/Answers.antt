@@ -10,4 +10,4 @@ returns-then-most-eq0 c = hints_none _ _ c.if-most-eq0.true
 pub returns : goal.returns
 returns c =
     hints_answered _ _ (records_length 8 decode_kept _ _) c.requires.2 c.if-most-eq0.false
-    c.weigh-w.ensures (unkept_in_lemma _ _) c.changed_by.ensures
+    c.weigh.ensures (unkept_in_lemma _ _) c.changed_by.ensures

@@ -24,5 +24,5 @@ returns c =
       skip.0,
       arriving_low _ _ _ _ (records_length 16 decode_confirmation _ _) c.if-n-most.false c.requires.2
           (read_turn 16 decode_confirmation _ _ 0 (omega (arith, c.if-n-most.false, c.requires.2))
-          c.read_confirmation-c.ensures) skip.1,
+          c.read_confirmation.ensures) skip.1,
     )

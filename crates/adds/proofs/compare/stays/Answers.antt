@@ -1,6 +1,9 @@
+use native.Mathlib.Omega.{arith}
 use Rattle.adds.proofs.compare.Passing.{stays_is}
-use mathlib.Core.Path.{◌∙◌}
 use Rattle.adds.proofs.compare.stays.Goals as goal
 
-pub returns : goal.returns
-returns c = c.and.ensures ∙ stays_is _ _
+pub returns-then-c-d : goal.returns-then-c-d
+returns-then-c-d c = grind (arith, stays_is c.args.c c.args.d)
+
+pub returns-else-c-d : goal.returns-else-c-d
+returns-else-c-d c = grind (arith, stays_is c.args.c c.args.d)
