@@ -1,16 +1,13 @@
 -- Laws of records that are read: signed numbers, a held part. Assumes nothing.
-use mathlib.Core.Path.{◌≡◌, refl, ap, ◌∙◌}
+use mathlib.Core.Path.{◌≡◌, refl}
 use mathlib.Core.List.{List}
 use Prim.Native.Nat.{ℕ, zero, suc, ◌+◌, ◌*◌, ◌-◌, ◌<◌, ◌≤◌}
 use native.Mathlib.Nat.{add-zero, suc-mul, mul-le-mul_right}
 use native.Mathlib.Numerals.{add-one}
 use native.Mathlib.Omega.{arith}
-use borrow.Author.Tests.{lt-ltb, le-ltb, eq-eqb, ne_eqb}
-use lib.IntN.{ℤ, pos, negsuc, ◌-ℤ◌}
+use borrow.Author.Tests.{eq-eqb, ne_eqb}
+use lib.IntN.{ℤ}
 use lib.ListN.{take, drop}
-use mir.Syntax.{w32}
-use mir.Val.{to_z, of_z, SFits}
-use mir.ValLaws.{to_z_pos, to_z-of_z}
 use Rattle.field.specs.Number.{number_at}
 use Rattle.field.specs.Records.{records, record_at}
 use Rattle.field.proofs.Number.{number_part, number_take}
@@ -23,26 +20,6 @@ use Rattle.rules.specs.Values.{no_held}
 use Rattle.rules.specs.Sections.{reached, rising_ok, risen, rising, hint_lsn, hint_ok, hints_ok, confirmed_lsn, confirmation_ok, confirmations_ok}
 use Rattle.rules.specs.File.{kind_of, signed32, decode_held, decode_hint, decode_confirmation}
 use Rattle.tables.specs.Tables.{parts_in, confirmations_in}
-
--- ---- signed numbers
-pub signed_low : (v : ℕ) → v < 2147483648 → to_z w32 v ≡ signed32 v
-unfolding signed32
-signed_low v h = to_z_pos w32 v h ∙ rw (lt-ltb v 2147483648 h)
-
-below : (m : ℕ) → negsuc 0 -ℤ pos m ≡ negsuc m
-below zero = refl
-below (suc m) = ap (λ (n : ℕ). negsuc (suc n)) (let e : 0 + m ≡ m = omega arith in e)
-
--- -1 - (2^32 - 1 - v), from 2^31 on
-high : (v : ℕ) → 2147483648 ≤ v → v < 4294967296 → negsuc 0 -ℤ to_z w32 (4294967295 - v) ≡ negsuc (4294967295 - v)
-high v h g = ap (λ (z : ℤ). negsuc 0 -ℤ z) (to_z_pos w32 (4294967295 - v) (omega arith)) ∙ below (4294967295 - v)
-
-pub high_fits : (v : ℕ) → 2147483648 ≤ v → v < 4294967296 → SFits w32 (negsuc 0 -ℤ to_z w32 (4294967295 - v))
-high_fits v h g = rw (high v h g) (record { sfits = omega arith })
-
-pub signed_high : (v : ℕ) → 2147483648 ≤ v → v < 4294967296 → to_z w32 (of_z w32 (negsuc 0 -ℤ to_z w32 (4294967295 - v))) ≡ signed32 v
-unfolding signed32
-signed_high v h g = to_z-of_z w32 _ (high_fits v h g) ∙ high v h g ∙ rw (le-ltb v 2147483648 h)
 
 -- ---- a held part
 pub held_made : {at frame len number v u : ℕ} {kind : FrameKind} {remaining : ℤ} (t : List ℕ) (i : ℕ)

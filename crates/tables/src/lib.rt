@@ -53,6 +53,7 @@ pub fn read_header(t: &[u8], j: usize) -> FrameHeader
     header_at(t, j * 8)
 }
 
+#[tactic(auto, using(std::proofs::lemmas::Bool::Decides::nat_tests), unfolding(rules::specs::File::kind_of))]
 pub fn kind_of(v: u32) -> FrameKind
     ensures { result ≡ kind_of v }
 {
@@ -64,14 +65,11 @@ pub fn kind_of(v: u32) -> FrameKind
 }
 
 // The signed number that four bytes stand for.
+#[tactic(auto, using(std::proofs::lemmas::Bool::Decides::nat_tests), unfolding(rules::specs::File::signed32))]
 pub fn signed(v: u32) -> i32
     ensures { result ≡ signed32 v }
 {
-    if v < 2147483648 {
-        v as i32
-    } else {
-        -1 - (4294967295 - v) as i32
-    }
+    v.cast_signed()
 }
 
 // The part in the bytes from at on.
@@ -188,9 +186,8 @@ pub fn write_hint(t: &mut [u8], j: usize, h: Hint)
     ensures { t.new ≡ sets t.old (j * 8) (encode_kept h) }
 {
     let at = j * 8;
-    let word = word_of(h.number, h.mark);
     write_u32(t, at, h.lsn);
-    write_u32(t, at + 4, word);
+    write_u32(t, at + 4, word_of(h.number, h.mark));
 }
 
 // Hint number j of a hint recorder's list, which holds no mark.

@@ -7,6 +7,7 @@ ghost use Rattle.rules.specs.File.{unsigned32, kind_number, encode_held};
 use field::write_u32;
 use rules::{FrameKind, Held};
 
+#[tactic(auto, unfolding(rules::specs::File::kind_number))]
 pub fn kind_number(k: FrameKind) -> u32
     ensures { result ≡ kind_number k }
 {
@@ -17,13 +18,11 @@ pub fn kind_number(k: FrameKind) -> u32
 }
 
 // The four bytes of a signed number, as a number.
+#[tactic(auto, unfolding(rules::specs::File::unsigned32))]
 pub fn unsigned(x: i32) -> u32
     ensures { result ≡ unsigned32 x }
 {
-    if 0 <= x {
-        return x as u32;
-    }
-    4294967295 - (-1 - x) as u32
+    x.cast_unsigned()
 }
 
 pub fn write_header(t: &mut [u8], j: usize, start: u32, len: u32)
@@ -50,9 +49,12 @@ pub fn write_held(t: &mut [u8], j: usize, p: Held)
     ensures { t.new ≡ sets t.old (j * 24) (encode_held p) }
 {
     let at = j * 24;
-    let of = p.kind;
-    let kind = kind_number(of);
-    let remaining = unsigned(p.remaining);
     write_three(t, at, p.at, p.frame, p.len);
-    write_three(t, at + 12, p.number, remaining, kind);
+    write_three(
+        t,
+        at + 12,
+        p.number,
+        unsigned(p.remaining),
+        kind_number(p.kind),
+    );
 }

@@ -1,18 +1,10 @@
--- Laws of records that are written: signed numbers, kinds, a frame's header, a held part. Assumes nothing.
-use mathlib.Core.Path.{◌≡◌, refl, sym, subst, ap, ◌∙◌}
-use mathlib.Core.Bool.{true, false}
+-- Laws of records that are written: kinds, a frame's header, a held part. Assumes nothing.
+use mathlib.Core.Path.{◌≡◌, refl, ◌∙◌}
 use mathlib.Core.List.{List, [], ◌∷◌, ◌++◌, append-nil, append_assoc}
-use Prim.Native.Nat.{ℕ, suc, ◌+◌, ◌-◌, ◌<◌}
-use native.Mathlib.Omega.{arith}
-use borrow.Author.Tests.{leb-false, le-ltb}
-use lib.Dec.{T, eqb}
-use lib.IntN.{ℤ, pos, negsuc, ◌-ℤ◌, nat_abs}
-use lib.Signed.{le_z}
+use Prim.Native.Nat.{ℕ, ◌+◌}
+use lib.Dec.{eqb}
 use lib.ListN.{length, length-append}
 use lib.Seq.{sets}
-use mir.Syntax.{w32}
-use mir.Val.{SFits, to_z, of_z}
-use mir.ValLaws.{to_z-of_z}
 use Rattle.field.specs.Number.{encode, put}
 use Rattle.field.proofs.Bytes.{sets_more}
 use Rattle.field.proofs.Number.{encode_length}
@@ -22,40 +14,6 @@ use Rattle.rules.specs.declared.FrameKind.TheVariants.{Dst, Dsd}
 use Rattle.rules.specs.declared.Held.{Held}
 use Rattle.rules.specs.Values.{same_kind}
 use Rattle.rules.specs.File.{unsigned32, kind_number, encode_held}
-
--- ---- a negative number z of 32 bits: -1 - z is not negative
-pub record Flipped (z : ℤ) : Type 0 where
-  pub n : ℕ
-  pub small : n < 2147483648
-  pub is : negsuc 0 -ℤ z ≡ pos n
-  pub back : 4294967295 - n ≡ unsigned32 z
-
-flip_neg : (n : ℕ) → negsuc 0 -ℤ negsuc n ≡ pos n
-flip_neg n = simp (le-ltb (suc n) 1 (omega arith)) (ap pos (omega arith))
-
-flipped : (z : ℤ) → SFits w32 z → le_z (pos 0) z ≡ false → Flipped z
-unfolding unsigned32
-flipped (pos n) f e = absurd (omega (arith, leb-false 0 n e))
-flipped (negsuc n) f e = record { n = n; small = f.sfits; is = flip_neg n; back = refl }
-
-pub natural : (z : ℤ) → le_z (pos 0) z ≡ true → nat_abs z ≡ unsigned32 z
-unfolding unsigned32
-natural (pos n) e = refl
-natural (negsuc n) e = absurd (subst T (sym e) tt)
-
-module _ (z : ℤ) (f : SFits w32 z) where
-  pub plain : to_z w32 (of_z w32 z) ≡ z
-  plain = to_z-of_z w32 z f
-
-  pub flip : le_z (pos 0) (to_z w32 (of_z w32 z)) ≡ false → Flipped z
-  flip e = flipped z f (rw plain at e)
-
-  module _ (e : le_z (pos 0) (to_z w32 (of_z w32 z)) ≡ false) where
-    pub fits : SFits w32 (negsuc 0 -ℤ to_z w32 (of_z w32 z))
-    fits = rw (plain, (flip e).is) (record { sfits = (flip e).small })
-
-    pub back : to_z w32 (of_z w32 (negsuc 0 -ℤ to_z w32 (of_z w32 z))) ≡ pos (flip e).n
-    back = to_z-of_z w32 _ fits ∙ rw (plain, (flip e).is)
 
 -- ---- kinds
 pub same_kind_lemma : (k l : FrameKind) → eqb (kind_number k) (kind_number l) ≡ same_kind k l

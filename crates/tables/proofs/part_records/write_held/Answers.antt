@@ -9,5 +9,5 @@ use Rattle.tables.proofs.part_records.write_held.Goals as goal
 
 pub returns : goal.returns
 returns c =
-    held_put _ _ c.args.p (c.unsigned-remaining.ensures ∙ ap unsigned32 (to_z-of_z w32 _ ((let got : SFits w32 c.args.p.remaining = search rules in got))))
-    c.kind_number-kind.ensures c.write_three.ensures c.write_three-2.ensures
+    held_put _ _ c.args.p (c.unsigned.ensures ∙ ap unsigned32 (to_z-of_z w32 _ ((let got : SFits w32 c.args.p.remaining = search rules in got))))
+    c.kind_number.ensures c.write_three.ensures c.write_three-2.ensures
