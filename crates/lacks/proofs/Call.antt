@@ -1,11 +1,11 @@
 -- What is lacking, from the numbers and the tables. Assumes nothing.
 use mathlib.Core.Path.{◌≡◌, refl, sym, ap₂, ◌∙◌}
-use mathlib.Core.Bool.{Bool, true, not, ◌&&◌}
+use mathlib.Core.Bool.{true}
 use mathlib.Core.List.{List, [], ◌∷◌}
 use mathlib.Core.Option.{Option, none, some}
 use Prim.Native.Nat.{ℕ, ◌-◌, ◌*◌, ◌≤◌}
 use native.Mathlib.Omega.{arith}
-use lib.Dec.{eqb, ltb}
+use lib.Dec.{eqb}
 use lib.ListN.{length}
 use borrow.Author.Tests.{eqb-true, eq-eqb, ne_eqb}
 use Rattle.field.proofs.Records.{records_length}
@@ -13,8 +13,8 @@ use Rattle.rules.specs.declared.Area.{Area}
 use Rattle.rules.specs.declared.AreaIndex.{AreaIndex}
 use Rattle.rules.specs.declared.Checkpoint.{Checkpoint}
 use Rattle.rules.specs.declared.Held.{Held}
-use Rattle.rules.specs.Tests.{walk, is_some, Accepted, after}
-use Rattle.rules.specs.Values.{count, stated}
+use Rattle.rules.specs.Tests.{walk, Accepted, after}
+use Rattle.rules.specs.Values.{count}
 use Rattle.rules.specs.Sections.{part_ok, malformed_ok, hints_ok, confirmations_ok, own_lsn, any_lsn}
 use Rattle.rules.specs.Sections.{hint_lsn, hint_ok, confirmed_lsn, confirmation_ok}
 use Rattle.rules.specs.File.{decode_checkpoint}
@@ -23,7 +23,7 @@ use Rattle.rules.proofs.Walk.{walk_head, walk_tail}
 use Rattle.laws.proofs.scans.Parts.{keep, part→}
 use Rattle.tables.specs.Tables.{decode_header, headers_in, frames_in, parts_in, lsns_in, confirmations_in, kept_in}
 use Rattle.tables.proofs.Frames.{frames_length}
-use Rattle.tables.specs.Index.{Tables, index_in, end_in, id_in}
+use Rattle.tables.specs.Index.{Tables, index_in}
 use Rattle.index.specs.Steps.{Passes}
 use Rattle.index.proofs.Questions.{passes_long, passes_hints, passes_store}
 use Rattle.merge.specs.Merge.{merge_refusal}
@@ -112,41 +112,6 @@ module _ {x y : AreaIndex} {t u : Tables} (j : Joins x t y u) where
         λ i. record { checkpoints = e0 i; parts = e1 i; malformed = e2 i; hints = e3 i; confirmed = e4 i }
 
 -- ---- with the numbers
-pub lacks_by_is : {e1 e2 a1 k1 k2 a2 h1 h2 a3 : Bool} (x y : AreaIndex) (c : Missing)
-    → e1 ≡ is_some (end_in y.ending) → e2 ≡ is_some (end_in x.ending) → a1 ≡ (e1 && not e2)
-    → k1 ≡ is_some (stated y.fingerprint) → k2 ≡ is_some (stated x.fingerprint) → a2 ≡ (k1 && not k2)
-    → h1 ≡ is_some (id_in y.image) → h2 ≡ is_some (id_in x.image) → a3 ≡ (h1 && not h2)
-    → ◌≡◌ {A = Lacks}
-    (record {
-      checkpoints = c.checkpoints;
-      ending = a1;
-      parts = c.parts;
-      malformed = c.malformed;
-      hints = c.hints;
-      confirmed = c.confirmed;
-      fingerprint = a2;
-      image = a3;
-      budget = ltb x.budget y.budget;
-      most = ltb x.most y.most;
-    }) (lacks_by x y c)
-unfolding lacks_by
-lacks_by_is {a1 = a1} {a2 = a2} {a3 = a3} x y c p0 p1 p2 p3 p4 p5 p6 p7 p8 =
-    let e0 : a1 ≡ (lacks_by x y c).ending = p2 ∙ ap₂ (λ (p q : Bool). p && not q) p0 p1 in
-    let e1 : a2 ≡ (lacks_by x y c).fingerprint = p5 ∙ ap₂ (λ (p q : Bool). p && not q) p3 p4 in
-    let e2 : a3 ≡ (lacks_by x y c).image = p8 ∙ ap₂ (λ (p q : Bool). p && not q) p6 p7 in
-    λ i. record {
-      checkpoints = c.checkpoints;
-      ending = e0 i;
-      parts = c.parts;
-      malformed = c.malformed;
-      hints = c.hints;
-      confirmed = c.confirmed;
-      fingerprint = e1 i;
-      image = e2 i;
-      budget = ltb x.budget y.budget;
-      most = ltb x.most y.most;
-    }
-
 counted : (x : AreaIndex) (t : Tables) (y : AreaIndex) (u : Tables)
     → lacks_by x y (counts_in x t y u) ≡ lacking (index_in x t) (index_in y u)
 unfolding lacks_by counts_in lacking

@@ -14,7 +14,7 @@ ghost use Rattle.lacks.specs.Sections.{width_of, item_key, stands_for, items_in,
 ghost use Rattle.lacks.specs.Parts.{nearest_to, FramesLent, PairIs, PairAt, same_part_by, part_key, PartWithin};
 ghost use Rattle.lacks.specs.Parts.{PartsWithin, stands_in, StepIs, unpaired_yet, PartsLent};
 
-use field::{and, read_u32};
+use field::read_u32;
 use index::{is_complete, is_stated};
 use merge::keys::skip;
 use merge::numbers::has_id;
@@ -52,10 +52,10 @@ pub struct Paired {
     pub common: usize,
 }
 
-// 0 where a part of the other list has one that stands for it, else 1; and the pair of frames that was looked at last.
+// Has a part of the other list one that stands for it? And the pair of frames that was looked at last.
 #[derive(Clone, Copy)]
 pub struct PartStep {
-    pub lacks: u32,
+    pub stands: bool,
     pub pair: Paired,
 }
 
@@ -71,19 +71,18 @@ fn width(s: Section) -> usize
     }
 }
 
+#[tactic(auto, unfolding(rules_lacks::specs::Lacks::same_hint, rules::specs::Tests::all))]
 fn same_hint(h: Hint, k: Hint) -> bool
     ensures { result ≡ same_hint h k }
 {
-    and(h.lsn == k.lsn, h.number == k.number)
+    h.lsn == k.lsn && h.number == k.number
 }
 
+#[tactic(auto, unfolding(rules_lacks::specs::Lacks::confirms_also, rules::specs::Tests::all))]
 fn confirms_also(c: Confirmation, d: Confirmation) -> bool
     ensures { result ≡ confirms_also c d }
 {
-    and(
-        c.lsn == d.lsn,
-        and(c.digest == d.digest, c.threshold <= d.threshold),
-    )
+    c.lsn == d.lsn && c.digest == d.digest && c.threshold <= d.threshold
 }
 
 // Does the own record number i stand for the other's number j?
@@ -98,23 +97,12 @@ fn stands_for(s: Section, own: &[u8], i: usize, other: &[u8], j: usize) -> bool
     }
 }
 
-fn one_unless(b: bool) -> u32
-    ensures { (result ≤ 1) × (result ≡ cond b 0 1) }
-{
-    if b { 0 } else { 1 }
-}
-
-// 0 where the own record number i, of n, stands for the other's number j, else 1.
-fn lacks_one(s: Section, own: &[u8], n: usize, i: usize, other: &[u8], j: usize) -> u32
+// Is there an own record number i, of n, and does it stand for the other's number j?
+fn stands_at(s: Section, own: &[u8], n: usize, i: usize, other: &[u8], j: usize) -> bool
     requires { (n * width_of s ≤ length own.now) × (j * width_of s + width_of s ≤ length other.now) }
-    ensures { (result ≤ 1)
-        × (result ≡ cond (first_stands (stands_for s) (drop i (items_in s n own.now))
-        (item_at s other.now j)) 0 1) }
+    ensures { result ≡ first_stands (stands_for s) (drop i (items_in s n own.now)) (item_at s other.now j) }
 {
-    if n <= i {
-        return 1;
-    }
-    one_unless(stands_for(s, own, i, other, j))
+    i < n && stands_for(s, own, i, other, j)
 }
 
 // How many of the other's m records the n own ones lack: one pass over both tables.
@@ -124,16 +112,15 @@ fn missing_records(s: Section, own: &[u8], n: u32, other: &[u8], m: u32) -> u32
         (items_in s m other.now) }
 {
     let w = width(s);
-    let a = n as usize;
-    let b = m as usize;
+    let n = n as usize;
     let mut i = 0;
-    let mut j = 0;
-    let mut count: u32 = 0;
-    while j < b {
+    let mut count = 0;
+    for j in 0..m as usize {
         let low = read_u32(other, j * w);
-        i = skip(own, w, a, i, low);
-        count += lacks_one(s, own, a, i, other, j);
-        j += 1;
+        i = skip(own, w, n, i, low);
+        if !stands_at(s, own, n, i, other, j) {
+            count += 1;
+        }
     }
     count
 }
@@ -143,17 +130,13 @@ fn missing_records(s: Section, own: &[u8], n: u32, other: &[u8], m: u32) -> u32
 fn common_of(a: &[u8], b: &[u8]) -> usize
     ensures { result ≡ common a.now b.now }
 {
-    let mut i = 0;
-    while i < a.len() {
-        if b.len() <= i {
-            return i;
-        }
+    let n = a.len().min(b.len());
+    for i in 0..n {
         if a[i] != b[i] {
             return i;
         }
-        i += 1;
     }
-    i
+    n
 }
 
 // Of a stretch of each of two stores.
@@ -161,9 +144,7 @@ fn stretch_common(store: &[u8], from: usize, len: usize, other: &[u8], at: usize
     requires { (from + len ≤ length store.now) × (at + n ≤ length other.now) }
     ensures { result ≡ common (take len (drop from store.now)) (take n (drop at other.now)) }
 {
-    let e = from + len;
-    let f = at + n;
-    common_of(&store[from..e], &other[at..f])
+    common_of(&store[from..from + len], &other[at..at + n])
 }
 
 // s where it does not lie behind frame number g, else the start.
@@ -171,12 +152,13 @@ fn nearest(s: Source, g: u32) -> Source
     ensures { result ≡ nearest_to s g }
 {
     if g < s.frame {
-        return Source {
+        Source {
             frame: 0,
             offset: 0,
-        };
+        }
+    } else {
+        s
     }
-    s
 }
 
 // From s to frame number g.
@@ -187,12 +169,9 @@ fn source_to(frames: &[u8], f: usize, s: Source, g: u32) -> Source
         × (result.offset ≤ g * 4294967295) }
 {
     let from = nearest(s, g);
-    let mut k = from.frame;
     let mut offset = from.offset;
-    while k < g {
-        let h = get_header(frames, f, k as usize);
-        offset += h.len as u64;
-        k += 1;
+    for k in from.frame..g {
+        offset += get_header(frames, f, k as usize).len as u64;
     }
     Source { frame: g, offset }
 }
@@ -215,13 +194,11 @@ fn pair_at(
     ensures { PairAt f frames.now store.now g m other_frames.now
         other_store.now k result }
 {
-    let a = s.own;
-    let b = s.other;
-    if and(s.known, and(a.frame == g, b.frame == k)) {
+    if s.known && s.own.frame == g && s.other.frame == k {
         return s;
     }
-    let p = source_to(frames, f, a, g);
-    let q = source_to(other_frames, m, b, k);
+    let p = source_to(frames, f, s.own, g);
+    let q = source_to(other_frames, m, s.other, k);
     let h = get_header(frames, f, g as usize);
     let i = get_header(other_frames, m, k as usize);
     let c = stretch_common(
@@ -243,16 +220,15 @@ fn pair_at(
 fn same_remaining(a: i32, b: i32) -> bool
     ensures { result ≡ same_signed a b }
 {
-    if a == b { true } else { false }
+    a == b
 }
 
 fn same_part(p: Held, q: Held, n: usize) -> bool
     ensures { result ≡ same_part_by p q n }
 {
-    let kind = q.kind;
-    let rest = alike(p, q.number, kind, n);
     let same = same_remaining(p.remaining, q.remaining);
-    and(p.at == q.at, and(p.len == q.len, and(same, rest)))
+    let rest = alike(p, q.number, q.kind, n);
+    p.at == q.at && p.len == q.len && same && rest
 }
 
 // Does part number i of n stand for q?
@@ -278,7 +254,10 @@ fn lacks_part(
         other_frames.now other_store.now result }
 {
     if n <= i {
-        return PartStep { lacks: 1, pair: s };
+        return PartStep {
+            stands: false,
+            pair: s,
+        };
     }
     let p = read_held(parts, i);
     let t = pair_at(
@@ -292,9 +271,8 @@ fn lacks_part(
         other_store,
         q.frame,
     );
-    let same = same_part(p, q, t.common);
     PartStep {
-        lacks: one_unless(same),
+        stands: same_part(p, q, t.common),
         pair: t,
     }
 }
@@ -335,12 +313,10 @@ fn missing_parts(
         (stands_in f frames.now store.now m other_frames.now
         other_store.now) (parts_in n parts.now) (parts_in h theirs.now) }
 {
-    let b = h as usize;
     let mut i = 0;
-    let mut j = 0;
-    let mut count: u32 = 0;
+    let mut count = 0;
     let mut s = unpaired();
-    while j < b {
+    for j in 0..h as usize {
         let q = read_held(theirs, j);
         i = skip(parts, 24, n as usize, i, q.at);
         let t = lacks_part(
@@ -356,38 +332,29 @@ fn missing_parts(
             other_frames,
             other_store,
         );
-        count += t.lacks;
+        if !t.stands {
+            count += 1;
+        }
         s = t.pair;
-        j += 1;
     }
     count
 }
 
 // ---- the call
-// b less a, 0 where a is no lower.
-fn above(a: u32, b: u32) -> u32
-    ensures { result ≡ b - a }
-{
-    if a < b { b - a } else { 0 }
-}
-
 // What is lacking, by the counts and the numbers.
+#[tactic(auto, unfolding(crate::specs::Steps::lacks_by))]
 fn lacks_by(x: AreaIndex, y: AreaIndex, c: Missing) -> Lacks
     ensures { result ≡ lacks_by x y c }
 {
-    let a = x.fingerprint;
-    let b = y.fingerprint;
-    let i = x.image;
-    let k = y.image;
     Lacks {
         checkpoints: c.checkpoints,
-        ending: and(is_complete(y), !is_complete(x)),
+        ending: is_complete(y) && !is_complete(x),
         parts: c.parts,
         malformed: c.malformed,
         hints: c.hints,
         confirmed: c.confirmed,
-        fingerprint: and(is_stated(b), !is_stated(a)),
-        image: and(has_id(k), !has_id(i)),
+        fingerprint: is_stated(y.fingerprint) && !is_stated(x.fingerprint),
+        image: has_id(y.image) && !has_id(x.image),
         budget: x.budget < y.budget,
         most: x.most < y.most,
     }
@@ -425,7 +392,7 @@ fn counts(
         other_confirmed.now) }
 {
     Missing {
-        checkpoints: above(x.checkpoints, y.checkpoints),
+        checkpoints: y.checkpoints.saturating_sub(x.checkpoints),
         parts: missing_parts(
             x.parts,
             parts,

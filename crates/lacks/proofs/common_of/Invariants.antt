@@ -1,10 +1,5 @@
 use Rattle.lacks.proofs.Parts.{Alike}
-use lib.ListN.{length}
-use Prim.Native.Nat.{◌-◌}
 use Rattle.lacks.proofs.common_of.Given as goal
 
 abbrev pub invariant-loop-i : goal.invariant-loop-i
 invariant-loop-i l = Alike l.a l.b l.i
-
-abbrev pub decreases-loop-i : goal.decreases-loop-i
-decreases-loop-i l = length l.a - l.i

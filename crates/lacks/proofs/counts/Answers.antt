@@ -15,6 +15,6 @@ missing_records-requires-3 c = confirmed_room c.requires
 
 pub returns : goal.returns
 returns c =
-    counts_are c.requires c.above.ensures c.missing_parts.ensures
+    counts_are c.requires c.saturating_sub.ensures c.missing_parts.ensures
     c.missing_records.ensures
     c.missing_records-2.ensures c.missing_records-3.ensures

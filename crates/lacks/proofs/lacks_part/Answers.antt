@@ -17,4 +17,4 @@ pub returns : goal.returns
 returns c =
     step_is _ _ _ _ _ _ _ _ _ _ c.if-n-i.false c.read_held-p.ensures
     (within_at _ _ _ _ _ _ c.requires.4 c.if-n-i.false c.read_held-p.ensures) c.requires.5
-    c.pair_at-t.ensures c.same_part-same.ensures c.one_unless.ensures
+    c.pair_at-t.ensures c.same_part.ensures

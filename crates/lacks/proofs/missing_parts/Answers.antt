@@ -1,6 +1,9 @@
+use borrow.Author.Tests.{not-true, not-false}
 use Rattle.lacks.proofs.Parts.{parts_start, parts_on, parts_end, within_at}
 use native.Mathlib.Omega.{arith}
+use native.Mathlib.Nat.{add-zero}
 use Rattle.lacks.proofs.missing_parts.Goals as goal
+use Rattle.lacks.proofs.missing_parts.Goals.{then-not-t, else-not-t}
 
 pub loop-j-init : goal.loop-j-init
 loop-j-init c = parts_start _ _ _ _ _ _ _ _ _ _ c.unpaired-s.ensures
@@ -21,21 +24,14 @@ lacks_part-t-requires c = (
   within_at _ _ _ _ _ _ c.requires.1.within c.loop-j-test.true c.read_held-q.ensures,
 )
 
-pub overflow_add-count : goal.overflow_add-count
-overflow_add-count c =
-    let a = c.loop-j.invariant.counting.few in let b = c.lacks_part-t.ensures.few in
-    let l = c.loop-j-test.true in let z = c.ranges.h.fits in omega arith
-
-pub overflow_add-j : goal.overflow_add-j
-overflow_add-j c = let l = c.loop-j-test.true in let z = c.ranges.h.fits in omega arith
-
-pub loop-j-smaller : goal.loop-j-smaller
-loop-j-smaller c = let l = c.loop-j-test.true in omega arith
-
 pub loop-j-preserved : goal.loop-j-preserved
 loop-j-preserved c =
-    parts_on _ _ _ _ _ _ _ _ _ _ c.loop-j.invariant c.loop-j-test.true c.read_held-q.ensures
-    c.skip-i.ensures c.lacks_part-t.ensures
+    let on = parts_on _ _ _ _ _ _ _ _ _ _ c.loop-j.invariant c.loop-j-test.true c.read_held-q.ensures
+    c.skip-i.ensures c.lacks_part-t.ensures in
+    elim c.if-not-t.branch [
+      | then-not-t w ↦ rw w.count-is (rw (not-true _ w.if-not-t.true) at on)
+      | else-not-t w ↦ rw w.count-is (rw (not-false _ w.if-not-t.false, add-zero) at on)
+    ]
 
 pub returns : goal.returns
 returns c = parts_end _ _ _ _ _ _ _ _ _ _ c.loop-j.invariant c.loop-j-test.false

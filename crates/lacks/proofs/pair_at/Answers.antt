@@ -1,8 +1,5 @@
-use Rattle.lacks.proofs.Parts.{frame_inside, pair_new, pair_kept}
+use Rattle.lacks.proofs.Parts.{frame_inside, pair_new}
 use Rattle.lacks.proofs.pair_at.Goals as goal
-
-pub returns-then-and : goal.returns-then-and
-returns-then-and c = pair_kept _ _ _ _ _ _ _ _ c.requires.0 c.and.ensures c.and-2.ensures c.if-and.true
 
 pub source_to-p-requires : goal.source_to-p-requires
 source_to-p-requires c =

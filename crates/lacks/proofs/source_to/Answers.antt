@@ -7,7 +7,7 @@ pub loop-k-init : goal.loop-k-init
 loop-k-init c = going_start _ _ _ _ c.nearest-from.ensures c.requires.0 c.requires.1
 
 pub loop-k-preserved : goal.loop-k-preserved
-loop-k-preserved c = going_on c.loop-k.invariant c.loop-k-test.true c.get_header-h.ensures (search rules)
+loop-k-preserved c = going_on c.loop-k.invariant c.loop-k-test.true c.get_header.ensures (search rules)
 
 pub returns : goal.returns
 returns c =
