@@ -26,13 +26,11 @@ fn numbers_ok(list: &[u8], n: usize) -> bool
     requires { n * 8 ≤ length list.now }
     ensures { result ≡ each hint_ok (hints_in n list.now) }
 {
-    let mut i = 0;
-    while i < n {
+    for i in 0..n {
         let h = read_given(list, i);
         if MAX_NEXT_ACCEPTABLE <= h.number {
             return false;
         }
-        i += 1;
     }
     true
 }
@@ -42,18 +40,13 @@ fn question13(list: &[u8]) -> bool
     ensures { result ≡ question13 (hints_of list.now) }
 {
     let n = list.len() / HINT;
-    if (MAX_LIST as usize) < n {
-        return false;
-    }
-    numbers_ok(list, n)
+    n <= MAX_LIST as usize && numbers_ok(list, n)
 }
 
 fn with_count(x: AreaIndex, n: u32) -> AreaIndex
     ensures { result ≡ with_count x n }
 {
-    let mut y = x;
-    y.hints = n;
-    y
+    AreaIndex { hints: n, ..x }
 }
 
 // The hints of the list, 8 bytes each, added to those of the index.
@@ -89,7 +82,6 @@ pub fn add_hints(
     if !question13(list) {
         return Made::Refused(13);
     }
-    let area = x.area;
-    let count = merge_hints(area, x.most, x.hints, hints, list);
+    let count = merge_hints(x.area, x.most, x.hints, hints, list);
     Made::Index(with_count(x, count))
 }

@@ -1,4 +1,3 @@
-use Prim.Native.Nat.{◌-◌, ◌≤◌}
 use mathlib.Core.Path.{◌≡◌}
 use Rattle.rules.specs.Tests.{each}
 use Rattle.rules.specs.Sections.{hint_ok}
@@ -8,7 +7,4 @@ use Rattle.tables.specs.Tables.{hints_in}
 use Rattle.add_hints.proofs.numbers_ok.Given as goal
 
 abbrev pub invariant-loop-i : goal.invariant-loop-i
-invariant-loop-i l = (l.i ≤ l.n) × (each hint_ok (between 8 decode_hint l.i l.n l.list) ≡ each hint_ok (hints_in l.n l.list))
-
-abbrev pub decreases-loop-i : goal.decreases-loop-i
-decreases-loop-i l = l.n - l.i
+invariant-loop-i l = each hint_ok (between 8 decode_hint l.i l.n l.list) ≡ each hint_ok (hints_in l.n l.list)
