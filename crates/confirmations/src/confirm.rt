@@ -13,26 +13,19 @@ use rules::{CONFIRMED, Confirmation};
 use tables::read_confirmation;
 use thin::spent;
 
-// The lower of two thresholds.
-fn lower_threshold(a: u32, b: u32) -> u32
-    ensures { result ≡ min a b }
-{
-    if a < b { a } else { b }
-}
-
 // Two confirmations at one LSN, x being held: the lower threshold of one digest, else the new one.
+#[tactic(auto, unfolding(rules::specs::Hints::held_confirmation))]
 fn met(x: Confirmation, y: Confirmation) -> Confirmation
     ensures { result ≡ held_confirmation x y }
 {
     if x.digest == y.digest {
-        let lower = lower_threshold(x.threshold, y.threshold);
-        return Confirmation {
-            lsn: x.lsn,
-            threshold: lower,
-            digest: x.digest,
-        };
+        Confirmation {
+            threshold: x.threshold.min(y.threshold),
+            ..x
+        }
+    } else {
+        y
     }
-    y
 }
 
 // Confirmation number j of a table.
@@ -124,8 +117,7 @@ fn last_lsn(t: &[u8], i: usize) -> u64
     if i == 0 {
         return 0;
     }
-    let c = read_confirmation(t, i - 1);
-    c.lsn as u64 + 1
+    read_confirmation(t, i - 1).lsn as u64 + 1
 }
 
 // Where the last ones of two lists begin in each, and how many they are merged.
@@ -141,27 +133,21 @@ fn count_last(t: &[u8], c: usize, o: &[u8], d: usize, most: usize) -> Split
     requires { Rising most c d t.now o.now }
     ensures { Splits most c d t.now o.now result.own result.other result.count }
 {
-    let mut i = c;
-    let mut j = d;
-    let mut k: usize = 0;
-    while k < most {
-        if i + j == 0 {
-            return Split {
-                own: i,
-                other: j,
-                count: k,
-            };
+    let mut own = c;
+    let mut other = d;
+    for count in 0..most {
+        if own + other == 0 {
+            return Split { own, other, count };
         }
-        let x = last_lsn(t, i);
-        let y = last_lsn(o, j);
-        i = spent(i, y <= x);
-        j = spent(j, x <= y);
-        k += 1;
+        let x = last_lsn(t, own);
+        let y = last_lsn(o, other);
+        own = spent(own, y <= x);
+        other = spent(other, x <= y);
     }
     Split {
-        own: i,
-        other: j,
-        count: k,
+        own,
+        other,
+        count: most,
     }
 }
 
@@ -189,10 +175,7 @@ pub fn merge_confirmations(
     ensures { Begins 16 encode_confirmation (keep_all checked most (confirmations_in c confirmed.old)
         (confirmations_in d other.now)) result confirmed.old confirmed.new }
 {
-    if !checked {
-        return c;
-    }
-    if most == 0 {
+    if !checked || most == 0 {
         return c;
     }
     keep_last(confirmed, c as usize, other, d as usize, most as usize) as u32

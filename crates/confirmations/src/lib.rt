@@ -14,16 +14,15 @@ ghost use Rattle.confirmations.specs.Confirmations.{given, kept_out, keep_in};
 ghost use Rattle.confirmations.specs.Steps.{Room, with_count};
 
 use crate::confirm::{merge_confirmations, write_confirmation};
-use field::and;
 use index::{is_checked, refuses};
 use rules::{Area, AreaIndex, CONFIRMED, Confirmation, Kept, MAX_NEXT_ACCEPTABLE};
 
 // 14: LSN in the area, threshold < LIM?
+#[tactic(auto, unfolding(rules::specs::Hints::in_area))]
 fn question14(area: Area, lsn: u64, threshold: u32) -> bool
     ensures { result ≡ (in_area area lsn && ltb threshold lim) }
 {
-    let inside = and(area.start <= lsn, lsn < area.end);
-    and(inside, threshold < MAX_NEXT_ACCEPTABLE)
+    area.start <= lsn && lsn < area.end && threshold < MAX_NEXT_ACCEPTABLE
 }
 
 // c kept beside the first n confirmations of t, of which there are at most M.
@@ -40,9 +39,7 @@ fn keep_one(most: u32, n: u32, t: &mut [u8], c: Confirmation) -> u32
 fn with_count(x: AreaIndex, n: u32) -> AreaIndex
     ensures { result ≡ with_count x n }
 {
-    let mut y = x;
-    y.confirmed = n;
-    y
+    AreaIndex { confirmed: n, ..x }
 }
 
 // The confirmation kept by its rule.
@@ -77,15 +74,10 @@ pub fn keep_confirmation(
     if number != 0 {
         return Kept::Refused(number);
     }
-    let area = x.area;
-    if !question14(area, lsn, threshold) {
+    if !question14(x.area, lsn, threshold) {
         return Kept::Refused(14);
     }
-    let f = x.fingerprint;
-    if !is_checked(f) {
-        return Kept::Nothing;
-    }
-    if x.most == 0 {
+    if !is_checked(x.fingerprint) || x.most == 0 {
         return Kept::Nothing;
     }
     let c = Confirmation {

@@ -1,11 +1,10 @@
 -- Confirmations of two tables joined. Assumes nothing.
-use mathlib.Core.Path.{◌≡◌, refl, sym, ap, ◌∙◌}
+use mathlib.Core.Path.{◌≡◌, refl, sym, ap, subst, ◌∙◌}
 use mathlib.Core.Bool.{Bool, true, false, cond}
 use mathlib.Core.List.{List, [], ◌∷◌, ◌++◌, append-nil}
-use Prim.Native.Nat.{ℕ, zero, suc, ◌+◌, ◌*◌, ◌-◌, ◌<◌, ◌≤◌, min}
+use Prim.Native.Nat.{ℕ, zero, suc, ◌+◌, ◌*◌, ◌-◌, ◌<◌, ◌≤◌}
 use native.Mathlib.Numerals.{add-one}
 use native.Mathlib.Omega.{arith}
-use borrow.Author.Tests.{eq-eqb, ne_eqb}
 use lib.Dec.{leb}
 use lib.ListN.{length, take, drop, take-append-drop}
 use lib.Seq.{sets}
@@ -31,15 +30,6 @@ use Rattle.tables.specs.Tables.{confirmations_in}
 use Rattle.confirmations.specs.Steps.{confirmations_merged, last_lsn, Rising, Splits, Keeps}
 
 -- ---- one confirmation
-pub met_lower : (x y : Confirmation) {m : ℕ} → x.digest ≡ y.digest → m ≡ min x.threshold y.threshold
-    → ◌≡◌ {A = Confirmation} (record { lsn = x.lsn; threshold = m; digest = x.digest }) (held_confirmation x y)
-unfolding held_confirmation
-met_lower x y e q = rw (eq-eqb x.digest y.digest e, q)
-
-pub met_other : (x y : Confirmation) → (x.digest ≡ y.digest → ⊥) → y ≡ held_confirmation x y
-unfolding held_confirmation
-met_other x y h = rw (ne_eqb x.digest y.digest h)
-
 -- its three numbers written are the confirmation written
 pub confirmation_put : (t : List ℕ) (k : ℕ) (c : Confirmation)
     → put 8 (put 4 (put 4 t k c.lsn) (k + 4) c.threshold) (k + 8) c.digest ≡ sets t k (encode_confirmation c)
@@ -122,10 +112,11 @@ module _ {c d most : ℕ} {t o : List ℕ} (f : Rising most c d t o) where
         splits (omega arith) (splitting_whole confirmed_lsn held_confirmation no_confirmation (confirmations_in c t)
         (confirmations_in d o) most i j k s h (omega arith))
 
-    pub counted_full : k ≤ most → most ≤ k → Splits most c d t o i j k
-    counted_full l m =
-        splits l (splitting_full confirmed_lsn held_confirmation no_confirmation (confirmations_in c t)
-        (confirmations_in d o) most i j k s (omega arith))
+    pub counted_most : k ≡ most → Splits most c d t o i j most
+    counted_most e =
+        subst (Splits most c d t o i j) e
+        (splits (omega arith) (splitting_full confirmed_lsn held_confirmation no_confirmation (confirmations_in c t)
+        (confirmations_in d o) most i j k s e))
 
 -- ---- the last ones moved up, and merged
 module _ (most c d : ℕ) (t t1 o : List ℕ) (i j k : ℕ) (f : Rising most c d t o) (s : Splits most c d t o i j k)

@@ -2,10 +2,12 @@ use mathlib.Core.Bool.{not}
 use mathlib.Core.Path.{ap}
 use mathlib.Core.Path.{sym, ◌∙◌}
 use native.Mathlib.Omega.{arith}
+use borrow.Author.Rules.{rules}
 use Rattle.index.proofs.Questions.{passes}
 use Rattle.confirmations.proofs.Keeping.{room_is, lsn_small, keep_no, keep_14, keep_unchecked, keep_zero}
 use Rattle.confirmations.proofs.Keeping.{keep_yes}
 use Rattle.confirmations.proofs.keep_confirmation.Goals as goal
+use Rattle.confirmations.proofs.keep_confirmation.Goals.{then-not-is_checked-via-then-not-is_checked, then-not-is_checked-via-else-not-is_checked+then-x-eq0}
 
 pub returns-then-number-ne0 : goal.returns-then-number-ne0
 returns-then-number-ne0 c = keep_no _ _ _ _ _ c.refuses-number.ensures c.if-number-ne0.true
@@ -15,14 +17,14 @@ returns-then-not-question14 c = keep_14 _ _ _ _ _ c.refuses-number.ensures c.if-
 
 pub returns-then-not-is_checked : goal.returns-then-not-is_checked
 returns-then-not-is_checked c =
-    keep_unchecked _ _ _ _ _ c.refuses-number.ensures c.if-number-ne0.false c.question14.ensures
-    (ap not c.if-not-question14.false)
-    c.is_checked.ensures (ap not c.if-not-is_checked.true)
-
-pub returns-then-x-eq0 : goal.returns-then-x-eq0
-returns-then-x-eq0 c =
-    keep_zero _ _ _ _ _ c.refuses-number.ensures c.if-number-ne0.false c.question14.ensures (ap not c.if-not-question14.false)
-    (omega (arith, c.if-x-eq0.true))
+    let q = ap not c.if-not-question14.false in
+    elim c.then-not-is_checked.branch [
+      | then-not-is_checked-via-then-not-is_checked w ↦
+          keep_unchecked _ _ _ _ _ c.refuses-number.ensures c.if-number-ne0.false c.question14.ensures q
+          c.is_checked.ensures (ap not w.if-not-is_checked.true)
+      | then-not-is_checked-via-else-not-is_checked+then-x-eq0 w ↦
+          keep_zero _ _ _ _ _ c.refuses-number.ensures c.if-number-ne0.false c.question14.ensures q w.if-x-eq0.true
+    ]
 
 pub overflow_cast-c : goal.overflow_cast-c
 overflow_cast-c c =
@@ -44,6 +46,6 @@ returns c =
       parts = λ i. (c.type_inv.parts i).fits;
       malformed = λ i. (c.type_inv.malformed i).fits;
       hints = λ i. (c.type_inv.hints i).fits;
-      confirmed = λ i. (c.slice_known-1.given i).fits;
+      confirmed = λ i. search rules;
     })
     c.keep_one-count.ensures)

@@ -6,4 +6,4 @@ pub returns-then-i-eq0 : goal.returns-then-i-eq0
 returns-then-i-eq0 c = last_none _ c.if-i-eq0.true
 
 pub returns : goal.returns
-returns c = (last_some c.args.t.now c.if-i-eq0.false c.read_confirmation-c.ensures, omega arith)
+returns c = (last_some c.args.t.now c.if-i-eq0.false c.read_confirmation.ensures, omega arith)
