@@ -1,8 +1,8 @@
 -- Laws of records that are read: signed numbers, a held part. Assumes nothing.
 use mathlib.Core.Path.{◌≡◌, refl}
 use mathlib.Core.List.{List}
-use Prim.Native.Nat.{ℕ, zero, suc, ◌+◌, ◌*◌, ◌-◌, ◌<◌, ◌≤◌}
-use native.Mathlib.Nat.{add-zero, suc-mul, mul-le-mul_right}
+use Prim.Native.Nat.{ℕ, zero, suc, ◌+◌, ◌-◌, ◌<◌, ◌≤◌}
+use native.Mathlib.Nat.{add-zero}
 use native.Mathlib.Numerals.{add-one}
 use native.Mathlib.Omega.{arith}
 use borrow.Author.Tests.{eq-eqb, ne_eqb}
@@ -44,12 +44,6 @@ reached_some h t n e =
 pub hint_take : (w : ℕ) (b : List ℕ) → 8 ≤ w → decode_hint b ≡ decode_hint (take w b)
 unfolding decode_hint
 hint_take w b h = rw (number_take 4 w b 0 (omega arith), number_take 4 w b 4 (omega arith))
-
-pub record_room : (j n w l : ℕ) → j < n → n * w ≤ l → j * w + w ≤ l
-record_room j n w l h g =
-    let m : suc j * w ≤ n * w = mul-le-mul_right w (let q : suc j ≤ n = omega arith in q) in
-    let m' : j * w + w ≤ n * w = rw suc-mul at m in
-    omega arith
 
 rising_as : (n s end : ℕ) (t : List ℕ)
     → walk (rising_ok hint_lsn hint_ok end) (risen hint_lsn) s (records 16 decode_hint n t) ≡ walk (rising_ok confirmed_lsn confirmation_ok end) (risen confirmed_lsn) s (records 16 decode_confirmation n t)
