@@ -33,10 +33,9 @@ fn write_hint_section(out: &mut [u8], h: HintHeader, table: &[u8], sum: u64) -> 
     requires { (h.count * 8 ≤ length table.now) × (24 + h.count * 8 ≤ length out.old) }
     ensures { Filled (hint_bytes h table.now) out.old sum result out.new }
 {
-    let behind = write_hint_header(out, h, sum);
     let w = Written {
         next: HINTS_HEADER,
-        sum: behind,
+        sum: write_hint_header(out, h, sum),
     };
     put_hints(out, w, table, h.count).sum
 }
@@ -47,10 +46,9 @@ fn write_confirmed_section(out: &mut [u8], n: u32, table: &[u8], sum: u64) -> u6
 {
     write_u32(out, 0, n);
     write_u32(out, 4, 0);
-    let counted = sum_u32(sum, n);
     let w = Written {
         next: CONFIRMED_HEADER,
-        sum: sum_u32(counted, 0),
+        sum: sum_u32(sum_u32(sum, n), 0),
     };
     put_confirmations(out, w, table, n).sum
 }
@@ -59,10 +57,8 @@ fn put_hint_section(out: &mut [u8], w: Written, h: HintHeader, table: &[u8]) -> 
     requires { (h.count * 8 ≤ length table.now) × (w.next + (24 + 8 * h.count) ≤ length out.old) }
     ensures { Summed (hint_bytes h table.now) (24 + 8 * h.count) out.old w result out.new }
 {
-    let at = w.next;
-    let n = h.count as usize;
-    let to = at + (HINTS_HEADER + n * HINT);
-    let sum = write_hint_section(&mut out[at..to], h, table, w.sum);
+    let to = w.next + (HINTS_HEADER + h.count as usize * HINT);
+    let sum = write_hint_section(&mut out[w.next..to], h, table, w.sum);
     Written { next: to, sum }
 }
 
@@ -70,9 +66,8 @@ fn put_confirmed_section(out: &mut [u8], w: Written, n: u32, table: &[u8]) -> Wr
     requires { (n * 16 ≤ length table.now) × (w.next + (8 + 16 * n) ≤ length out.old) }
     ensures { Summed (confirmed_bytes n table.now) (8 + 16 * n) out.old w result out.new }
 {
-    let at = w.next;
-    let to = at + (CONFIRMED_HEADER + n as usize * CONFIRMED);
-    let sum = write_confirmed_section(&mut out[at..to], n, table, w.sum);
+    let to = w.next + (CONFIRMED_HEADER + n as usize * CONFIRMED);
+    let sum = write_confirmed_section(&mut out[w.next..to], n, table, w.sum);
     Written { next: to, sum }
 }
 

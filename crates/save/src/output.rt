@@ -4,7 +4,7 @@ ghost use Rattle.fnv.specs.Fnv.{fnv_from, prime64};
 ghost use Rattle.rules.specs.Values.{default_spacing, default_hints};
 ghost use Rattle.save.specs.Output.{Summed, up_to, hint_header};
 
-use field::{and, not, or, write_u32, write_u64};
+use field::{write_u32, write_u64};
 use rules::{DEFAULT_HINT_SPACING, DEFAULT_MAX_HINTS, HintHeader};
 use summing::{sum_u32, sum_u64};
 
@@ -12,8 +12,7 @@ use summing::{sum_u32, sum_u64};
 pub fn is_hinting(hints: u32, spacing: u32, most: u32) -> bool
     ensures { result ≡ (not (eqb hints 0) || not (eqb spacing default_spacing && eqb most default_hints)) }
 {
-    let defaults = and(spacing == DEFAULT_HINT_SPACING, most == DEFAULT_MAX_HINTS);
-    or(not(hints == 0), not(defaults))
+    hints != 0 || spacing != DEFAULT_HINT_SPACING || most != DEFAULT_MAX_HINTS
 }
 
 // How far an output is written, and the sum of all bytes up to there.

@@ -1,5 +1,5 @@
 // The sections of a file, each written into its own stretch of a lent output, and summed.
-ghost use Rattle.std.specs.Prelude.{◌≡◌, true, ◌+◌, ◌*◌, ◌≤◌, length, drop};
+ghost use Rattle.std.specs.Prelude.{◌≡◌, true, ◌+◌, ◌*◌, ◌≤◌, length, take, drop};
 ghost use Rattle.std.proofs.lemmas.List.Edits.{sets};
 ghost use Rattle.field.specs.Records.{bytes_of, record_at};
 ghost use Rattle.fnv.specs.Fnv.{fnv_from, prime64};
@@ -11,116 +11,79 @@ ghost use Rattle.save.specs.Output.{Filled, Summed, up_to};
 
 use crate::output::Written;
 use rules::{CHECKPOINT, CONFIRMED, FRAME_HEADER, HELD, HINT, Hint};
-use summing::{copy_first_summed, copy_part_summed, sum_u32};
+use summing::{copy_part_summed, sum_u32};
 use tables::{read_header, read_hint, write_given};
 
-// ---- the first n records of a table, over the start of the stretch that is lent, and the hash of them from sum
-fn write_checkpoints(out: &mut [u8], table: &[u8], n: usize, sum: u64) -> u64
-    requires { (n * 24 ≤ length table.now) × (n * 24 ≤ length out.old) }
-    ensures { Filled (bytes_of encode_checkpoint (checkpoints_in n table.now)) out.old sum result out.new }
-{
-    copy_first_summed(out, table, n * CHECKPOINT, sum)
-}
-
-// Each kind is 0 or 1.
-fn write_parts(out: &mut [u8], table: &[u8], n: usize, sum: u64) -> u64
-    requires { (n * 24 ≤ length table.now) × (n * 24 ≤ length out.old) × (kinds_ok n table.now ≡ true) }
-    ensures { Filled (bytes_of encode_held (parts_in n table.now)) out.old sum result out.new }
-{
-    copy_first_summed(out, table, n * HELD, sum)
-}
-
-fn write_malformed(out: &mut [u8], table: &[u8], n: usize, sum: u64) -> u64
-    requires { (n * 4 ≤ length table.now) × (n * 4 ≤ length out.old) }
-    ensures { Filled (bytes_of encode_lsn (lsns_in n table.now)) out.old sum result out.new }
-{
-    copy_first_summed(out, table, n * 4, sum)
-}
-
-// Hint number j of a file, which holds no mark, and the hash of it from sum.
-fn put_hint(out: &mut [u8], j: usize, h: Hint, sum: u64) -> u64
-    requires { j * 8 + 8 ≤ length out.old }
-    ensures { (out.new ≡ sets out.old (j * 8) (encode_hint h)) × (result ≡ fnv_from 64 prime64 sum (encode_hint h)) }
-{
-    let x = sum_u32(sum, h.lsn);
-    let r = sum_u32(x, h.number);
-    write_given(out, j, h);
-    r
-}
-
-fn write_hints(out: &mut [u8], table: &[u8], n: usize, sum: u64) -> u64
-    requires { (n * 8 ≤ length table.now) × (n * 8 ≤ length out.old) }
-    ensures { Filled (bytes_of encode_hint (kept_in n table.now)) out.old sum result out.new }
-{
-    let mut x = sum;
-    let mut j = 0;
-    while j < n {
-        x = put_hint(out, j, read_hint(table, j), x);
-        j += 1;
-    }
-    x
-}
-
-fn write_confirmations(out: &mut [u8], table: &[u8], n: usize, sum: u64) -> u64
-    requires { (n * 16 ≤ length table.now) × (n * 16 ≤ length out.old) }
-    ensures { Filled (bytes_of encode_confirmation (confirmations_in n table.now)) out.old sum result out.new }
-{
-    copy_first_summed(out, table, n * CONFIRMED, sum)
-}
-
 // ---- the stretch of each section: from w on, up to what is answered
+// The first size bytes of a table.
+fn put_table(out: &mut [u8], w: Written, table: &[u8], size: usize) -> Written
+    requires { (size ≤ length table.now) × (w.next + size ≤ length out.old) }
+    ensures { Summed (take size table.now) size out.old w result out.new }
+{
+    let sum = copy_part_summed(out, w.next, table, 0, size, w.sum);
+    Written {
+        next: w.next + size,
+        sum,
+    }
+}
+
 pub fn put_checkpoints(out: &mut [u8], w: Written, table: &[u8], count: u32) -> Written
     requires { (count * 24 ≤ length table.now) × (w.next + count * 24 ≤ length out.old) }
     ensures { Summed (bytes_of encode_checkpoint (checkpoints_in count table.now)) (count * 24) out.old w result out.new }
 {
-    let at = w.next;
-    let n = count as usize;
-    let to = at + n * CHECKPOINT;
-    let sum = write_checkpoints(&mut out[at..to], table, n, w.sum);
-    Written { next: to, sum }
+    put_table(out, w, table, count as usize * CHECKPOINT)
 }
 
+// Each kind is 0 or 1.
 pub fn put_parts(out: &mut [u8], w: Written, table: &[u8], count: u32) -> Written
     requires { (count * 24 ≤ length table.now) × (w.next + count * 24 ≤ length out.old) × (kinds_ok count table.now ≡ true) }
     ensures { Summed (bytes_of encode_held (parts_in count table.now)) (count * 24) out.old w result out.new }
 {
-    let at = w.next;
-    let n = count as usize;
-    let to = at + n * HELD;
-    let sum = write_parts(&mut out[at..to], table, n, w.sum);
-    Written { next: to, sum }
+    put_table(out, w, table, count as usize * HELD)
 }
 
 pub fn put_malformed(out: &mut [u8], w: Written, table: &[u8], count: u32) -> Written
     requires { (count * 4 ≤ length table.now) × (w.next + count * 4 ≤ length out.old) }
     ensures { Summed (bytes_of encode_lsn (lsns_in count table.now)) (count * 4) out.old w result out.new }
 {
-    let at = w.next;
-    let n = count as usize;
-    let to = at + n * 4;
-    let sum = write_malformed(&mut out[at..to], table, n, w.sum);
-    Written { next: to, sum }
-}
-
-pub fn put_hints(out: &mut [u8], w: Written, table: &[u8], count: u32) -> Written
-    requires { (count * 8 ≤ length table.now) × (w.next + count * 8 ≤ length out.old) }
-    ensures { Summed (bytes_of encode_hint (kept_in count table.now)) (count * 8) out.old w result out.new }
-{
-    let at = w.next;
-    let n = count as usize;
-    let to = at + n * HINT;
-    let sum = write_hints(&mut out[at..to], table, n, w.sum);
-    Written { next: to, sum }
+    put_table(out, w, table, count as usize * 4)
 }
 
 pub fn put_confirmations(out: &mut [u8], w: Written, table: &[u8], count: u32) -> Written
     requires { (count * 16 ≤ length table.now) × (w.next + count * 16 ≤ length out.old) }
     ensures { Summed (bytes_of encode_confirmation (confirmations_in count table.now)) (count * 16) out.old w result out.new }
 {
-    let at = w.next;
-    let n = count as usize;
-    let to = at + n * CONFIRMED;
-    let sum = write_confirmations(&mut out[at..to], table, n, w.sum);
+    put_table(out, w, table, count as usize * CONFIRMED)
+}
+
+// ---- hints, one by one
+// Hint number j of a file, which holds no mark, and the hash of it from sum.
+fn put_hint(out: &mut [u8], j: usize, h: Hint, sum: u64) -> u64
+    requires { j * 8 + 8 ≤ length out.old }
+    ensures { (out.new ≡ sets out.old (j * 8) (encode_hint h)) × (result ≡ fnv_from 64 prime64 sum (encode_hint h)) }
+{
+    write_given(out, j, h);
+    sum_u32(sum_u32(sum, h.lsn), h.number)
+}
+
+// The first n hints of a table at the start of out, and the hash of them from sum.
+fn write_hints(out: &mut [u8], table: &[u8], n: usize, sum: u64) -> u64
+    requires { (n * 8 ≤ length table.now) × (n * 8 ≤ length out.old) }
+    ensures { Filled (bytes_of encode_hint (kept_in n table.now)) out.old sum result out.new }
+{
+    let mut x = sum;
+    for j in 0..n {
+        x = put_hint(out, j, read_hint(table, j), x);
+    }
+    x
+}
+
+pub fn put_hints(out: &mut [u8], w: Written, table: &[u8], count: u32) -> Written
+    requires { (count * 8 ≤ length table.now) × (w.next + count * 8 ≤ length out.old) }
+    ensures { Summed (bytes_of encode_hint (kept_in count table.now)) (count * 8) out.old w result out.new }
+{
+    let to = w.next + count as usize * HINT;
+    let sum = write_hints(&mut out[w.next..to], table, count as usize, w.sum);
     Written { next: to, sum }
 }
 
@@ -159,13 +122,11 @@ fn write_frames(out: &mut [u8], headers: &[u8], store: &[u8], f: usize, sum: u64
     let mut at = 0;
     let mut from = 0;
     let mut x = sum;
-    let mut k = 0;
-    while k < f {
+    for k in 0..f {
         let e = put_frame(out, at, headers, k, store, from, x);
         at += FRAME_HEADER + e.len;
         from += e.len;
         x = e.sum;
-        k += 1;
     }
     x
 }
@@ -182,9 +143,8 @@ pub fn put_frames(
     requires { (count * 8 ≤ length headers.now) × (used (frames_in count headers.now store.now) ≤ length store.now) × (w.next + (count * 8 + bytes) ≤ length out.old) × (bytes ≡ used (frames_in count headers.now store.now)) }
     ensures { Summed (bytes_of encode_frame (frames_in count headers.now store.now)) (count * 8 + used (frames_in count headers.now store.now)) out.old w result out.new }
 {
-    let at = w.next;
     let f = count as usize;
-    let to = at + (f * FRAME_HEADER + bytes as usize);
-    let sum = write_frames(&mut out[at..to], headers, store, f, w.sum);
+    let to = w.next + (f * FRAME_HEADER + bytes as usize);
+    let sum = write_frames(&mut out[w.next..to], headers, store, f, w.sum);
     Written { next: to, sum }
 }

@@ -2,7 +2,6 @@
 use mathlib.Core.Path.{◌≡◌, refl, sym, ap, ◌∙◌}
 use mathlib.Core.List.{List, ◌++◌}
 use Prim.Native.Nat.{ℕ, ◌+◌, ◌*◌, ◌≤◌, ◌<◌}
-use native.Mathlib.Nat.{zero-mul}
 use native.Mathlib.Omega.{arith}
 use lib.ListN.{length, drop, drop_of_length-le}
 use lib.Seq.{sets, length-sets}
@@ -40,9 +39,6 @@ pub record Hinting (n : ℕ) (t old : List ℕ) (u j x : ℕ) (new : List ℕ) :
   pub hashed : fnv_from 64 prime64 x (left n t j) ≡ fnv_from 64 prime64 u (bytes_of encode_hint (kept_in n t))
 
 module _ (n : ℕ) (t old : List ℕ) (u : ℕ) where
-  pub hints_start : Hinting n t old u 0 u old
-  hints_start = record { within = omega arith; bytes = rw zero-mul; same = refl; hashed = refl }
-
   module _ {j x : ℕ} {new : List ℕ} (i : Hinting n t old u j x new) where
     left_turn : j < n → left n t j ≡ encode_hint (record_at 8 decode_kept t j) ++ left n t (j + 1)
     unfolding bytes_of

@@ -6,6 +6,6 @@ use Rattle.save.proofs.write_confirmed_section.Goals as goal
 pub returns : goal.returns
 returns c =
     filled
-    (summed_both (number_summed 4 _ 0 _ _ c.write_u32.ensures c.sum_u32-counted.ensures)
-    (summed_both (number_summed 4 _ 4 _ _ c.write_u32-2.ensures c.sum_u32.ensures) c.put_confirmations.ensures))
+    (summed_both (number_summed 4 _ 0 _ _ c.write_u32.ensures c.sum_u32.ensures)
+    (summed_both (number_summed 4 _ 4 _ _ c.write_u32-2.ensures c.sum_u32-2.ensures) c.put_confirmations.ensures))
     (omega (arith, c.requires.1))

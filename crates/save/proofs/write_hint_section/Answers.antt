@@ -3,4 +3,4 @@ use Rattle.save.proofs.Sections.{filled}
 use Rattle.save.proofs.write_hint_section.Goals as goal
 
 pub returns : goal.returns
-returns c = filled (summed_both c.write_hint_header-behind.ensures c.put_hints.ensures) c.requires.1
+returns c = filled (summed_both c.write_hint_header.ensures c.put_hints.ensures) c.requires.1

@@ -5,9 +5,6 @@ use Rattle.tables.specs.declared.FrameHeader.{FrameHeader}
 use native.Mathlib.Omega.{arith}
 use Rattle.save.proofs.write.put_frame.Goals as goal
 
-pub copy_part_summed-behind-requires : goal.copy_part_summed-behind-requires
-copy_part_summed-behind-requires c = let e = ap (λ (h : FrameHeader). h.len) c.read_header-h.ensures in omega (arith, c.requires)
-
 pub returns : goal.returns
 returns c =
     let bytes : Bytes c.args.headers.now = λ i. (c.type_inv.headers i).fits in

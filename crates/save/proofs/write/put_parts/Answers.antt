@@ -1,10 +1,5 @@
-use Rattle.save.proofs.write.Sections.{records_size}
-use Rattle.save.proofs.output.Sums.{summed_lent}
-use Rattle.laws.proofs.Layouts.{held_length}
-use Rattle.rules.specs.File.{encode_held, decode_held}
-use native.Mathlib.Omega.{arith}
-use mathlib.Core.Path.{refl}
+use Rattle.index.proofs.Lent.{parts_bytes}
 use Rattle.save.proofs.write.put_parts.Goals as goal
 
 pub returns : goal.returns
-returns c = summed_lent _ _ _ _ _ _ (records_size 24 decode_held encode_held held_length _ _) refl (omega arith) c.write_parts-sum.ensures
+returns c = rw (parts_bytes _ _ (λ i. (c.type_inv.table i).fits) c.requires.0 c.requires.2) c.put_table.ensures

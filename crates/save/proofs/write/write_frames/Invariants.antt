@@ -1,9 +1,5 @@
 use Rattle.save.proofs.write.Frames.{Framing}
-use Prim.Native.Nat.{◌-◌}
 use Rattle.save.proofs.write.write_frames.Given as goal
 
 abbrev pub invariant-loop-k : goal.invariant-loop-k
 invariant-loop-k l = Framing l.f l.headers l.store l.initial.out l.sum l.k l.at l.from l.x l.out
-
-abbrev pub decreases-loop-k : goal.decreases-loop-k
-decreases-loop-k l = l.f - l.k
