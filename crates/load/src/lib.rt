@@ -67,12 +67,10 @@ fn commit_frames(frames: &mut [u8], store: &mut [u8], b: &[u8], at: usize, f: us
 {
     let mut here = at;
     let mut used = 0;
-    let mut i = 0;
-    while i < f {
+    for i in 0..f {
         let len = move_frame(frames, store, b, here, i, used);
         here = next_frame(here, len);
         used += len;
-        i += 1;
     }
 }
 
@@ -178,8 +176,7 @@ pub fn decide(
     if !question1(area) {
         return Decided::Refused(1);
     }
-    let read = inspect(area, bytes);
-    match read {
+    match inspect(area, bytes) {
         Inspected::Refused(n) => Decided::Refused(n),
         Inspected::Passed(found) => decide_room(
             area,

@@ -27,24 +27,3 @@ pub returns : goal.returns
 returns c =
     ready_filled (λ i. (c.type_inv.bytes i).fits) c.requires c.locate-p.ensures c.commit_part.ensures c.commit_frames.ensures
     c.commit_part-2.ensures c.commit_part-3.ensures c.commit_hints.ensures c.commit_part-4.ensures
-
-pub shape_of-checkpoints : goal.shape_of-checkpoints
-shape_of-checkpoints c = c.checkpoints-1.given
-
-pub shape_of-frames : goal.shape_of-frames
-shape_of-frames c = c.frames-1.given
-
-pub shape_of-store : goal.shape_of-store
-shape_of-store c = c.store-1.given
-
-pub shape_of-parts : goal.shape_of-parts
-shape_of-parts c = c.parts-1.given
-
-pub shape_of-malformed : goal.shape_of-malformed
-shape_of-malformed c = c.malformed-1.given
-
-pub shape_of-hints : goal.shape_of-hints
-shape_of-hints c = c.hints-1.given
-
-pub shape_of-confirmed : goal.shape_of-confirmed
-shape_of-confirmed c = c.confirmed-1.given

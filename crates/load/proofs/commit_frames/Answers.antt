@@ -1,11 +1,7 @@
 use native.Mathlib.Omega.{arith}
-use mathlib.Core.Path.{refl}
-use Rattle.load.proofs.limit.Frames.{move_start, move_room, move_on, move_end, moved_all}
+use Rattle.load.proofs.limit.Frames.{move_room, move_on, move_end, moved_all}
 use borrow.Author.Rules.{rules}
 use Rattle.load.proofs.commit_frames.Goals as goal
-
-pub loop-i-init : goal.loop-i-init
-loop-i-init c = (move_start _ _ _ _ _ c.requires.0 c.requires.1 c.requires.2, refl, refl)
 
 pub move_frame-len-requires : goal.move_frame-len-requires
 move_frame-len-requires c = move_room c.loop-i.invariant.0 c.loop-i-test.true

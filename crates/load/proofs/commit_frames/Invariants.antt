@@ -1,4 +1,4 @@
-use Prim.Native.Nat.{◌-◌, ◌*◌}
+use Prim.Native.Nat.{◌*◌}
 use mathlib.Core.List.{◌++◌}
 use mathlib.Core.Path.{◌≡◌}
 use lib.ListN.{length, drop}
@@ -14,6 +14,3 @@ abbrev pub invariant-loop-i : goal.invariant-loop-i
 invariant-loop-i l = Moving l.b l.f (used (frames_read l.f (drop l.at l.b))) (bytes_of encode_frame_header (frames_read l.f (drop l.at l.b)) ++ drop (l.f * 8) l.initial.frames)
     (store_of (frames_read l.f (drop l.at l.b)) ++ drop (used (frames_read l.f (drop l.at l.b))) l.initial.store) l.i l.here l.used l.frames l.store
     × (length l.frames ≡ length l.initial.frames) × (length l.store ≡ length l.initial.store)
-
-abbrev pub decreases-loop-i : goal.decreases-loop-i
-decreases-loop-i l = l.f - l.i

@@ -2,7 +2,7 @@
 use mathlib.Core.Path.{◌≡◌, refl, sym, ap, ◌∙◌}
 use mathlib.Core.List.{List, ◌∷◌, ◌++◌, append_assoc}
 use Prim.Native.Nat.{ℕ, zero, suc, ◌+◌, ◌-◌, ◌*◌, ◌<◌, ◌≤◌}
-use native.Mathlib.Nat.{add-zero, zero-add, sub-zero}
+use native.Mathlib.Nat.{add-zero}
 use native.Mathlib.Omega.{arith}
 use borrow.Author.Tests.{le-leb, lt-leb}
 use lib.ListN.{length, take, drop, length-append, length-take, length-drop, take-append-drop}
@@ -58,9 +58,6 @@ pub record Fitting (b : List ℕ) (budget f r i here u : ℕ) : Type 0 where
   pub low : u ≤ budget
   pub rest : i + length (fitting (budget - u) (frames_read (f - i) (drop here b))) ≡ r
 
-pub fit_start : (b : List ℕ) (budget f at : ℕ) → place_at b at f ≤ length b → Fitting b budget f (length (fitting budget (frames_read f (drop at b)))) 0 at 0
-fit_start b budget f at l = record { within = omega arith; inside = rw sub-zero l; low = omega arith; rest = simp (sub-zero, zero-add) }
-
 module _ {b : List ℕ} {budget f r i here u : ℕ} (k : Fitting b budget f r i here u) where
   module _ (h : i < f) where
     left : f - i ≡ suc (f - (i + 1))
@@ -95,9 +92,12 @@ module _ {b : List ℕ} {budget f r i here u : ℕ} (k : Fitting b budget f r i 
         let s : length (frame_here (drop here b)).bytes ≡ len = next_size b here (f - (i + 1)) there ∙ sym e in
         sym (add-zero i) ∙ (rw (s, lt-leb len (budget - u) g) at turn)
 
-  pub fit_end : f ≤ i → i ≡ r
+  pub fit_end : f ≤ i → f ≡ r
   unfolding fitting each_read
-  fit_end h = let e : f - i ≡ 0 = omega arith in sym (add-zero i) ∙ (rw e at k.rest)
+  fit_end h =
+      let e : f - i ≡ 0 = omega arith in
+      let q : f ≡ i = omega (arith, k.within) in
+      q ∙ sym (add-zero i) ∙ (rw e at k.rest)
 
 -- ---- into the tables
 -- w bytes h put at k, and then r behind them up to m
@@ -122,13 +122,6 @@ pub record Moving (b : List ℕ) (f v : ℕ) (g s : List ℕ) (i here u : ℕ) (
   pub bytes : take u store ++ (store_of (frames_read (f - i) (drop here b)) ++ drop v store) ≡ s
   pub table : f * 8 ≤ length frames
   pub room : v ≤ length store
-
-pub move_start : (b : List ℕ) (f at : ℕ) (frames store : List ℕ) → place_at b at f ≤ length b → f * 8 ≤ length frames
-    → used (frames_read f (drop at b)) ≤ length store
-    → Moving b f (used (frames_read f (drop at b))) (bytes_of encode_frame_header (frames_read f (drop at b)) ++ drop (f * 8) frames)
-    (store_of (frames_read f (drop at b)) ++ drop (used (frames_read f (drop at b))) store) 0 at 0 frames store
-move_start b f at frames store l t r =
-    record { within = omega arith; inside = rw sub-zero l; sum = rw (sub-zero, zero-add); headers = rw sub-zero; bytes = rw sub-zero; table = t; room = r }
 
 module _ {b : List ℕ} {f v : ℕ} {g s : List ℕ} {i here u : ℕ} {frames store : List ℕ} (k : Moving b f v g s i here u frames store) where
   module _ (h : i < f) where

@@ -2,7 +2,7 @@
 use mathlib.Core.Path.{◌≡◌, sym, ◌∙◌}
 use Prim.Native.Nat.{ℕ, suc, ◌+◌, ◌*◌, ◌<◌, ◌≤◌}
 use mathlib.Core.List.{List}
-use native.Mathlib.Nat.{add-zero, zero-add}
+use native.Mathlib.Nat.{add-zero}
 use native.Mathlib.Omega.{arith}
 use borrow.Author.Tests.{lt-ltb, le-ltb}
 use lib.ListN.{length, drop, length-drop, drop_of_length-le}
@@ -19,9 +19,6 @@ pub record Staying (t : List ℕ) (h n r j : ℕ) : Type 0 where
   pub upto : j ≤ h
   pub rest : j + length (within n (drop j (parts_in h t))) ≡ r
 
-pub stay_start : (t : List ℕ) (h n : ℕ) → Staying t h n (length (within n (parts_in h t))) 0
-stay_start t h n = record { upto = omega arith; rest = zero-add _ }
-
 module _ {t : List ℕ} {h n r j : ℕ} (k : Staying t h n r j) where
   pub stay_on : {p : Held} → j < h → p ≡ record_at 24 decode_held t j → p.frame < n → Staying t h n r (j + 1)
   unfolding within
@@ -34,16 +31,13 @@ module _ {t : List ℕ} {h n r j : ℕ} (k : Staying t h n r j) where
   unfolding within
   stay_stop {p} l e g = sym (add-zero j) ∙ (rw (records_turn 24 decode_held h t j l, ← e, le-ltb p.frame n g) at k.rest)
 
-  pub stay_end : h ≤ j → j ≡ r
+  pub stay_end : h ≤ j → h ≡ r
   unfolding within
   stay_end g =
       let l : length (parts_in h t) ≤ j = rw records_length g in
-      sym (add-zero j) ∙ (rw (drop_of_length-le (parts_in h t) l) at k.rest)
+      let q : h ≡ j = omega (arith, k.upto) in
+      q ∙ sym (add-zero j) ∙ (rw (drop_of_length-le (parts_in h t) l) at k.rest)
 
 -- the bytes behind at have the h parts
 pub part_room : {t : List ℕ} (b : List ℕ) (at h j : ℕ) → t ≡ drop at b → at + h * 24 ≤ length b → j < h → j * 24 + 24 ≤ length t
 part_room b at h j e l g = rw (e, length-drop) (omega arith)
-
--- and n bytes
-pub part_bytes_room : {t : List ℕ} (b : List ℕ) (at n : ℕ) → t ≡ drop at b → at + n ≤ length b → n ≤ length t
-part_bytes_room b at n e l = rw (e, length-drop) (omega arith)

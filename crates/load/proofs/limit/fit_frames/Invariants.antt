@@ -1,4 +1,3 @@
-use Prim.Native.Nat.{◌-◌}
 use lib.ListN.{length, drop}
 use Rattle.rules.specs.Load.{fitting}
 use Rattle.tables.specs.Files.{frames_read}
@@ -7,6 +6,3 @@ use Rattle.load.proofs.limit.fit_frames.Given as goal
 
 abbrev pub invariant-loop-i : goal.invariant-loop-i
 invariant-loop-i l = Fitting l.b l.budget l.f (length (fitting l.budget (frames_read l.f (drop l.at l.b)))) l.i l.here l.used
-
-abbrev pub decreases-loop-i : goal.decreases-loop-i
-decreases-loop-i l = l.f - l.i

@@ -15,6 +15,6 @@ within_parts-parts-requires c = rw c.parts_from-at.ensures (parts_inside (λ i. 
 
 pub returns : goal.returns
 returns c =
-    kept_is _ (λ i. (c.type_inv.bytes i).fits) c.requires c.min_u64-budget.ensures c.frames_from.ensures c.fit_frames-frames.ensures
-    c.parts_from-at.ensures c.within_parts-parts.ensures c.min_u32-most.ensures c.min_u32-hints.ensures
-    (rw c.min_u64.ensures at c.min_u32-confirmed.ensures)
+    kept_is _ (λ i. (c.type_inv.bytes i).fits) c.requires c.min-budget.ensures c.frames_from.ensures c.fit_frames-frames.ensures
+    c.parts_from-at.ensures c.within_parts-parts.ensures c.min-most.ensures c.min.ensures
+    (rw c.min-2.ensures at c.min-3.ensures)

@@ -1,4 +1,3 @@
-use Prim.Native.Nat.{◌-◌}
 use lib.ListN.{length}
 use Rattle.rules.specs.Load.{within}
 use Rattle.tables.specs.Tables.{parts_in}
@@ -7,6 +6,3 @@ use Rattle.load.proofs.limit.within_parts.Given as goal
 
 abbrev pub invariant-loop-j : goal.invariant-loop-j
 invariant-loop-j l = Staying l.section l.h l.n (length (within l.n (parts_in l.h l.section))) l.j
-
-abbrev pub decreases-loop-j : goal.decreases-loop-j
-decreases-loop-j l = l.h - l.j
