@@ -22,12 +22,11 @@ agree_take (suc n) (x ∷ xs) (y ∷ ys) e = rw (agree_take n xs ys (omega arith
 -- the first c bytes from a on, where len bytes lie there
 pub agree_by : (store b : List ℕ) (len used c a e : ℕ) → len ≤ used → used ≤ length store → c ≡ min len (length b)
     → a ≡ used - len → e ≡ a + c
-    → same_bytes (take (e - a) (drop a store)) (take (c - 0) (drop 0 b))
+    → same_bytes (take (e - a) (drop a store)) (take c b)
     ≡ agrees eqb (take len (drop (used - len) store)) b
 agree_by store b len used c a e l u ec ea ee =
     let x = drop (used - len) store in
     let n : length (take len x) ≡ len = length-take-le len x (simp length-drop (omega arith)) in
     let q : c ≡ min (length (take len x)) (length b) = omega arith in
     let k : e - a ≡ c = omega arith in
-    let z : c - 0 ≡ c = omega arith in
-    rw (k, z, ea, ← take-take c len x (omega arith)) (agree_take c (take len x) b q)
+    rw (k, ea, ← take-take c len x (omega arith)) (agree_take c (take len x) b q)

@@ -63,10 +63,11 @@ module _ {budget : ℕ} {c : Counts} {t : PartTables} (r : CountsReady budget c 
 
     module _ (short : length p.bytes ≤ max_frame) where
       -- a frame of its own
-      pub opens_in : new ≡ true → leb (length p.bytes) (budget - c.used) ≡ stores budget stored p
+      pub opens_in : {m : ℕ} → new ≡ true → m ≡ budget - c.used → leb (length p.bytes) m ≡ stores budget stored p
       unfolding stores growth all
-      opens_in o =
+      opens_in o e =
           rw (
+            e,
             leb_left c.used (length p.bytes) budget r.fits,
             le-leb (length p.bytes) max_frame short,
             sym

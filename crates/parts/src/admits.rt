@@ -2,17 +2,15 @@
 ghost use Rattle.std.specs.Prelude.{◌≡◌, ◌&&◌, eqb, leb, ltb};
 ghost use Rattle.rules.specs.Values.{same_kind};
 
-use field::and;
 use rules::{FrameKind, Held};
 use tables::part_records::kind_number;
 
 // Is q, the last part, of this number and kind, with no more than n bytes?
+#[tactic(auto, using(tables::proofs::part_records::Records::same_kind_lemma))]
 pub fn alike(q: Held, number: u32, other: FrameKind, n: usize) -> bool
     ensures { result ≡ (eqb q.number number && (same_kind q.kind other && leb q.len n)) }
 {
-    let kind = q.kind;
-    let same = kind_number(kind) == kind_number(other);
-    and(q.number == number, and(same, q.len as usize <= n))
+    q.number == number && kind_number(q.kind) == kind_number(other) && q.len as usize <= n
 }
 
 // Is the part, for checkpoint number at, passed over by a list that has n?

@@ -12,7 +12,7 @@ ghost use Rattle.parts.specs.Parts.{part_tables, stored_in, piece_in, held, held
 ghost use Rattle.parts.specs.Steps.{CountsReady, Room, joins_in, placed_in, Puts, put_in, Lent, offset_to, wanted, held_piece, added_by};
 
 use crate::admits::{alike, passed_over};
-use field::{and, copy_part, min_u64, or, same};
+use field::{copy_part, same};
 use rules::{FrameKind, Held, MAX_FRAME_BYTES};
 use tables::part_records::{write_header, write_held};
 use tables::{FrameHeader, get_header, read_header, read_held};
@@ -58,17 +58,14 @@ fn last_header(frames: &[u8], f: usize) -> FrameHeader
     requires { f * 8 ≤ length frames.now }
     ensures { result ≡ header_at (headers_in f frames.now) (f - 1) }
 {
-    if f == 0 {
-        return get_header(frames, f, 0);
-    }
-    get_header(frames, f, f - 1)
+    get_header(frames, f, f.saturating_sub(1))
 }
 
 // Does the part open a frame: is it the first of all, or does the last frame start earlier?
 fn opens(h: u32, last: FrameHeader, start: u32) -> bool
     ensures { result ≡ (eqb h 0 || ltb last.start start) }
 {
-    or(h == 0, last.start < start)
+    h == 0 || last.start < start
 }
 
 // Do the len bytes of the store that end at used agree with the bytes over the shorter length?
@@ -76,10 +73,9 @@ fn bytes_agree(store: &[u8], used: usize, len: usize, bytes: &[u8]) -> bool
     requires { (len ≤ used) × (used ≤ length store.now) }
     ensures { result ≡ agrees eqb (take len (drop (used - len) store.now)) bytes.now }
 {
-    let c = min_u64(len as u64, bytes.len() as u64) as usize;
-    let a = used - len;
-    let e = a + c;
-    same(&store[a..e], &bytes[0..c])
+    let shorter = len.min(bytes.len());
+    let at = used - len;
+    same(&store[at..at + shorter], &bytes[..shorter])
 }
 
 // Does the part go into the last frame, whose header is last?
@@ -89,12 +85,10 @@ fn joins(c: Counts, last: FrameHeader, p: Piece, bytes: &[u8], store: &[u8], par
     ensures { result ≡ joins_in c last (last_or no_held (parts_in c.parts parts.now)) store.now
         (piece_in p bytes.now) }
 {
-    let h = c.parts as usize;
-    let q = read_held(parts, h - 1);
-    let agrees = bytes_agree(store, c.used as usize, last.len as usize, bytes);
-    let kind = p.kind;
-    let like = alike(q, p.number, kind, bytes.len());
-    and(last.start == p.start, and(like, agrees))
+    let q = read_held(parts, c.parts as usize - 1);
+    last.start == p.start
+        && alike(q, p.number, p.kind, bytes.len())
+        && bytes_agree(store, c.used as usize, last.len as usize, bytes)
 }
 
 // Is the part stored?
@@ -114,46 +108,36 @@ pub fn stores(
     let n = bytes.len() as u64;
     let free = budget - c.used;
     let last = last_header(frames, c.frames as usize);
-    let new = opens(c.parts, last, p.start);
     if (MAX_FRAME_BYTES as u64) < n {
         return false;
     }
-    if new {
+    if opens(c.parts, last, p.start) {
         return n <= free;
     }
-    if free + (last.len as u64) < n {
-        return false;
-    }
-    joins(c, last, p, bytes, store, parts)
+    n <= free + last.len as u64 && joins(c, last, p, bytes, store, parts)
 }
 
 // ---- the part rule, written
 // A part of n bytes opens a frame behind f others, or goes into the last of them, which has l bytes.
+#[tactic(auto, unfolding(crate::specs::Steps::placed_in))]
 fn place(f: u32, new: bool, l: u32, n: usize) -> Placed
     requires { (f < 4294967295) × (n ≤ max_frame) × (new ≡ false → 1 ≤ f) }
     ensures { result ≡ placed_in f new l n }
 {
     if new {
-        return Placed {
+        Placed {
             frame: f,
             from: 0,
             len: n as u32,
             frames: f + 1,
-        };
-    }
-    if (l as usize) < n {
-        return Placed {
+        }
+    } else {
+        Placed {
             frame: f - 1,
-            from: l as usize,
-            len: n as u32,
+            from: n.min(l as usize),
+            len: l.max(n as u32),
             frames: f,
-        };
-    }
-    Placed {
-        frame: f - 1,
-        from: n,
-        len: l,
-        frames: f,
+        }
     }
 }
 
@@ -179,13 +163,12 @@ fn put_part(
         parts: c.parts + 1,
         used: c.used + more as u64,
     };
-    let kind = p.kind;
     let part = Held {
         at: p.at,
         frame: to.frame,
         len: n as u32,
         number: p.number,
-        kind,
+        kind: p.kind,
         remaining: p.remaining,
     };
     write_header(frames, to.frame as usize, p.start, to.len);
@@ -229,10 +212,9 @@ pub fn source_at(frames: &[u8], f: usize, s: Source, g: u32) -> Source
     if g == s.frame {
         return s;
     }
-    let h = get_header(frames, f, s.frame as usize);
     Source {
         frame: g,
-        offset: s.offset + h.len as u64,
+        offset: s.offset + get_header(frames, f, s.frame as usize).len as u64,
     }
 }
 
@@ -257,19 +239,19 @@ pub fn add_one(
         ≡ added_by budget go c (held_piece p at start (take p.len (drop from other.now)))
         (part_tables frames.old store.old parts.old) }
 {
+    // The flag is part of the promise that coarsen calls by.
     if !go {
         return c;
     }
-    let kind = p.kind;
     let piece = Piece {
         at,
         start,
         number: p.number,
-        kind,
+        kind: p.kind,
         remaining: p.remaining,
     };
-    let e = from + p.len as usize;
-    add_part(budget, c, piece, &other[from..e], frames, store, parts)
+    let bytes = &other[from..from + p.len as usize];
+    add_part(budget, c, piece, bytes, frames, store, parts)
 }
 
 // Of the h parts of another list (theirs, with the frames of headers and their bytes in other) those for checkpoint
@@ -300,8 +282,7 @@ pub fn add_parts(
         frame: 0,
         offset: 0,
     };
-    let mut j: u32 = 0;
-    while j < h {
+    for j in 0..h {
         let p = read_held(theirs, j as usize);
         at = source_at(headers, f as usize, at, p.frame);
         let header = read_header(headers, p.frame as usize);
@@ -318,7 +299,6 @@ pub fn add_parts(
             store,
             parts,
         );
-        j += 1;
     }
     held
 }
@@ -328,12 +308,9 @@ pub fn used_bytes(frames: &[u8], f: u32) -> u64
     requires { f * 8 ≤ length frames.now }
     ensures { (store : List ℕ) → result ≡ used (frames_in f frames.now store) }
 {
-    let mut sum: u64 = 0;
-    let mut i: u32 = 0;
-    while i < f {
-        let h = read_header(frames, i as usize);
-        sum += h.len as u64;
-        i += 1;
+    let mut sum = 0;
+    for i in 0..f {
+        sum += read_header(frames, i as usize).len as u64;
     }
     sum
 }

@@ -9,9 +9,6 @@ use Rattle.parts.proofs.add_one.Goals as goal
 pub returns-then-not-go : goal.returns-then-not-go
 returns-then-not-go c = added_no _ _ _ _ c.if-not-go.true
 
-pub add_part-requires : goal.add_part-requires
-add_part-requires c = c.requires.0 c.if-not-go.false
-
 pub returns : goal.returns
 returns c =
     added_part _ _ _ c.args.p _ _ _ _ _ (to_z-of_z w32 _ ((let got : SFits w32 c.args.p.remaining = search rules in got))) refl c.if-not-go.false

@@ -1,4 +1,3 @@
-use Prim.Native.Nat.{◌-◌}
 use mathlib.Core.Path.{◌≡◌}
 use lib.ListN.{length}
 use Rattle.rules.specs.PartRule.{add_parts}
@@ -14,6 +13,3 @@ invariant-loop-j l = Adding l.budget l.f l.h (part_tables l.headers l.other l.th
     (stored_in l.initial.held.frames l.initial.held.parts (part_tables l.initial.frames l.initial.store l.initial.parts))) l.j l.at l.held
     (part_tables l.frames l.store l.parts)
     × (length l.frames ≡ length l.initial.frames) × (length l.store ≡ length l.initial.store) × (length l.parts ≡ length l.initial.parts)
-
-abbrev pub decreases-loop-j : goal.decreases-loop-j
-decreases-loop-j l = l.h - l.j

@@ -4,5 +4,5 @@ use Rattle.parts.proofs.bytes_agree.Goals as goal
 
 pub returns : goal.returns
 returns c =
-    c.same.ensures ∙ agree_by _ _ _ _ _ _ _ c.requires.0 c.requires.1 c.min_u64-c.ensures refl
+    c.same.ensures ∙ agree_by _ _ _ _ _ _ _ c.requires.0 c.requires.1 c.min-shorter.ensures refl
     refl
