@@ -85,6 +85,7 @@ fn cutoff_near(t: &[u8], n: usize, excess: usize, first: u64) -> Cut
     let mut low = 0;
     let mut high = 4294967297;
     let mut less = 0;
+    // No range counts these turns: each narrows the gaps between low and high.
     while low + 1 < high {
         let mid = probe(low, high, first);
         let m = count_below(t, n, mid);
