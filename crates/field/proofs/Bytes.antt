@@ -1,14 +1,14 @@
 -- Laws of lists of bytes: stretches, stores, copies and equality. Assumes nothing.
-use mathlib.Core.Path.{◌≡◌, refl, sym, subst, ◌∙◌}
+use mathlib.Core.Path.{◌≡◌, refl, sym, subst}
 use mathlib.Core.Bool.{Bool, true, false, ◌&&◌}
-use mathlib.Core.List.{List, [], ◌∷◌, ◌++◌, append-nil}
-use Prim.Native.Nat.{ℕ, zero, suc, ◌+◌, ◌-◌, ◌<◌, ◌≤◌}
+use mathlib.Core.List.{List, [], ◌∷◌, ◌++◌}
+use Prim.Native.Nat.{ℕ, zero, suc, ◌+◌, ◌<◌}
 use native.Mathlib.Nat.{add-zero, zero-add}
 use native.Mathlib.Numerals.{add-one}
 use native.Mathlib.Omega.{arith}
 use borrow.Author.Tests.{eqb-true, eq-eqb}
 use lib.Dec.{T, eqb}
-use lib.ListN.{length, take, drop, get_or, set, replicate, length-replicate, replicate-append-replicate, length-take, length-drop, take-append-drop, drop_of_length-le}
+use lib.ListN.{length, take, drop, get_or, set}
 use lib.Seq.{sets, get_or-drop, take-suc, drop-cons, append_snoc, set_at, length-take-le, drop-drop, take-add, take-nil}
 use Rattle.field.specs.Number.{same_bytes}
 use Rattle.field.specs.Records.{Bytes}
@@ -77,51 +77,8 @@ same_true (x ∷ a) (y ∷ b) e =
     let h = and_true (eqb x y) (same_bytes a b) e in
     rw (eqb-true x y h.0, same_true a b h.1)
 
-never_true : (p : Bool) → (p ≡ true → ⊥) → p ≡ false
-never_true true h = absurd (h refl)
-never_true false h = refl
-
-pub same_false : (a b : List ℕ) → (a ≡ b → ⊥) → same_bytes a b ≡ false
-same_false a b h = never_true (same_bytes a b) (λ e. h (same_true a b e))
-
--- what both begin with says nothing
-pub same_append : (p a b : List ℕ) → same_bytes (p ++ a) (p ++ b) ≡ same_bytes a b
-unfolding same_bytes
-same_append [] a b = refl
-same_append (x ∷ p) a b = rw (eq-eqb x x refl) (same_append p a b)
-
--- the first of a stretch
-pub first_of : (a : List ℕ) (i : ℕ) → get_or (drop i a) 0 0 ≡ get_or a i 0
-first_of a i = get_or-drop i a 0 0 ∙ rw add-zero
-
-pub take_one : (a : List ℕ) (i : ℕ) → i < length a → take 1 (drop i a) ≡ get_or a i 0 ∷ []
-take_one a i h = rw (drop-cons a i 0 h)
-
--- a turn of a comparison: w more bytes are the same
-pub same_more : (w : ℕ) (a b : List ℕ) (i : ℕ) → take w (drop i a) ≡ take w (drop i b) → same_bytes (drop i a) (drop i b) ≡ same_bytes (drop (i + w) a) (drop (i + w) b)
-same_more w a b i e =
-    rw (← drop-drop w i a, ← drop-drop w i b, ← same_append (take w (drop i a)) (drop w (drop i a)) (drop w (drop i b)), take-append-drop w (drop i a), e, take-append-drop w (drop i b))
-
 -- ---- copies
 -- a turn of a copy: the store takes the copy of i bytes to the copy of one more
 pub copied_more : (d s : List ℕ) (i : ℕ) → i < length d → i < length s → set (take i s ++ drop i d) i (get_or s i 0) ≡ take (i + 1) s ++ drop (i + 1) d
 copied_more d s i hd hs =
     rw (add-one, take-suc s i 0 hs, append_snoc, drop-cons d i 0 hd) (set_at (take i s) (get_or d i 0) (drop (suc i) d) (get_or s i 0) i (length-take-le i s (omega arith)))
-
--- a copy of a part whole
-pub copied_part : (d s y : List ℕ) (at to a e k : ℕ) → at + k ≤ length d → a + k ≤ length s → to ≡ at + k → e ≡ a + k
-    → y ≡ take (e - a) (drop a s) ++ drop (length (take (e - a) (drop a s))) (take (to - at) (drop at d))
-    → take at d ++ (y ++ drop (to - at) (drop at d)) ≡ take at d ++ (take k (drop a s) ++ drop (at + k) d)
-copied_part d s y at to a e k h g q r c =
-    let u : e - a ≡ k = omega arith in
-    let v : to - at ≡ k = omega arith in
-    let l : k ≤ length (drop a s) = simp length-drop (omega arith) in
-    let none : drop (length (take k (drop a s))) (take k (drop at d)) ≡ [] =
-    drop_of_length-le (take k (drop at d)) {i = length (take k (drop a s))} (simp (length-take, length-drop) (omega arith)) in
-    let w : y ≡ take k (drop a s) = (rw (u, v, none, append-nil) at c) in
-    rw (w, v, drop-drop)
-
--- a turn of clearing
-pub cleared_more : (d : List ℕ) (i : ℕ) → i < length d → set (replicate i 0 ++ drop i d) i 0 ≡ replicate (i + 1) 0 ++ drop (i + 1) d
-cleared_more d i h =
-    rw (drop-cons d i 0 h, set_at (replicate i 0) (get_or d i 0) (drop (suc i) d) 0 i (length-replicate i 0), ← replicate-append-replicate {A = ℕ} i 1 0, append_snoc, add-one)

@@ -12,7 +12,7 @@ use lib.ListN.{length, take, drop, get_or, length-drop, get_or-append}
 use lib.Seq.{sets, sets-eq, length-sets, drop-drop, length-take-le, get_or-take}
 use Rattle.field.specs.Number.{encode, decode, number_at, put}
 use Rattle.field.specs.Records.{Bytes}
-use Rattle.field.proofs.Bytes.{bytes_take, bytes_drop, sets_more}
+use Rattle.field.proofs.Bytes.{bytes_take, bytes_drop}
 
 -- ---- encode and decode
 pub encode_length : (w v : ℕ) → length (encode w v) ≡ w
@@ -137,15 +137,3 @@ put_split w t at v h = rw (encode_length w v) at (sets-eq (encode w v) t at (rw 
 pub put_sets : (w : ℕ) (t : List ℕ) (at v : ℕ) → put w t at v ≡ sets t at (encode w v)
 unfolding put
 put_sets w t at v = refl
-
--- a number written in two parts
-pub put_join : (w n : ℕ) (t : List ℕ) (at v : ℕ) → put n (put w t at (v % 256 ^ w)) (at + w) (v / 256 ^ w) ≡ put (w + n) t at v
-unfolding put
-put_join w n t at v =
-    rw (encode_low w v, encode_add w n v)
-    (rw (encode_length w v) at (sets_more (encode w v) (encode n (v / 256 ^ w)) t at))
-
--- the same number is in the same bytes
-pub stretch_same : (w : ℕ) (s t : List ℕ) (i j : ℕ) → Bytes s → Bytes t → i + w ≤ length s → j + w ≤ length t
-    → number_at w s i ≡ number_at w t j → take w (drop i s) ≡ take w (drop j t)
-stretch_same w s t i j a b h g e = sym (encode_number w s i a h) ∙ ap (encode w) e ∙ encode_number w t j b g

@@ -1,5 +1,8 @@
-use Rattle.field.proofs.Number.{put_join}
+use mathlib.Core.Path.{◌∙◌}
+use native.Mathlib.Omega.{arith}
+use Rattle.field.proofs.Native.{part_put}
 use Rattle.field.proofs.write_u64.Goals as goal
 
 pub returns : goal.returns
-returns c = rw (← put_join 4 4) (cc)
+returns c =
+    part_put 8 _ _ _ _ _ _ c.requires (c.copy_from_slice.ensures.after ∙ c.to_le_bytes.ensures ∙ grind arith) (omega arith) (omega arith)
