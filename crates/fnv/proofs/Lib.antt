@@ -1,4 +1,3 @@
 -- The laws of the hash, and what the proofs of the functions use.
-pub mod Product
 pub mod Hash
 mod Vectors
