@@ -1,10 +1,7 @@
-use Prim.Native.Nat.{◌-◌}
-use lib.ListN.{length}
-use Rattle.summing.proofs.Summing.{Copying}
+use Rattle.std.proofs.Common.{◌≡◌, ◌++◌, take, drop}
+use Rattle.fnv.specs.Fnv.{fnv_from, prime64}
 use Rattle.summing.proofs.copy_summed.Given as goal
 
 abbrev pub invariant-loop-i : goal.invariant-loop-i
-invariant-loop-i l = Copying l.src l.initial.dst l.sum l.dst l.x l.i
-
-abbrev pub decreases-loop-i : goal.decreases-loop-i
-decreases-loop-i l = length l.src - l.i
+invariant-loop-i l =
+    (l.dst ≡ take l.i l.src ++ drop l.i l.initial.dst) × (l.x ≡ fnv_from 64 prime64 l.sum (take l.i l.src))

@@ -1,5 +1,6 @@
-use Rattle.summing.proofs.Summing.{eight}
+use native.Mathlib.Omega.{arith}
+use Rattle.field.proofs.Native.{low_bytes}
 use Rattle.summing.proofs.sum_u64.Goals as goal
 
 pub returns : goal.returns
-returns c = eight _ _ _ _ c.sum_u32-a.ensures c.sum_u32.ensures
+returns c = rw (← low_bytes) (grind arith)
