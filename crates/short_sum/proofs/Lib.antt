@@ -1,4 +1,3 @@
--- The facts, the evaluated examples, and what the proofs of the functions use.
+-- The facts, and the evaluated examples.
 pub mod Facts
 mod Examples
-mod Folding
