@@ -7,10 +7,10 @@ use native.Mathlib.Numerals.{add-one}
 use native.Mathlib.Omega.{arith}
 use lib.ListN.{length, get_or, take, drop, set}
 use lib.Seq.{sets, sets-eq, take-suc, take-length, length-take-le, drop-length}
-use mathlib.Core.Bool.{Bool, true, false}
+use mathlib.Core.Bool.{true}
 use lib.Dec.{leb}
-use borrow.Author.Tests.{le-leb, lt-leb, leb-true}
-use Rattle.field.specs.Number.{encode, decode, number_at, put, same_bytes}
+use borrow.Author.Tests.{leb-true}
+use Rattle.field.specs.Number.{encode, decode, number_at, put}
 use Rattle.field.specs.Records.{bytes_of}
 use Rattle.field.proofs.Bytes.{copied_more, sets_more}
 use Rattle.field.proofs.Number.{put_sets, length_put}
@@ -82,15 +82,6 @@ put_all {b} {ws} {out} {i} p h =
 
 -- ---- is a block a head?
 module _ (again : List ℕ → List ℕ) (b : List ℕ) where
-  pub no_block : length b < 192 → false ≡ is_head again b
-  unfolding is_head
-  no_block h = rw (lt-leb 192 (length b) h)
-
-  -- its words ws, and vs, what is read from them written again
-  pub some_block : (r : Bool) (ws vs : List ℕ) → 192 ≤ length b → r ≡ same_bytes ws vs → ws ≡ words_in 24 b → vs ≡ again ws → r ≡ is_head again b
-  unfolding is_head
-  some_block r ws vs h e w g = rw (le-leb 192 (length b) h, e, g, w)
-
   -- a head has 192 bytes
   pub head_long : is_head again b ≡ true → 192 ≤ length b
   unfolding is_head

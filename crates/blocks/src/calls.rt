@@ -8,6 +8,7 @@ use crate::read_words;
 use rules::{Area, AreaIndex, AreaKey, HintRecorder, Recorder, Saved};
 
 // ---- from blocks
+#[tactic(auto, unfolding(crate::specs::Calls::head_index))]
 pub fn index_in(head: &[u8]) -> AreaIndex
     requires { 192 ≤ length head.now }
     ensures { result ≡ head_index head.now }
@@ -15,6 +16,7 @@ pub fn index_in(head: &[u8]) -> AreaIndex
     index_from(read_words(head))
 }
 
+#[tactic(auto, unfolding(crate::specs::Calls::head_recorder))]
 pub fn recorder_in(head: &[u8]) -> Recorder
     requires { 192 ≤ length head.now }
     ensures { result ≡ head_recorder head.now }
@@ -22,6 +24,7 @@ pub fn recorder_in(head: &[u8]) -> Recorder
     recorder_from(read_words(head))
 }
 
+#[tactic(auto, unfolding(crate::specs::Calls::head_hint_recorder))]
 pub fn hint_recorder_in(head: &[u8]) -> HintRecorder
     requires { 192 ≤ length head.now }
     ensures { result ≡ head_hint_recorder head.now }
@@ -30,6 +33,7 @@ pub fn hint_recorder_in(head: &[u8]) -> HintRecorder
 }
 
 // An area's seven numbers.
+#[tactic(auto, unfolding(crate::specs::Blocks::area_read))]
 pub fn area_from(
     slot: u8,
     channels: u8,
@@ -52,27 +56,29 @@ pub fn area_from(
 }
 
 // ---- answers
+#[tactic(auto, unfolding(rules::specs::File::bit))]
 pub fn bit_word(b: bool) -> u64
     ensures { result ≡ bit b }
 {
-    if b { 1 } else { 0 }
+    u64::from(b)
 }
 
 // One word, and words of 0.
 pub fn one_word(v: u64) -> [u64; 24]
     ensures { result ≡ one_word v }
 {
-    [
-        v, 0, 0, 0, 0, 0, 0, 0, 0, 0, 0, 0, 0, 0, 0, 0, 0, 0, 0, 0, 0, 0, 0, 0,
-    ]
+    let mut words = [0; 24];
+    words[0] = v;
+    words
 }
 
 // The length, or the refusal number.
+#[tactic(auto, unfolding(crate::specs::Calls::saved_number))]
 pub fn saved_number(saved: Saved) -> u64
     ensures { result ≡ saved_number saved }
 {
     match saved {
-        Saved::Refused(n) => n as u64,
+        Saved::Refused(n) => u64::from(n),
         Saved::Length(n) => n,
     }
 }

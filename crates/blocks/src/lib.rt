@@ -6,7 +6,7 @@ pub mod read;
 
 ghost use Rattle.std.specs.Prelude.{◌≡◌, ◌≤◌, ◌<◌, ◌*◌, length};
 ghost use Rattle.rules.specs.File.{over};
-ghost use Rattle.blocks.specs.Blocks.{words_in, block_of, index_array, recorder_array, index_words, recorder_words, hint_recorder_array, hint_recorder_words, seen_words, end_words, fingerprint_words, image_words, last_words, tail_words, mode_words, absence_number, first_told};
+ghost use Rattle.blocks.specs.Blocks.{words_in, block_of, marked, index_array, recorder_array, index_words, recorder_words, hint_recorder_array, hint_recorder_words, seen_words, end_words, fingerprint_words, image_words, last_words, tail_words, mode_words, absence_number, first_told};
 
 use field::{read_u64, write_u64};
 use rules::{
@@ -25,10 +25,8 @@ pub fn read_words(head: &[u8]) -> [u64; 24]
     ensures { result ≡ words_in 24 head.now }
 {
     let mut words = [0u64; 24];
-    let mut i = 0;
-    while i < 24 {
+    for i in 0..24 {
         words[i] = read_u64(head, i * 8);
-        i += 1;
     }
     words
 }
@@ -37,10 +35,8 @@ pub fn write_words(head: &mut [u8], words: [u64; 24])
     requires { 192 ≤ length head.old }
     ensures { head.new ≡ over (block_of words) head.old }
 {
-    let mut i = 0;
-    while i < 24 {
+    for i in 0..24 {
         write_u64(head, i * 8, words[i]);
-        i += 1;
     }
 }
 
@@ -53,131 +49,92 @@ pub struct Marked {
     pub second: u64,
 }
 
+impl Marked {
+    fn new(mark: u64, first: u64, second: u64) -> Marked
+        ensures { result ≡ marked mark first second }
+    {
+        Marked {
+            mark,
+            first,
+            second,
+        }
+    }
+}
+
+#[tactic(auto, unfolding(crate::specs::Blocks::end_words))]
 fn end_words(e: End) -> Marked
     ensures { result ≡ end_words e }
 {
     match e {
-        End::Open => Marked {
-            mark: 0,
-            first: 0,
-            second: 0,
-        },
-        End::Closed(s) => Marked {
-            mark: 1,
-            first: s.threshold as u64,
-            second: s.malformed,
-        },
+        End::Open => Marked::new(0, 0, 0),
+        End::Closed(s) => Marked::new(1, s.threshold as u64, s.malformed),
     }
 }
 
+#[tactic(auto, unfolding(crate::specs::Blocks::fingerprint_words))]
 fn fingerprint_words(f: Fingerprint) -> Marked
     ensures { result ≡ fingerprint_words f }
 {
     match f {
-        Fingerprint::Unknown => Marked {
-            mark: 0,
-            first: 0,
-            second: 0,
-        },
-        Fingerprint::Held(v) => Marked {
-            mark: 1,
-            first: v,
-            second: 0,
-        },
-        Fingerprint::Checked(v) => Marked {
-            mark: 2,
-            first: v,
-            second: 0,
-        },
+        Fingerprint::Unknown => Marked::new(0, 0, 0),
+        Fingerprint::Held(v) => Marked::new(1, v, 0),
+        Fingerprint::Checked(v) => Marked::new(2, v, 0),
     }
 }
 
+#[tactic(auto, unfolding(crate::specs::Blocks::image_words))]
 fn image_words(i: ImageId) -> Marked
     ensures { result ≡ image_words i }
 {
     match i {
-        ImageId::Anonymous => Marked {
-            mark: 0,
-            first: 0,
-            second: 0,
-        },
-        ImageId::Id(v) => Marked {
-            mark: 1,
-            first: v,
-            second: 0,
-        },
+        ImageId::Anonymous => Marked::new(0, 0, 0),
+        ImageId::Id(v) => Marked::new(1, v, 0),
     }
 }
 
+#[tactic(auto, unfolding(crate::specs::Blocks::mode_words))]
 fn mode_words(m: Mode) -> Marked
     ensures { result ≡ mode_words m }
 {
     match m {
-        Mode::Running => Marked {
-            mark: 0,
-            first: 0,
-            second: 0,
-        },
-        Mode::Finished(s) => Marked {
-            mark: 1,
-            first: s.threshold as u64,
-            second: s.malformed,
-        },
-        Mode::Stopped => Marked {
-            mark: 2,
-            first: 0,
-            second: 0,
-        },
+        Mode::Running => Marked::new(0, 0, 0),
+        Mode::Finished(s) => Marked::new(1, s.threshold as u64, s.malformed),
+        Mode::Stopped => Marked::new(2, 0, 0),
     }
 }
 
+#[tactic(auto, unfolding(crate::specs::Blocks::last_words))]
 fn last_words(l: LastListed) -> Marked
     ensures { result ≡ last_words l }
 {
     match l {
-        LastListed::Never => Marked {
-            mark: 0,
-            first: 0,
-            second: 0,
-        },
-        LastListed::Number(t) => Marked {
-            mark: 1,
-            first: t as u64,
-            second: 0,
-        },
+        LastListed::Never => Marked::new(0, 0, 0),
+        LastListed::Number(t) => Marked::new(1, t as u64, 0),
     }
 }
 
+#[tactic(auto, unfolding(crate::specs::Blocks::tail_words))]
 fn tail_words(t: Tail) -> Marked
     ensures { result ≡ tail_words t }
 {
     match t {
-        Tail::Empty => Marked {
-            mark: 0,
-            first: 0,
-            second: 0,
-        },
-        Tail::Hint(h) => Marked {
-            mark: 1,
-            first: h.lsn as u64,
-            second: h.number as u64,
-        },
+        Tail::Empty => Marked::new(0, 0, 0),
+        Tail::Hint(h) => Marked::new(1, h.lsn as u64, h.number as u64),
     }
 }
 
 fn index_array(x: AreaIndex, e: Marked, f: Marked, i: Marked) -> [u64; 24]
     ensures { result ≡ index_array x e f i }
 {
-    let area = x.area;
-    let key = area.key;
+    let key = x.area.key;
     [
         key.slot as u64,
         key.channels as u64,
         key.start as u64,
         key.end as u64,
         key.sectors,
-        area.start,
-        area.end,
+        x.area.start,
+        x.area.end,
         x.interval as u64,
         x.budget,
         x.spacing as u64,
@@ -198,31 +155,30 @@ fn index_array(x: AreaIndex, e: Marked, f: Marked, i: Marked) -> [u64; 24]
     ]
 }
 
+#[tactic(auto, unfolding(crate::specs::Blocks::index_words))]
 pub fn index_words(x: AreaIndex) -> [u64; 24]
     ensures { result ≡ index_words x }
 {
-    let ending = x.ending;
-    let fingerprint = x.fingerprint;
-    let image = x.image;
-    let e = end_words(ending);
-    let f = fingerprint_words(fingerprint);
-    let i = image_words(image);
-    index_array(x, e, f, i)
+    index_array(
+        x,
+        end_words(x.ending),
+        fingerprint_words(x.fingerprint),
+        image_words(x.image),
+    )
 }
 
 fn recorder_array(x: Recorder, m: Marked) -> [u64; 24]
     ensures { result ≡ recorder_array x m }
 {
-    let area = x.area;
-    let key = area.key;
+    let key = x.area.key;
     [
         key.slot as u64,
         key.channels as u64,
         key.start as u64,
         key.end as u64,
         key.sectors,
-        area.start,
-        area.end,
+        x.area.start,
+        x.area.end,
         x.interval as u64,
         x.budget,
         x.first as u64,
@@ -243,12 +199,11 @@ fn recorder_array(x: Recorder, m: Marked) -> [u64; 24]
     ]
 }
 
+#[tactic(auto, unfolding(crate::specs::Blocks::recorder_words))]
 pub fn recorder_words(x: Recorder) -> [u64; 24]
     ensures { result ≡ recorder_words x }
 {
-    let mode = x.mode;
-    let m = mode_words(mode);
-    recorder_array(x, m)
+    recorder_array(x, mode_words(x.mode))
 }
 
 // The words that tell a first record: whether there is one, its frame number, its offset, and why there is none.
@@ -260,6 +215,7 @@ pub struct Told {
     pub why: u64,
 }
 
+#[tactic(auto, unfolding(crate::specs::Blocks::absence_number))]
 fn absence_number(a: Absence) -> u64
     ensures { result ≡ absence_number a }
 {
@@ -269,6 +225,7 @@ fn absence_number(a: Absence) -> u64
     }
 }
 
+#[tactic(auto, unfolding(crate::specs::Blocks::first_told))]
 pub fn first_told(f: First) -> Told
     ensures { result ≡ first_told f }
 {
@@ -288,13 +245,12 @@ pub fn first_told(f: First) -> Told
     }
 }
 
+#[tactic(auto, unfolding(crate::specs::Blocks::hint_recorder_array))]
 fn hint_recorder_array(x: HintRecorder, f: Told) -> [u64; 24]
     ensures { result ≡ hint_recorder_array x f }
 {
-    let last = x.last;
-    let tail = x.tail;
-    let l = last_words(last);
-    let t = tail_words(tail);
+    let l = last_words(x.last);
+    let t = tail_words(x.tail);
     [
         x.spacing as u64,
         l.mark,
@@ -323,6 +279,7 @@ fn hint_recorder_array(x: HintRecorder, f: Told) -> [u64; 24]
     ]
 }
 
+#[tactic(auto, unfolding(crate::specs::Blocks::hint_recorder_words))]
 pub fn hint_recorder_words(x: HintRecorder) -> [u64; 24]
     ensures { result ≡ hint_recorder_words x }
 {
@@ -336,9 +293,9 @@ pub fn hint_recorder_words(x: HintRecorder) -> [u64; 24]
 }
 
 // A hint recorder, and the first record of the sector that it has seen.
+#[tactic(auto, unfolding(crate::specs::Blocks::seen_words))]
 pub fn seen_words(x: HintRecorder, first: First) -> [u64; 24]
     ensures { result ≡ seen_words x first }
 {
-    let f = first_told(first);
-    hint_recorder_array(x, f)
+    hint_recorder_array(x, first_told(first))
 }

@@ -1,7 +1,6 @@
 // The numbers of an index, a recorder and a hint recorder, read from the 24 words of a head; and whether a block is a head.
 ghost use Rattle.std.specs.Prelude.{◌≡◌};
-ghost use Rattle.blocks.specs.Blocks.{end_read, fingerprint_read, image_read, mode_read, last_read, tail_read, area_read, index_read, recorder_read, hint_recorder_read, with_free, is_index, is_recorder, is_hint_recorder};
-ghost use Rattle.field.specs.Number.{same_bytes};
+ghost use Rattle.blocks.specs.Blocks.{low8, low32, end_read, fingerprint_read, image_read, mode_read, last_read, tail_read, area_read, index_read, recorder_read, hint_recorder_read, with_free, is_index, is_recorder, is_hint_recorder};
 
 use crate::{HEAD_BYTES, hint_recorder_words, index_words, read_words, recorder_words};
 use rules::{
@@ -10,88 +9,103 @@ use rules::{
 };
 
 // ---- what may be unknown; what a field is too narrow for is cut off
+fn low8(v: u64) -> u8
+    ensures { result ≡ low8 v }
+{
+    (v % 256) as u8
+}
+
+fn low32(v: u64) -> u32
+    ensures { result ≡ low32 v }
+{
+    (v % 4294967296) as u32
+}
+
 // A flag of 0 is unknown, anything else known.
+#[tactic(auto, unfolding(crate::specs::Blocks::end_read))]
 fn end_from(known: u64, threshold: u64, malformed: u64) -> End
     ensures { result ≡ end_read known threshold malformed }
 {
-    if known == 0 {
-        return End::Open;
+    match known {
+        0 => End::Open,
+        _ => End::Closed(EndState {
+            threshold: low32(threshold),
+            malformed,
+        }),
     }
-    End::Closed(EndState {
-        threshold: (threshold % 4294967296) as u32,
-        malformed,
-    })
 }
 
 // 0 unknown, 1 held, anything else checked.
+#[tactic(auto, unfolding(crate::specs::Blocks::fingerprint_read))]
 fn fingerprint_from(mark: u64, value: u64) -> Fingerprint
     ensures { result ≡ fingerprint_read mark value }
 {
-    if mark == 0 {
-        return Fingerprint::Unknown;
+    match mark {
+        0 => Fingerprint::Unknown,
+        1 => Fingerprint::Held(value),
+        _ => Fingerprint::Checked(value),
     }
-    if mark == 1 {
-        return Fingerprint::Held(value);
-    }
-    Fingerprint::Checked(value)
 }
 
+#[tactic(auto, unfolding(crate::specs::Blocks::image_read))]
 fn image_from(known: u64, value: u64) -> ImageId
     ensures { result ≡ image_read known value }
 {
-    if known == 0 {
-        return ImageId::Anonymous;
+    match known {
+        0 => ImageId::Anonymous,
+        _ => ImageId::Id(value),
     }
-    ImageId::Id(value)
 }
 
 // 0 running, 1 finished, anything else stopped.
+#[tactic(auto, unfolding(crate::specs::Blocks::mode_read))]
 fn mode_from(mark: u64, threshold: u64, malformed: u64) -> Mode
     ensures { result ≡ mode_read mark threshold malformed }
 {
-    if mark == 0 {
-        return Mode::Running;
-    }
-    if mark == 1 {
-        return Mode::Finished(EndState {
-            threshold: (threshold % 4294967296) as u32,
+    match mark {
+        0 => Mode::Running,
+        1 => Mode::Finished(EndState {
+            threshold: low32(threshold),
             malformed,
-        });
+        }),
+        _ => Mode::Stopped,
     }
-    Mode::Stopped
 }
 
+#[tactic(auto, unfolding(crate::specs::Blocks::last_read))]
 fn last_from(known: u64, number: u64) -> LastListed
     ensures { result ≡ last_read known number }
 {
-    if known == 0 {
-        return LastListed::Never;
+    match known {
+        0 => LastListed::Never,
+        _ => LastListed::Number(low32(number)),
     }
-    LastListed::Number((number % 4294967296) as u32)
 }
 
+#[tactic(auto, unfolding(crate::specs::Blocks::tail_read))]
 fn tail_from(known: u64, lsn: u64, number: u64) -> Tail
     ensures { result ≡ tail_read known lsn number }
 {
-    if known == 0 {
-        return Tail::Empty;
+    match known {
+        0 => Tail::Empty,
+        _ => Tail::Hint(Hint {
+            lsn: low32(lsn),
+            number: low32(number),
+            mark: 0,
+        }),
     }
-    Tail::Hint(Hint {
-        lsn: (lsn % 4294967296) as u32,
-        number: (number % 4294967296) as u32,
-        mark: 0,
-    })
 }
 
 // ---- heads
+#[tactic(auto, unfolding(crate::specs::Blocks::area_read))]
 fn area_from(w: [u64; 24]) -> Area
     ensures { result ≡ area_read w }
 {
     let key = AreaKey {
-        slot: (w[0] % 256) as u8,
-        start: (w[2] % 4294967296) as u32,
-        end: (w[3] % 4294967296) as u32,
-        channels: (w[1] % 256) as u8,
+        slot: low8(w[0]),
+        start: low32(w[2]),
+        end: low32(w[3]),
+        channels: low8(w[1]),
         sectors: w[4],
     };
     Area {
@@ -101,68 +115,59 @@ fn area_from(w: [u64; 24]) -> Area
     }
 }
 
+#[tactic(auto, unfolding(crate::specs::Blocks::index_read))]
 pub fn index_from(w: [u64; 24]) -> AreaIndex
     ensures { result ≡ index_read w }
 {
     AreaIndex {
         area: area_from(w),
-        interval: (w[7] % 4294967296) as u32,
+        interval: low32(w[7]),
         budget: w[8],
-        spacing: (w[9] % 4294967296) as u32,
-        most: (w[10] % 4294967296) as u32,
-        checkpoints: (w[11] % 4294967296) as u32,
-        frames: (w[12] % 4294967296) as u32,
-        parts: (w[13] % 4294967296) as u32,
-        malformed: (w[14] % 4294967296) as u32,
-        hints: (w[15] % 4294967296) as u32,
-        confirmed: (w[16] % 4294967296) as u32,
+        spacing: low32(w[9]),
+        most: low32(w[10]),
+        checkpoints: low32(w[11]),
+        frames: low32(w[12]),
+        parts: low32(w[13]),
+        malformed: low32(w[14]),
+        hints: low32(w[15]),
+        confirmed: low32(w[16]),
         ending: end_from(w[17], w[18], w[19]),
         fingerprint: fingerprint_from(w[20], w[21]),
         image: image_from(w[22], w[23]),
     }
 }
 
+#[tactic(auto, unfolding(crate::specs::Blocks::recorder_read))]
 pub fn recorder_from(w: [u64; 24]) -> Recorder
     ensures { result ≡ recorder_read w }
 {
     Recorder {
         area: area_from(w),
-        interval: (w[7] % 4294967296) as u32,
+        interval: low32(w[7]),
         budget: w[8],
-        first: (w[9] % 4294967296) as u32,
+        first: low32(w[9]),
         from: w[10],
-        checkpoints: (w[11] % 4294967296) as u32,
-        frames: (w[12] % 4294967296) as u32,
-        parts: (w[13] % 4294967296) as u32,
+        checkpoints: low32(w[11]),
+        frames: low32(w[12]),
+        parts: low32(w[13]),
         mode: mode_from(w[14], w[15], w[16]),
     }
 }
 
+#[tactic(auto, unfolding(crate::specs::Blocks::hint_recorder_read))]
 pub fn hint_recorder_from(w: [u64; 24]) -> HintRecorder
     ensures { result ≡ hint_recorder_read w }
 {
     HintRecorder {
-        spacing: (w[0] % 4294967296) as u32,
+        spacing: low32(w[0]),
         last: last_from(w[1], w[2]),
         tail: tail_from(w[3], w[4], w[5]),
-        count: (w[6] % 4294967296) as u32,
+        count: low32(w[6]),
     }
 }
 
 // ---- is a block a head? What is read from it, written again, is its words.
-fn same_words(a: [u64; 24], b: [u64; 24]) -> bool
-    ensures { result ≡ same_bytes a b }
-{
-    let mut i = 0;
-    while i < 24 {
-        if a[i] != b[i] {
-            return false;
-        }
-        i += 1;
-    }
-    true
-}
-
+#[tactic(auto, using(field::proofs::Native::pointwise_same), unfolding(crate::specs::Blocks::is_index, crate::specs::Blocks::is_head))]
 pub fn is_index(head: &[u8]) -> bool
     ensures { result ≡ is_index head.now }
 {
@@ -170,9 +175,10 @@ pub fn is_index(head: &[u8]) -> bool
         return false;
     }
     let words = read_words(head);
-    same_words(words, index_words(index_from(words)))
+    words == index_words(index_from(words))
 }
 
+#[tactic(auto, using(field::proofs::Native::pointwise_same), unfolding(crate::specs::Blocks::is_recorder, crate::specs::Blocks::is_head))]
 pub fn is_recorder(head: &[u8]) -> bool
     ensures { result ≡ is_recorder head.now }
 {
@@ -180,21 +186,20 @@ pub fn is_recorder(head: &[u8]) -> bool
         return false;
     }
     let words = read_words(head);
-    same_words(words, recorder_words(recorder_from(words)))
+    words == recorder_words(recorder_from(words))
 }
 
 // Words 7 to 10 of a hint recorder are free: they are taken as they are.
+#[tactic(auto, unfolding(crate::specs::Blocks::with_free))]
 fn with_free(words: [u64; 24], again: [u64; 24]) -> [u64; 24]
     ensures { result ≡ with_free words again }
 {
     let mut r = again;
-    r[7] = words[7];
-    r[8] = words[8];
-    r[9] = words[9];
-    r[10] = words[10];
+    r[7..11].copy_from_slice(&words[7..11]);
     r
 }
 
+#[tactic(auto, using(field::proofs::Native::pointwise_same), unfolding(crate::specs::Blocks::is_hint_recorder, crate::specs::Blocks::is_head))]
 pub fn is_hint_recorder(head: &[u8]) -> bool
     ensures { result ≡ is_hint_recorder head.now }
 {
@@ -203,5 +208,5 @@ pub fn is_hint_recorder(head: &[u8]) -> bool
     }
     let words = read_words(head);
     let again = hint_recorder_words(hint_recorder_from(words));
-    same_words(words, with_free(words, again))
+    words == with_free(words, again)
 }
