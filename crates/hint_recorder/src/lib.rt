@@ -46,23 +46,34 @@ fn list_or_keep(r: HintRecorder, h: Hint, list: &mut [u8]) -> HintRecorder
     }
 }
 
-// The first record of a sector seen: listed, or the tail.
-fn see_first(r: HintRecorder, lsn: u64, first: First, list: &mut [u8]) -> HintRecorder
-    requires { Roomy r list.old }
-    ensures { Steps result (seen_record (hint_recorder_in r list.old) lsn first) list.old list.new }
-{
-    let First::Number(t) = first else {
-        return r;
-    };
-    if MAX_U32 < lsn {
-        return r;
+// A hint recorder in its step: a struct of this crate, for the form `else { return self; }` (docs/DECISIONS.md).
+#[derive(Clone, Copy)]
+struct Step {
+    recorder: HintRecorder,
+}
+
+impl Step {
+    // The first record of a sector seen: listed, or the tail.
+    fn seen(self, lsn: u64, first: First, list: &mut [u8]) -> Step
+        requires { Roomy self.recorder list.old }
+        ensures { Steps result.recorder (seen_record (hint_recorder_in self.recorder list.old) lsn first)
+            list.old list.new }
+    {
+        let First::Number(t) = first else {
+            return self;
+        };
+        if MAX_U32 < lsn {
+            return self;
+        }
+        let h = Hint {
+            lsn: lsn as u32,
+            number: t.number,
+            mark: 0,
+        };
+        Step {
+            recorder: list_or_keep(self.recorder, h, list),
+        }
     }
-    let h = Hint {
-        lsn: lsn as u32,
-        number: t.number,
-        mark: 0,
-    };
-    list_or_keep(r, h, list)
 }
 
 // A sector seen at an LSN: its first record is told, also where it is passed over.
@@ -74,7 +85,8 @@ pub fn see(r: HintRecorder, lsn: u64, sector: &[u8], list: &mut [u8]) -> Saw
         return Saw::Refused(number);
     }
     let first = first_record(sector);
-    let recorder = see_first(r, lsn, first, list);
+    let step = Step { recorder: r };
+    let recorder = step.seen(lsn, first, list).recorder;
     Saw::Sector(SeenSector { first, recorder })
 }
 

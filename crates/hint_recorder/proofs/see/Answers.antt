@@ -6,10 +6,10 @@ returns-then-number-ne0 c =
     see_no c.args.r c.args.list.now c.refuses-number.ensures c.args.lsn c.args.sector.now
     c.if-number-ne0.true
 
-pub see_first-recorder-requires : goal.see_first-recorder-requires
-see_first-recorder-requires c = roomy_is c.args.r c.args.list.now c.refuses-number.ensures c.if-number-ne0.false
+pub seen-requires : goal.seen-requires
+seen-requires c = roomy_is c.args.r c.args.list.now c.refuses-number.ensures c.if-number-ne0.false
 
 pub returns : goal.returns
 returns c =
     see_yes c.args.r c.args.list.now c.refuses-number.ensures c.if-number-ne0.false c.args.lsn c.args.sector.now
-    c.first_record-first.ensures c.see_first-recorder.ensures
+    c.first_record-first.ensures c.seen.ensures
