@@ -1,6 +1,5 @@
 // A file, read whole into a lent buffer.
-ghost use Rattle.std.specs.Prelude.{◌+◌, ◌≤◌, ◌≡◌, length};
-ghost use Rattle.coverage.specs.Input.{read};
+ghost use Rattle.std.specs.Prelude.{◌≤◌, ◌≡◌, length};
 
 use std::fs::File;
 use std::io::Read;
@@ -12,27 +11,10 @@ pub struct Content {
     pub n: usize,
 }
 
-#[derive(Clone, Copy)]
-enum Step {
-    Failed,
-    Bytes(usize),
-}
-
 fn failed() -> Content
     ensures { result.n ≡ 0 }
 {
     Content { whole: false, n: 0 }
-}
-
-// One read, behind the first n bytes.
-fn read_some(source: &mut File, file: &mut [u8], n: usize) -> Step
-    requires { n ≤ length file.old }
-    ensures { n + read result ≤ length file.old }
-{
-    match source.read(&mut file[n..]) {
-        Ok(got) => Step::Bytes(got),
-        Err(_) => Step::Failed,
-    }
 }
 
 fn read_whole(source: &mut File, file: &mut [u8]) -> Content
@@ -40,16 +22,10 @@ fn read_whole(source: &mut File, file: &mut [u8]) -> Content
 {
     let mut n = 0;
     while n < file.len() {
-        match read_some(source, file, n) {
-            Step::Failed => {
-                return failed();
-            }
-            Step::Bytes(k) => {
-                if k == 0 {
-                    return Content { whole: true, n };
-                }
-                n += k;
-            }
+        match source.read(&mut file[n..]) {
+            Ok(0) => break,
+            Ok(got) => n += got,
+            Err(_) => return failed(),
         }
     }
     Content { whole: true, n }

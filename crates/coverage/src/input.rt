@@ -23,13 +23,6 @@ pub fn start() -> Reading {
     }
 }
 
-// a, or b where that is less.
-pub fn least(a: usize, b: usize) -> usize
-    ensures { (result ≤ a) × (result ≤ b) }
-{
-    if a < b { a } else { b }
-}
-
 // The next chunk, where this one is used up; a read that fails ends the input.
 fn fill(rt: &HostRuntime, chunk: &mut [u8], r: Reading) -> Reading {
     if r.at < r.n {
@@ -39,9 +32,8 @@ fn fill(rt: &HostRuntime, chunk: &mut [u8], r: Reading) -> Reading {
     Reading {
         at: 0,
         n,
-        len: r.len,
-        whole: r.whole,
         over: n == 0,
+        ..r
     }
 }
 
@@ -57,34 +49,32 @@ fn keep(line: &mut [u8], n: usize, b: u8) -> usize
 {
     if n < line.len() {
         line[n] = b;
-        return n + 1;
+        n + 1
+    } else {
+        n
     }
-    n
 }
 
 // The chunk's bytes up to a newline, behind what the line has.
 fn gather(chunk: &[u8], line: &mut [u8], r: Reading) -> Reading
     ensures { result.len ≤ length line.new }
 {
-    let n = least(r.n, chunk.len());
-    let mut len = least(begun(r), line.len());
-    let mut i = least(r.at, n);
-    while i < n {
-        let b = chunk[i];
-        i += 1;
-        if b == 10 {
+    let n = r.n.min(chunk.len());
+    let mut len = begun(r).min(line.len());
+    for i in r.at..n {
+        if chunk[i] == b'\n' {
             return Reading {
-                at: i,
+                at: i + 1,
                 n,
                 len,
                 whole: true,
                 over: false,
             };
         }
-        len = keep(line, len, b);
+        len = keep(line, len, chunk[i]);
     }
     Reading {
-        at: i,
+        at: n,
         n,
         len,
         whole: false,
@@ -96,14 +86,11 @@ fn gather(chunk: &[u8], line: &mut [u8], r: Reading) -> Reading
 pub fn next(rt: &HostRuntime, chunk: &mut [u8], line: &mut [u8], r: Reading) -> Reading
     ensures { result.len ≤ length line.new }
 {
-    let q = fill(rt, chunk, r);
-    gather(chunk, line, q)
+    let filled = fill(rt, chunk, r);
+    gather(chunk, line, filled)
 }
 
 // Is a line there: one that ends, or the last, without its newline?
 pub fn has_line(r: Reading) -> bool {
-    if r.whole {
-        return true;
-    }
-    if r.over { 0 < r.len } else { false }
+    r.whole || r.over && 0 < r.len
 }

@@ -5,14 +5,10 @@ mod file;
 mod input;
 mod sheets;
 
-fn file_room() -> [u8; 65537] {
-    [0; 65537]
-}
-
 fn main(rt: HostRuntime) {
     let mut chunk = [0u8; 65536];
     let mut line = [0u8; 278];
-    let mut file = file_room();
+    let mut file = [0u8; 65537];
     let mut out = [0u8; 512];
     let mut table = [0u32; 4000];
     sheets::sheet(&rt, &mut chunk, &mut line, &mut file, &mut out, &mut table);

@@ -5,7 +5,6 @@ ghost use Rattle.coverage.specs.Sheets.{RowOfLine, Answered, Rows};
 
 use crate::file::read_file;
 use crate::input::{Reading, has_line, next, start};
-use field::and;
 use sheet::line::{Parsed, parse};
 use sheet::row::{RowAnswer, line_row};
 use sheet::text::{line_text, total_text};
@@ -28,9 +27,8 @@ fn row_of_line(rt: &HostRuntime, line: &[u8], file: &mut [u8]) -> RowAnswer
     match parse(line) {
         Parsed::Broken => line_row(line, false, line),
         Parsed::Line(k, _, _) => {
-            let content = read_file(rt, &line[0..k], file);
-            let n = content.n;
-            line_row(line, content.whole, &file[0..n])
+            let content = read_file(rt, &line[..k], file);
+            line_row(line, content.whole, &file[..content.n])
         }
     }
 }
@@ -49,7 +47,7 @@ fn answer_line(
     let row = row_of_line(rt, line, file);
     put_row(table, count, row);
     let n = line_text(out, line, row);
-    rt.stdout().write_all(&out[0..n]).is_ok()
+    rt.stdout().write_all(&out[..n]).is_ok()
 }
 
 // A chunk's share of the input: no line, or one.
@@ -75,8 +73,7 @@ fn turn(
             written: true,
         };
     }
-    let len = read.len;
-    let written = answer_line(rt, &line[0..len], file, out, table, count);
+    let written = answer_line(rt, &line[..read.len], file, out, table, count);
     State {
         read,
         count: count + 1,
@@ -87,7 +84,7 @@ fn turn(
 
 // May there be a further row: the input is not over, and the last could be written?
 fn goes_on(s: State) -> bool {
-    and(s.more, s.written)
+    s.more && s.written
 }
 
 // Every row; a write that fails ends it.
@@ -107,13 +104,8 @@ fn rows(
         more: true,
         written: true,
     };
-    let mut turns = u64::MAX;
-    while turns > 0 {
-        turns -= 1;
-        if 1000 <= s.count {
-            return s;
-        }
-        if !goes_on(s) {
+    for _ in 0..u64::MAX {
+        if 1000 <= s.count || !goes_on(s) {
             return s;
         }
         s = turn(rt, chunk, line, file, out, table, s);
@@ -132,6 +124,6 @@ pub fn sheet(
     let s = rows(rt, chunk, line, file, out, table);
     if s.written {
         let n = total_text(out, table, s.count);
-        let _ = rt.stdout().write_all(&out[0..n]);
+        let _ = rt.stdout().write_all(&out[..n]);
     }
 }
