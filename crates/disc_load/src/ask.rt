@@ -57,7 +57,7 @@ fn ask_body(
         SlotEntry::At(e) => {
             let from = e.offset as usize;
             let to = from + e.len as usize;
-            let said = load::decide(
+            match load::decide(
                 area,
                 &bytes[from..to],
                 limit,
@@ -68,8 +68,7 @@ fn ask_body(
                 malformed,
                 hints,
                 confirmed,
-            );
-            match said {
+            ) {
                 Said::Refused(n) => Asked::Refused(n),
                 Said::Ready(found, y) => Asked::Passed(Body::At(e, found, y)),
             }
@@ -184,8 +183,7 @@ pub fn decide(
     if !areas_ok(area0, area1) {
         return Decided::Refused(1);
     }
-    let contents = read_contents(bytes);
-    match contents {
+    match read_contents(bytes) {
         Contents::Broken => Decided::Refused(54),
         Contents::Lists(first, second) => decide_bodies(
             first,

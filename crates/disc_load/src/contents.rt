@@ -27,18 +27,20 @@ fn place_in_one(slot: u32, e: Entry) -> SlotEntry
     ensures { result ≡ place_from (entry_of slot (e ∷ [])) }
 {
     if e.slot == slot {
-        return SlotEntry::At(e);
+        SlotEntry::At(e)
+    } else {
+        SlotEntry::Absent
     }
-    SlotEntry::Absent
 }
 
 fn place_in_two(slot: u32, e: Entry, f: Entry) -> SlotEntry
     ensures { result ≡ place_from (entry_of slot (e ∷ f ∷ [])) }
 {
     if e.slot == slot {
-        return SlotEntry::At(e);
+        SlotEntry::At(e)
+    } else {
+        place_in_one(slot, f)
     }
-    place_in_one(slot, f)
 }
 
 fn one(e: Entry, size: u64) -> Contents
@@ -60,6 +62,7 @@ fn two(e: Entry, f: Entry, size: u64) -> Contents
 }
 
 // The contents table at the start of a file.
+#[tactic(auto, using(crate::proofs::contents::Reading::too_short, crate::proofs::contents::Reading::other_count, crate::proofs::contents::Reading::two_short, crate::proofs::contents::Reading::of_one, crate::proofs::contents::Reading::of_two))]
 pub fn read_contents(bytes: &[u8]) -> Contents
     ensures { result ≡ contents_in bytes.now }
 {
@@ -67,17 +70,11 @@ pub fn read_contents(bytes: &[u8]) -> Contents
     if len < 16 {
         return Contents::Broken;
     }
-    let n = read_u32(bytes, 0);
-    if n == 1 {
-        return one(read_entry(bytes, 4), len as u64);
+    match read_u32(bytes, 0) {
+        1 => one(read_entry(bytes, 4), len as u64),
+        2 if 28 <= len => two(read_entry(bytes, 4), read_entry(bytes, 16), len as u64),
+        _ => Contents::Broken,
     }
-    if n != 2 {
-        return Contents::Broken;
-    }
-    if len < 28 {
-        return Contents::Broken;
-    }
-    two(read_entry(bytes, 4), read_entry(bytes, 16), len as u64)
 }
 
 // ---- writing

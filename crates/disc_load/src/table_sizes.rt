@@ -57,8 +57,7 @@ pub fn disc_sizes(area0: Area, area1: Area, bytes: &[u8], limit: u64) -> DiscSiz
     if !areas_ok(area0, area1) {
         return DiscSized::Refused(1);
     }
-    let contents = read_contents(bytes);
-    match contents {
+    match read_contents(bytes) {
         Contents::Broken => DiscSized::Refused(54),
         Contents::Lists(first, second) => {
             let x = body_sizes(first, area0, bytes, limit);

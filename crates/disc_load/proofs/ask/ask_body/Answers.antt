@@ -9,7 +9,7 @@ pub returns-in-Absent : goal.returns-in-Absent
 returns-in-Absent c = absent c.args.area c.args.bytes.now _ _ c.in-Absent.is
 
 pub returns-in-Refused : goal.returns-in-Refused
-returns-in-Refused c = present_refused c.args.area c.args.bytes.now _ _ c.in-At.is refl c.decide-said.ensures c.in-Refused.is
+returns-in-Refused c = present_refused c.args.area c.args.bytes.now _ _ c.in-At.is refl c.decide.ensures c.in-Refused.is
 
 pub returns-in-Ready : goal.returns-in-Ready
-returns-in-Ready c = present_ready c.args.area c.args.bytes.now _ _ c.in-At.is refl c.decide-said.ensures c.in-Ready.is c.requires
+returns-in-Ready c = present_ready c.args.area c.args.bytes.now _ _ c.in-At.is refl c.decide.ensures c.in-Ready.is c.requires
