@@ -9,9 +9,7 @@ use rules_disc::Entry;
 pub fn slot_of(x: AreaIndex) -> u8
     ensures { result ≡ x.area.key.slot }
 {
-    let area = x.area;
-    let key = area.key;
-    key.slot
+    x.area.key.slot
 }
 
 // Two lists stand by slot: does the first given stand first?

@@ -58,13 +58,15 @@ fn two_length(slot: u8, m: u64, next: u8, n: u64) -> u64
 }
 
 // Two lists, whichever is given first.
+#[tactic(auto, unfolding(crate::specs::Steps::length_by_slot))]
 fn length_by_slot(slot: u8, m: u64, next: u8, n: u64) -> u64
     ensures { result ≡ length_by_slot slot m next n }
 {
     if slot < next {
-        return two_length(slot, m, next, n);
+        two_length(slot, m, next, n)
+    } else {
+        two_length(next, n, slot, m)
     }
-    two_length(next, n, slot, m)
 }
 
 // 1 to 4 of both, 54, then the length.

@@ -177,10 +177,9 @@ fn write_table(out: &mut [u8], slot: u8, m: u64, next: u8, n: u64) -> usize
         offset: 28,
         len: m as u32,
     };
-    let at = 28 + m;
     let second = Entry {
         slot: next as u32,
-        offset: at as u32,
+        offset: (28 + m) as u32,
         len: n as u32,
     };
     write_two(out, first, second)
@@ -360,7 +359,7 @@ fn write_by_slot(
         out.old }
 {
     if stands_first(x, y) {
-        return write_lists(
+        write_lists(
             x,
             y,
             checkpoints,
@@ -378,27 +377,28 @@ fn write_by_slot(
             other_hints,
             other_confirmed,
             out,
-        );
+        )
+    } else {
+        write_lists(
+            y,
+            x,
+            other_checkpoints,
+            other_frames,
+            other_store,
+            other_parts,
+            other_malformed,
+            other_hints,
+            other_confirmed,
+            checkpoints,
+            frames,
+            store,
+            parts,
+            malformed,
+            hints,
+            confirmed,
+            out,
+        )
     }
-    write_lists(
-        y,
-        x,
-        other_checkpoints,
-        other_frames,
-        other_store,
-        other_parts,
-        other_malformed,
-        other_hints,
-        other_confirmed,
-        checkpoints,
-        frames,
-        store,
-        parts,
-        malformed,
-        hints,
-        confirmed,
-        out,
-    )
 }
 
 // The disc file of two lists, whichever is given first: 1 to 4 of both, 54, 40. What lies past the length stays.

@@ -10,8 +10,8 @@ write_lists-requires c = c.requires
 pub returns-then-stands_first : goal.returns-then-stands_first
 returns-then-stands_first c = first_by_slot (index_in c.args.x ((tables c.args.checkpoints.now c.args.frames.now c.args.store.now c.args.parts.now c.args.malformed.now c.args.hints.now c.args.confirmed.now))) (index_in c.args.y ((tables c.args.other_checkpoints.now c.args.other_frames.now c.args.other_store.now c.args.other_parts.now c.args.other_malformed.now c.args.other_hints.now c.args.other_confirmed.now))) c.args.out.now refl refl (ltb-true _ _ (sym c.stands_first.ensures ∙ c.if-stands_first.true)) c.write_lists.ensures
 
-pub write_lists-requires-2 : goal.write_lists-requires-2
-write_lists-requires-2 c = (c.requires.1, c.requires.0)
+pub write_lists-requires-else-stands_first : goal.write_lists-requires-else-stands_first
+write_lists-requires-else-stands_first c = (c.requires.1, c.requires.0)
 
-pub returns : goal.returns
-returns c = second_by_slot (index_in c.args.x ((tables c.args.checkpoints.now c.args.frames.now c.args.store.now c.args.parts.now c.args.malformed.now c.args.hints.now c.args.confirmed.now))) (index_in c.args.y ((tables c.args.other_checkpoints.now c.args.other_frames.now c.args.other_store.now c.args.other_parts.now c.args.other_malformed.now c.args.other_hints.now c.args.other_confirmed.now))) c.args.out.now refl refl (ltb-false _ _ (sym c.stands_first.ensures ∙ c.if-stands_first.false)) c.write_lists-2.ensures
+pub returns-else-stands_first : goal.returns-else-stands_first
+returns-else-stands_first c = second_by_slot (index_in c.args.x ((tables c.args.checkpoints.now c.args.frames.now c.args.store.now c.args.parts.now c.args.malformed.now c.args.hints.now c.args.confirmed.now))) (index_in c.args.y ((tables c.args.other_checkpoints.now c.args.other_frames.now c.args.other_store.now c.args.other_parts.now c.args.other_malformed.now c.args.other_hints.now c.args.other_confirmed.now))) c.args.out.now refl refl (ltb-false _ _ (sym c.stands_first.ensures ∙ c.if-stands_first.false)) c.write_lists-else-stands_first.ensures
