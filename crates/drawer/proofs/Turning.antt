@@ -238,17 +238,19 @@ module _ {a : Area} {x0 : AreaIndex} {t0 : Tables} {s : Asked} {b : List ℕ} {l
         subst (λ (es : List Entry). Turned x0 t0 (lists_at a b limit s) x t (map (list_at a b limit) es))
         (entry_at s i k.set.held.few k.set.held.room l) k.turned
 
-    pub at_turn : Turning a x t entry b limit u
-    at_turn =
-        record { holds = holds; kinds = k.turned.kinds; merges = merges x0 t0 (lists_at a b limit s) next (room_of u) savable holds.ready.room }
+    -- with the entry of number j, which is i
+    pub at_turn : {j : ℕ} → j ≡ i → Turning a x t (get_or s.entries j no_file) b limit u
+    at_turn q =
+        rw q
+        (record { holds = holds; kinds = k.turned.kinds; merges = merges x0 t0 (lists_at a b limit s) next (room_of u) savable holds.ready.room })
 
-    pub at_next : {x' : AreaIndex} {t' u' : Tables} → out_index x' t' ≡ turn_in x t (list_at a b limit entry) → Kept t t' → Kept u u'
+    pub at_next : {x' : AreaIndex} {t' u' : Tables} {j : ℕ} → j ≡ i → out_index x' t' ≡ turn_in x t (list_at a b limit (get_or s.entries j no_file)) → Kept t t' → Kept u u'
         → At a x0 t0 s b limit u0 x' t' u' (i + 1)
-    at_next e o w =
+    at_next q e o w =
         record {
           set = k.set;
           bytes = k.bytes;
-          turned = turned_on x0 t0 (lists_at a b limit s) next savable e (kept_room o);
+          turned = turned_on x0 t0 (lists_at a b limit s) next savable (rw q at e) (kept_room o);
           own = kept_on k.own o;
           work = kept_on k.work w;
         }

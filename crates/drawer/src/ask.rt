@@ -4,7 +4,7 @@ ghost use Rattle.tables.specs.Index.{tables};
 ghost use Rattle.rules_drawer.specs.Drawer.{lengths_in};
 ghost use Rattle.drawer.specs.Ask.{blank, unasked, refused_by, size_ok, FileAsked, Few, FilesAsked, checkpoints_at, Joinable, join_each, join_pairs, numbered, SetAsked};
 
-use field::{and, read_u64};
+use field::read_u64;
 use index::refuses;
 use inspect::Found;
 use load::{Decided, decide};
@@ -100,10 +100,11 @@ fn unasked_files() -> Asked
 fn refused(asked: Asked, number: u32) -> Asked
     ensures { result ≡ refused_by asked number }
 {
-    let mut r = asked;
-    r.ok = false;
-    r.number = number;
-    r
+    Asked {
+        ok: false,
+        number,
+        ..asked
+    }
 }
 
 // The answer with the number of the first failing pair, 0 for none.
@@ -111,16 +112,18 @@ fn with_pairs(asked: Asked, number: u32) -> Asked
     ensures { result ≡ numbered asked number }
 {
     if number != 0 {
-        return refused(asked, number);
+        refused(asked, number)
+    } else {
+        asked
     }
-    asked
 }
 
 // ---- 44
+#[tactic(auto, unfolding(crate::specs::Ask::size_ok))]
 fn question44(count: usize) -> bool
     ensures { result ≡ size_ok count }
 {
-    and(1 <= count, count <= MAX_FILES)
+    1 <= count && count <= MAX_FILES
 }
 
 // ---- the files
@@ -150,10 +153,9 @@ fn ask_file(
         return File::Refused(20);
     }
     let n = len as usize;
-    let to = from + n;
-    let said = decide(
+    match decide(
         area,
-        &files[from..to],
+        &files[from..from + n],
         limit,
         checkpoints,
         frames,
@@ -162,8 +164,7 @@ fn ask_file(
         malformed,
         hints,
         confirmed,
-    );
-    match said {
+    ) {
         Decided::Refused(n) => File::Refused(n),
         Decided::Ready(found, index) => File::Loads(Entry {
             from,
@@ -197,8 +198,7 @@ fn ask_files(
     let count = lengths.len() / 8;
     let mut asked = unasked_files();
     let mut from = 0;
-    let mut i = 0;
-    while i < count {
+    for i in 0..count {
         let len = read_u64(lengths, i * 8);
         let said = ask_file(
             area,
@@ -215,15 +215,12 @@ fn ask_files(
             confirmed,
         );
         match said {
-            File::Refused(n) => {
-                return refused(asked, n);
-            }
+            File::Refused(n) => return refused(asked, n),
             File::Loads(e) => {
                 asked.entries[i] = e;
                 from += e.len;
             }
         }
-        i += 1;
     }
     asked.count = count;
     asked
@@ -243,16 +240,12 @@ fn join_each(x: AreaIndex, checkpoints: &[u8], asked: Asked, files: &[u8], first
     requires { (x.checkpoints * 24 ≤ length checkpoints.now) × Joinable files.now asked }
     ensures { result ≡ join_each x checkpoints.now asked files.now first }
 {
-    let count = asked.count;
-    let mut k = first;
-    while k < count {
+    for k in first..asked.count {
         let e = asked.entries[k];
-        let y = e.index;
-        let number = join_number(x, y, checkpoints, checkpoints_of(files, e));
+        let number = join_number(x, e.index, checkpoints, checkpoints_of(files, e));
         if number != 0 {
             return number;
         }
-        k += 1;
     }
     0
 }
@@ -266,16 +259,12 @@ fn join_pairs(x: AreaIndex, checkpoints: &[u8], asked: Asked, files: &[u8]) -> u
     if number != 0 {
         return number;
     }
-    let count = asked.count;
-    let mut i = 0;
-    while i < count {
+    for i in 0..asked.count {
         let e = asked.entries[i];
-        let y = e.index;
-        let number = join_each(y, checkpoints_of(files, e), asked, files, i + 1);
+        let number = join_each(e.index, checkpoints_of(files, e), asked, files, i + 1);
         if number != 0 {
             return number;
         }
-        i += 1;
     }
     0
 }
@@ -327,9 +316,8 @@ pub fn ask(
     if !question44(lengths.len() / 8) {
         return refused(unasked_files(), 44);
     }
-    let area = x.area;
     let asked = ask_files(
-        area,
+        x.area,
         lengths,
         files,
         limit,

@@ -20,7 +20,7 @@ fn numbers_after(x: AreaIndex, made: Made) -> AreaIndex
     ensures { result ≡ numbers_after x made }
 {
     match made {
-        Made::Refused(n) => x,
+        Made::Refused(_) => x,
         Made::Index(y) => y,
     }
 }
@@ -61,15 +61,12 @@ fn turn(
         malformed.old hints.old confirmed.old)
         (list_at area files.now limit e) }
 {
-    let from = e.from;
-    let to = from + e.len;
-    let found = e.found;
-    let y = e.index;
+    let to = e.from + e.len;
     commit(
         area,
-        found,
-        y,
-        &files[from..to],
+        e.found,
+        e.index,
+        &files[e.from..to],
         limit,
         work_checkpoints,
         work_frames,
@@ -81,7 +78,7 @@ fn turn(
     );
     let made = merge(
         x,
-        y,
+        e.index,
         checkpoints,
         frames,
         store,
@@ -140,16 +137,12 @@ fn turns(
     if !asked.ok {
         return Made::Refused(asked.number);
     }
-    let area = x.area;
-    let count = asked.count;
     let mut y = x;
-    let mut i = 0;
-    while i < count {
-        let e = asked.entries[i];
+    for i in 0..asked.count {
         y = turn(
-            area,
+            x.area,
             y,
-            e,
+            asked.entries[i],
             files,
             limit,
             checkpoints,
@@ -167,7 +160,6 @@ fn turns(
             work_hints,
             work_confirmed,
         );
-        i += 1;
     }
     Made::Index(y)
 }

@@ -9,24 +9,12 @@ returns-then-not-asked c = turns_refused _ _ _ _ c.if-not-asked.true
 pub loop-i-init : goal.loop-i-init
 loop-i-init c = at_start (c.requires c.if-not-asked.false) ((let got : Bytes c.args.files.now = λ i. (c.type_inv.files i).fits in got))
 
-pub offset_bounds-asked-i : goal.offset_bounds-asked-i
-offset_bounds-asked-i c = omega (arith, c.loop-i-test.true, c.loop-i.invariant.set.held.few)
-
-pub bounds-asked-i : goal.bounds-asked-i
-bounds-asked-i c = omega (arith, c.loop-i-test.true, c.loop-i.invariant.set.held.few)
-
 pub turn-y-requires : goal.turn-y-requires
-turn-y-requires c = at_turn c.loop-i.invariant c.loop-i-test.true
-
-pub overflow_add-i : goal.overflow_add-i
-overflow_add-i c = omega (arith, c.loop-i-test.true, c.loop-i.invariant.set.held.few)
-
-pub loop-i-smaller : goal.loop-i-smaller
-loop-i-smaller c = omega (arith, c.loop-i-test.true)
+turn-y-requires c = at_turn c.loop-i.invariant c.loop-i-test.true (omega arith)
 
 pub loop-i-preserved : goal.loop-i-preserved
 loop-i-preserved c =
-    at_next c.loop-i.invariant c.loop-i-test.true
+    at_next c.loop-i.invariant c.loop-i-test.true (omega arith)
     c.turn-y.ensures
     (record {
       checkpoints = c.checkpoints-1.given;

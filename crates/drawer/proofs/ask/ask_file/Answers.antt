@@ -6,7 +6,7 @@ pub returns-then-left-len : goal.returns-then-left-len
 returns-then-left-len c = goes_past _ _ _ _ _ _ c.if-left-len.true
 
 pub returns-in-Refused : goal.returns-in-Refused
-returns-in-Refused c = file_refused _ _ _ _ _ _ c.if-left-len.false refl c.decide-said.ensures c.in-Refused.is
+returns-in-Refused c = file_refused _ _ _ _ _ _ c.if-left-len.false refl c.decide.ensures c.in-Refused.is
 
 pub returns-in-Ready : goal.returns-in-Ready
-returns-in-Ready c = file_loads _ _ _ _ _ _ c.if-left-len.false refl c.decide-said.ensures c.requires c.in-Ready.is
+returns-in-Ready c = file_loads _ _ _ _ _ _ c.if-left-len.false refl c.decide.ensures c.requires c.in-Ready.is

@@ -1,13 +1,6 @@
 use mathlib.Core.Path.{◌∙◌}
-use native.Mathlib.Omega.{arith}
 use Rattle.drawer.proofs.Pairing.{list_stops, list_on, list_ends}
 use Rattle.drawer.proofs.ask.join_each.Goals as goal
-
-pub offset_bounds-asked-k : goal.offset_bounds-asked-k
-offset_bounds-asked-k c = omega (arith, c.loop-k-test.true, c.requires.1.few)
-
-pub bounds-asked-k : goal.bounds-asked-k
-bounds-asked-k c = omega (arith, c.loop-k-test.true, c.requires.1.few)
 
 pub checkpoints_of-requires : goal.checkpoints_of-requires
 checkpoints_of-requires c = (c.requires.1.each _ c.loop-k-test.true).0
@@ -19,12 +12,6 @@ pub returns-then-number-ne0 : goal.returns-then-number-ne0
 returns-then-number-ne0 c =
     list_stops _ _ c.requires.1 _ _ c.loop-k-test.true
     (rw c.checkpoints_of.ensures at c.join_number-number.ensures) c.if-number-ne0.true ∙ c.loop-k.invariant
-
-pub overflow_add-k : goal.overflow_add-k
-overflow_add-k c = omega (arith, c.loop-k-test.true, c.requires.1.few)
-
-pub loop-k-smaller : goal.loop-k-smaller
-loop-k-smaller c = omega (arith, c.loop-k-test.true)
 
 pub loop-k-preserved : goal.loop-k-preserved
 loop-k-preserved c =

@@ -1,4 +1,3 @@
-use Prim.Native.Nat.{◌-◌}
 use mathlib.Core.Path.{◌≡◌}
 use lib.ListN.{drop}
 use Rattle.drawer.specs.Ask.{entries_in, join_list}
@@ -6,6 +5,3 @@ use Rattle.drawer.proofs.ask.join_each.Given as goal
 
 abbrev pub invariant-loop-k : goal.invariant-loop-k
 invariant-loop-k l = join_list l.x l.checkpoints (drop l.k (entries_in l.asked)) l.files ≡ join_list l.x l.checkpoints (drop l.first (entries_in l.asked)) l.files
-
-abbrev pub decreases-loop-k : goal.decreases-loop-k
-decreases-loop-k l = l.count - l.k

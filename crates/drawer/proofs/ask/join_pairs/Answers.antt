@@ -1,5 +1,4 @@
 use mathlib.Core.Path.{◌∙◌}
-use native.Mathlib.Omega.{arith}
 use Rattle.drawer.proofs.Pairing.{own_stops, own_on, pairs_stop, pairs_on, pairs_end}
 use Rattle.drawer.proofs.ask.join_pairs.Goals as goal
 
@@ -11,17 +10,8 @@ returns-then-number-ne0 c =
     own_stops c.args.x c.args.checkpoints.now c.args.files.now c.args.asked
     c.join_each-number.ensures c.if-number-ne0.true
 
-pub offset_bounds-asked-i : goal.offset_bounds-asked-i
-offset_bounds-asked-i c = omega (arith, c.loop-i-test.true, c.requires.1.few)
-
-pub bounds-asked-i : goal.bounds-asked-i
-bounds-asked-i c = omega (arith, c.loop-i-test.true, c.requires.1.few)
-
 pub checkpoints_of-requires : goal.checkpoints_of-requires
 checkpoints_of-requires c = (c.requires.1.each _ c.loop-i-test.true).0
-
-pub overflow_add-i : goal.overflow_add-i
-overflow_add-i c = omega (arith, c.loop-i-test.true, c.requires.1.few)
 
 pub join_each-number-requires-in-loop-i : goal.join_each-number-requires-in-loop-i
 join_each-number-requires-in-loop-i c = (rw c.checkpoints_of.ensures (c.requires.1.each _ c.loop-i-test.true).1, c.requires.1)
@@ -32,12 +22,6 @@ returns-then-number-ne0-2 c =
     (rw c.checkpoints_of.ensures at c.join_each-number-in-loop-i.ensures) c.if-number-ne0-2.true ∙ c.loop-i.invariant
     ∙ own_on c.args.x c.args.checkpoints.now c.args.files.now c.args.asked
     c.join_each-number.ensures c.if-number-ne0.false
-
-pub overflow_add-i-in-loop-i : goal.overflow_add-i-in-loop-i
-overflow_add-i-in-loop-i c = omega (arith, c.loop-i-test.true, c.requires.1.few)
-
-pub loop-i-smaller : goal.loop-i-smaller
-loop-i-smaller c = omega (arith, c.loop-i-test.true)
 
 pub loop-i-preserved : goal.loop-i-preserved
 loop-i-preserved c =

@@ -1,4 +1,3 @@
-use Prim.Native.Nat.{◌-◌}
 use mathlib.Core.Path.{◌≡◌}
 use lib.ListN.{drop}
 use Rattle.drawer.specs.Ask.{entries_in, join_lists}
@@ -6,6 +5,3 @@ use Rattle.drawer.proofs.ask.join_pairs.Given as goal
 
 abbrev pub invariant-loop-i : goal.invariant-loop-i
 invariant-loop-i l = join_lists (drop l.i (entries_in l.asked)) l.files ≡ join_lists (entries_in l.asked) l.files
-
-abbrev pub decreases-loop-i : goal.decreases-loop-i
-decreases-loop-i l = l.count - l.i

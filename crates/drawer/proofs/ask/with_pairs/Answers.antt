@@ -6,6 +6,6 @@ pub returns-then-number-ne0 : goal.returns-then-number-ne0
 unfolding numbered
 returns-then-number-ne0 c = rw (ne_eqb _ 0 c.if-number-ne0.true) c.refused.ensures
 
-pub returns : goal.returns
+pub returns-else-number-ne0 : goal.returns-else-number-ne0
 unfolding numbered
-returns c = rw (eq-eqb _ 0 c.if-number-ne0.false)
+returns-else-number-ne0 c = rw (eq-eqb _ 0 c.if-number-ne0.false)
