@@ -3,7 +3,7 @@ use mathlib.Core.Path.{◌≡◌, refl, sym, ◌∙◌}
 use mathlib.Core.Bool.{Bool, true, false, cond, not}
 use mathlib.Core.List.{List, [], ◌∷◌}
 use Prim.Native.Nat.{ℕ, ◌-◌, ◌*◌, ◌/◌, ◌<◌, ◌≤◌}
-use native.Mathlib.Nat.{mul-le-mul_right, mul_comm, one-mul, zero-mul}
+use native.Mathlib.Nat.{zero-mul}
 use native.Mathlib.Omega.{arith}
 use borrow.Author.Tests.{eq-eqb, ne_eqb, eqb-true, eqb-false, leb-true}
 use lib.Dec.{eqb}
@@ -15,7 +15,7 @@ use Rattle.rules.specs.Tests.{last_or, ask, first_no}
 use Rattle.rules.specs.Values.{Index, no_checkpoint, checkpoint_at, last_checkpoint}
 use Rattle.rules.specs.Questions.{area_ok, numbers_ok, question1, question2, question3, question4}
 use Rattle.rules.specs.File.{decode_checkpoint}
-use Rattle.rules.proofs.Tests.{test, order, all→, and_left}
+use Rattle.rules.proofs.Tests.{test, all→, and_left}
 use Rattle.rules_coarsen.specs.Coarse.{every_nth, question47, question48, coarser_scan, coarser, coarse_fits, coarse_number}
 use Rattle.tables.specs.Tables.{checkpoints_in}
 use Rattle.tables.specs.Index.{Tables, room_of, index_in, kinds_in, refusal, room_in}
@@ -30,12 +30,6 @@ use Rattle.coarsen.proofs.FortyEight.{wider→, forty_eight}
 
 -- ---- how many are kept
 module _ (n r : ℕ) (pos : 1 ≤ r) where
-  pub kept_fewer : kept_of n r ≤ n
-  kept_fewer =
-      order n (kept_of n r)
-      (λ l. let x = up→ n r n pos l in let y : 1 * n ≤ r * n = mul-le-mul_right n pos in let z : ⊥ = omega (arith, mul_comm r n, one-mul n) in absurd z)
-      (λ l. omega arith) (λ e. omega arith)
-
   pub last_within : 1 ≤ kept_of n r → (kept_of n r - 1) * r < n
   last_within l = up→ n r (kept_of n r - 1) pos (omega arith)
 

@@ -7,7 +7,6 @@ ghost use Rattle.tables.specs.Index.{tables};
 ghost use Rattle.coarsen.specs.Coarsen.{coarse_refusal};
 ghost use Rattle.coarsen.specs.Steps.{is_multiple, kept_of, Keeps, counted_in, last_below, Widens, fits_in, numbers_at};
 
-use field::{and, min_u64};
 use index::{question3, refuses};
 use rules::{AreaIndex, Checkpoint, MAX_INTERVAL, MAX_MALFORMED_WARNINGS};
 use rules_coarsen::last_place;
@@ -15,11 +14,12 @@ use sections::{counted, frontier_of};
 use tables::{get_checkpoint, read_lsn};
 
 // 47: is k 1..65,536, and a multiple of the old interval?
+#[tactic(auto, unfolding(crate::specs::Steps::is_multiple, rules::specs::Tests::all))]
 fn question47(k: u32, interval: u32) -> bool
     requires { 1 ≤ interval }
     ensures { result ≡ is_multiple k interval }
 {
-    and(1 <= k, and(k <= MAX_INTERVAL, k % interval == 0))
+    1 <= k && k <= MAX_INTERVAL && k % interval == 0
 }
 
 // How many every r-th of n are.
@@ -27,7 +27,7 @@ pub fn kept(n: u32, r: u32) -> u32
     requires { 1 ≤ r }
     ensures { result ≡ kept_of n r }
 {
-    ((n as u64 + r as u64 - 1) / r as u64) as u32
+    n.div_ceil(r)
 }
 
 // The last of every r-th of n checkpoints, m of them; zeros where there is none.
@@ -46,8 +46,7 @@ pub fn count_of(x: AreaIndex, r: u32, m: u32, checkpoints: &[u8]) -> u64
     requires { Keeps x.checkpoints m r checkpoints.now }
     ensures { result ≡ counted_in x r checkpoints.now }
 {
-    let ending = x.ending;
-    counted(last_kept(checkpoints, x.checkpoints, m, r), ending)
+    counted(last_kept(checkpoints, x.checkpoints, m, r), x.ending)
 }
 
 // LSN number i of n, 0 where there is none.
@@ -55,10 +54,7 @@ fn get_lsn(t: &[u8], n: usize, i: usize) -> u32
     requires { n * 4 ≤ length t.now }
     ensures { result ≡ get_or (lsns_in n t.now) i 0 }
 {
-    if n <= i {
-        return 0;
-    }
-    read_lsn(t, i)
+    if i < n { read_lsn(t, i) } else { 0 }
 }
 
 // 48: is no LSN counted, or does the last of those that are taken lie below the frontier?
@@ -69,7 +65,7 @@ fn last_below(c: u64, malformed: &[u8], n: usize, front: u64) -> bool
     if c == 0 {
         return true;
     }
-    let last = min_u64(c, MAX_MALFORMED_WARNINGS as u64) - 1;
+    let last = c.min(MAX_MALFORMED_WARNINGS as u64) - 1;
     (get_lsn(malformed, n, last as usize) as u64) < front
 }
 
@@ -78,22 +74,19 @@ fn question48(x: AreaIndex, k: u32, checkpoints: &[u8], malformed: &[u8]) -> boo
     requires { Widens x k checkpoints.now malformed.now }
     ensures { result ≡ fits_in x k checkpoints.now malformed.now }
 {
-    let area = x.area;
-    let ending = x.ending;
     let r = k / x.interval;
     let m = kept(x.checkpoints, r);
     let c = count_of(x, r, m, checkpoints);
-    let front = frontier_of(area, k, m, ending);
+    let front = frontier_of(x.area, k, m, x.ending);
     last_below(c, malformed, x.malformed as usize, front)
 }
 
 // The numbers of a list with another interval.
+#[tactic(auto, unfolding(crate::specs::Steps::numbers_at))]
 fn at_interval(x: AreaIndex, k: u32) -> AreaIndex
     ensures { result ≡ numbers_at x k x.checkpoints (record { frames = x.frames; parts = x.parts; used = 0 }) x.malformed }
 {
-    let mut y = x;
-    y.interval = k;
-    y
+    AreaIndex { interval: k, ..x }
 }
 
 // The number of the first question that refuses, 0 for none.

@@ -35,9 +35,6 @@ add_one-held-requires c =
     one_ready _ _ _ _ _ _ c.requires.lent c.loop-j.invariant.0 c.loop-j-test.true c.read_held-p.ensures
     c.source_at-at.ensures c.read_header-header.ensures c.is_kept.ensures
 
-pub overflow_add-j : goal.overflow_add-j
-overflow_add-j c = let a = c.loop-j-test.true in let b = c.ranges.h.fits in omega arith
-
 pub loop-j-preserved : goal.loop-j-preserved
 loop-j-preserved c = (
   adding_on _ _ _ _ _ _ c.requires.lent c.loop-j.invariant.0 c.loop-j-test.true c.read_held-p.ensures

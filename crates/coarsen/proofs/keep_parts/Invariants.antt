@@ -1,4 +1,3 @@
-use Prim.Native.Nat.{◌-◌}
 use mathlib.Core.Path.{◌≡◌}
 use lib.ListN.{length}
 use Rattle.rules_coarsen.specs.Coarse.{coarse_parts}
@@ -13,6 +12,3 @@ invariant-loop-j l = Adding l.budget l.f l.h (part_tables l.headers l.other l.th
     (coarse_parts l.r l.budget (frames_in l.f l.headers l.other) (parts_in l.h l.theirs) (stored_in 0 0 (part_tables l.initial.frames l.initial.store l.initial.parts))) l.j l.at l.held
     (part_tables l.frames l.store l.parts)
     × (length l.frames ≡ length l.initial.frames) × (length l.store ≡ length l.initial.store) × (length l.parts ≡ length l.initial.parts)
-
-abbrev pub decreases-loop-j : goal.decreases-loop-j
-decreases-loop-j l = l.h - l.j

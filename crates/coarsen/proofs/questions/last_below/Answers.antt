@@ -9,4 +9,4 @@ returns-then-c-eq0 c = rw (eq-eqb _ 0 c.if-c-eq0.true) (search rules)
 
 pub returns : goal.returns
 unfolding last_below
-returns c = rw (ne_eqb _ 0 c.if-c-eq0.false) (rw (c.get_lsn.ensures, c.min_u64-last.ensures))
+returns c = rw (ne_eqb _ 0 c.if-c-eq0.false) (rw (c.get_lsn.ensures, c.min-last.ensures))
