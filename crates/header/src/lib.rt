@@ -115,6 +115,7 @@ fn read_field(body: &[u8], i: usize) -> u64
     requires { (80 ≤ length body.now) × (i < 19) }
     ensures { (result ≡ field_at body.now i) × (result < 256 ^ (entry header_fields i).width) }
 {
+    // Tests by `if`: the last arm of a match on a number does not say which numbers it is not.
     let f = field_of(i);
     let at = f.offset;
     if f.width == 8 {
@@ -143,6 +144,7 @@ fn u8_field(body: &[u8], i: usize) -> u8
 }
 
 // The header at the start of body.
+#[tactic(auto, unfolding(rules::specs::File::read_header, rules::specs::File::header_fields))]
 pub fn read_header(body: &[u8]) -> Header
     requires { 80 ≤ length body.now }
     ensures { result ≡ read_header body.now }
@@ -207,23 +209,23 @@ fn values_of(h: Header) -> [u64; 19]
 {
     [
         h.magic,
-        h.version as u64,
-        h.slot as u64,
-        h.channels as u64,
-        h.flags as u64,
-        h.zero15 as u64,
-        h.start as u64,
-        h.end as u64,
+        u64::from(h.version),
+        u64::from(h.slot),
+        u64::from(h.channels),
+        u64::from(h.flags),
+        u64::from(h.zero15),
+        u64::from(h.start),
+        u64::from(h.end),
         h.sectors,
-        h.interval as u64,
-        h.checkpoints as u64,
-        h.frames as u64,
-        h.parts as u64,
-        h.malformed as u64,
-        h.zero52 as u64,
+        u64::from(h.interval),
+        u64::from(h.checkpoints),
+        u64::from(h.frames),
+        u64::from(h.parts),
+        u64::from(h.malformed),
+        u64::from(h.zero52),
         h.budget,
-        h.threshold as u64,
-        h.zero68 as u64,
+        u64::from(h.threshold),
+        u64::from(h.zero68),
         h.counted,
     ]
 }
@@ -235,11 +237,9 @@ pub fn write_header(out: &mut [u8], h: Header) -> u64
 {
     let values = values_of(h);
     let mut x = OFFSET_BASIS;
-    let mut i = 0;
-    while i < 19 {
+    for i in 0..19 {
         put_field(out, i, values[i]);
         x = sum_field(i, values[i], x);
-        i += 1;
     }
     x
 }

@@ -10,9 +10,8 @@ returns c =
       c.ask-n-3.ensures,
       c.ask-n-2.ensures,
       c.ask-n.ensures,
-      c.same_key-same.ensures,
+      c.same_key.ensures,
       c.key_of.ensures,
-      c.and-flags.ensures,
-      c.pick.ensures.0,
-      c.and-version.ensures,
+      c.flags_ok.ensures,
+      c.known_version.ensures,
     ))

@@ -11,10 +11,6 @@ returns c =
       c.ask-n-3.ensures,
       c.ask-n-2.ensures,
       c.ask-n.ensures,
-      c.and-interval.ensures,
-      c.and-fits.ensures,
-      c.fixed_size.ensures,
-      c.counts_ok-counts.ensures,
-      c.complete-whole.ensures,
-      c.area_boundaries-b.ensures,
+      c.interval_ok.ensures,
+      c.sections_fit.ensures,
     ))
