@@ -1,15 +1,14 @@
 -- What absorb answers, by the number that refuses. Assumes nothing.
+use Rattle.std.specs.Prelude.{Option, ℕ}
 use mathlib.Core.Path.{◌≡◌, refl, sym, ap, ◌∙◌}
 use mathlib.Core.Bool.{Bool, true, false, ◌&&◌, cond}
 use mathlib.Core.List.{List}
-use mathlib.Core.Option.{Option}
 use Prim.Native.Nat.{ℕ, ◌+◌, ◌≤◌}
 use native.Mathlib.Omega.{arith}
 use borrow.Author.Tests.{eq-eqb, ne_eqb, eqb-true, ltb-true, leb-true}
 use lib.Dec.{eqb, leb, ltb}
 use Rattle.field.proofs.Records.{records_length}
 use Rattle.rules.specs.declared.AreaIndex.{AreaIndex}
-use Rattle.rules.specs.declared.ImageId.{ImageId}
 use Rattle.rules.specs.declared.Mode.TheVariants.{Stopped}
 use Rattle.rules.specs.declared.Recorder.{Recorder}
 use Rattle.rules.specs.Values.{Index}
@@ -17,7 +16,7 @@ use Rattle.rules.specs.Values as values
 use Rattle.rules.specs.File.{decode_checkpoint, decode_held}
 use Rattle.rules.specs.Record.{absorb, absorb_number, absorbed_by, emptied, is_stopped, with_mode}
 use Rattle.rules.proofs.Tests.{test, choose, and_left, and_right}
-use Rattle.tables.specs.Index.{id_in, Tables, tables, room_of, index_in, kinds_in, kinded_number, or_four}
+use Rattle.tables.specs.Index.{Tables, tables, room_of, index_in, kinds_in, kinded_number, or_four}
 use Rattle.tables.specs.Lent.{TableBytes}
 use Rattle.index.proofs.Back.{numbers_back}
 use Rattle.index.proofs.Lent.{put_back}
@@ -73,11 +72,11 @@ module _ (r : Recorder) (u : RecorderTables) where
   refused_is n = test (eqb n 8) (λ e. rw e stopped_is) (λ e. rw e recorder_back)
 
 -- ---- the call
-module _ (x : AreaIndex) (t : Tables) (image : ImageId) (given : List ℕ) (r : Recorder) (u : RecorderTables) {n : ℕ} (e : n ≡ absorb_refusal x t image given r u) where
-  by_number : absorb_in x t image given r u ≡ absorbed_out_of t (absorbed_by n (index_in x t) (recorder_in r u) (id_in image) (given_in given))
+module _ (x : AreaIndex) (t : Tables) (image : Option ℕ) (given : List ℕ) (r : Recorder) (u : RecorderTables) {n : ℕ} (e : n ≡ absorb_refusal x t image given r u) where
+  by_number : absorb_in x t image given r u ≡ absorbed_out_of t (absorbed_by n (index_in x t) (recorder_in r u) image (given_in given))
   unfolding absorb_in absorb absorb_refusal
   by_number =
-      rw (kinded_by (index_in x t) (recorder_in r u) (id_in image) (given_in given) (kinds_in x t && recorder_kinds r u) (absorb_number (room_of t) (index_in x t) (recorder_room u) (recorder_in r u) (id_in image) (given_in given)), ← e)
+      rw (kinded_by (index_in x t) (recorder_in r u) image (given_in given) (kinds_in x t && recorder_kinds r u) (absorb_number (room_of t) (index_in x t) (recorder_room u) (recorder_in r u) image (given_in given)), ← e)
 
   pub absorb_refused : {q : Recorder} → (n ≡ 0 → ⊥) → q ≡ cond (eqb n 8) (mode_of r Stopped) r → absorbed_out (absorbed n x q) t ≡ absorb_in x t image given r u
   unfolding absorbed_out_of

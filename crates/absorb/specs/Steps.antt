@@ -1,13 +1,10 @@
 -- What the steps of an absorb need of the tables, and what they leave.
-use Rattle.std.specs.Prelude.{◌≡◌, ℕ, ◌+◌, ◌*◌, ◌≤◌, min, Bool, true, ◌&&◌, false, cond, List, [], ◌∷◌, ◌++◌, eqb, leb, ltb, length, take, drop, get_or}
-use Rattle.std.proofs.Math.Option.{Option}
+use Rattle.std.specs.Prelude.{◌≡◌, ℕ, ◌+◌, ◌*◌, ◌≤◌, min, Bool, true, ◌&&◌, false, cond, List, [], ◌∷◌, ◌++◌, eqb, leb, ltb, length, take, drop, get_or, Option}
 use Rattle.field.specs.Number.{same_bytes}
 use Rattle.rules.specs.declared.AreaIndex.{AreaIndex}
 use Rattle.rules.specs.declared.EndState.{EndState}
 use Rattle.rules.specs.declared.Recorder.{Recorder}
-use Rattle.rules.specs.declared.ImageId.{ImageId}
 use Rattle.field.specs.Records.{bytes_of}
-use Rattle.rules.specs.declared.End.{End}
 use Rattle.rules.specs.Tests.{all, agree, ask, first_no, or_else}
 use Rattle.rules.specs.Values.{Scan, Index, max_malformed, max32, counted, frontier_of}
 use Rattle.rules.specs.Values as values
@@ -17,7 +14,7 @@ use Rattle.rules.specs.Questions.{area_ok}
 use Rattle.rules.specs.File.{encode_confirmation, over, encode_lsn}
 use Rattle.laws.specs.Twelve.{continues, joined_ok}
 use Rattle.tables.specs.Tables.{checkpoints_in, lsns_in, given_in, encode_kept, kept_in, confirmations_in}
-use Rattle.tables.specs.Index.{tables, index_in, id_in, Tables, room_of, kinds_in, kinded_number, end_in, numbers_from, tables_from, id_from}
+use Rattle.tables.specs.Index.{tables, index_in, Tables, room_of, kinds_in, kinded_number, numbers_from, tables_from}
 use Rattle.tables.specs.Recorder.{recorder_tables, recorder_in, RecorderTables, recorder_room, recorder_kinds, recorder_refusal}
 use Rattle.index.specs.Steps.{Passes}
 use Rattle.parts.specs.declared.Counts.{Counts}
@@ -69,20 +66,20 @@ pub record Joinable (x : AreaIndex) (cs held : List ℕ) (r : Recorder) (ds : Li
   pub few : r.first + r.checkpoints ≤ max32
 
 -- the number of the rules, with the kind bytes of both; 0 for none. given is the bytes of the malformed LSNs of the reading.
-unfoldable pub absorb_refusal : AreaIndex → Tables → ImageId → List ℕ → Recorder → RecorderTables → ℕ
+unfoldable pub absorb_refusal : AreaIndex → Tables → Option ℕ → List ℕ → Recorder → RecorderTables → ℕ
 absorb_refusal x t image given r u =
     kinded_number (kinds_in x t && recorder_kinds r u)
-    (absorb_number (room_of t) (index_in x t) (recorder_room u) (recorder_in r u) (id_in image) (given_in given))
+    (absorb_number (room_of t) (index_in x t) (recorder_room u) (recorder_in r u) image (given_in given))
 
 -- 10 by the numbers
 unfoldable pub ten_in : AreaIndex → Recorder → Bool
-ten_in x r = leb r.from (frontier_of x.area x.interval x.checkpoints (end_in x.ending)) && leb r.first x.checkpoints
+ten_in x r = leb r.from (frontier_of x.area x.interval x.checkpoints x.ending) && leb r.first x.checkpoints
 
 -- 8 to 12 of a recorder that is not stopped
-unfoldable pub later_number : AreaIndex → List ℕ → List ℕ → Recorder → List ℕ → ImageId → List ℕ → ℕ
+unfoldable pub later_number : AreaIndex → List ℕ → List ℕ → Recorder → List ℕ → Option ℕ → List ℕ → ℕ
 later_number x cs held r ds image given =
     first_no
-    (ask (agree eqb (id_in x.image) (id_in image)) 8 ∷ ask (nine_in x r) 9 ∷ ask (ten_in x r) 10 ∷ ask (eleven_in x cs r ds) 11
+    (ask (agree eqb x.image image) 8 ∷ ask (nine_in x r) 9 ∷ ask (ten_in x r) 10 ∷ ask (eleven_in x cs r ds) 11
     ∷ ask (twelve_in x cs held r ds given) 12 ∷ [])
 
 -- 4 of both as far as 8 to 12 need it
@@ -94,7 +91,7 @@ pub record Readable (x : AreaIndex) (cs held : List ℕ) (r : Recorder) (ds : Li
   pub few : r.first + r.checkpoints ≤ max32
 
 -- nothing refuses, and the recorder is not stopped
-pub record Absorbs (x : AreaIndex) (t : Tables) (image : ImageId) (given : List ℕ) (r : Recorder) (u : RecorderTables) : Type 0 where
+pub record Absorbs (x : AreaIndex) (t : Tables) (image : Option ℕ) (given : List ℕ) (r : Recorder) (u : RecorderTables) : Type 0 where
   pub accepted : absorb_refusal x t image given r u ≡ 0
   pub brings : is_stopped r.mode ≡ false
 
@@ -107,11 +104,11 @@ abbrev pub written : AreaIndex → Tables → Written
 written x t = record { index = x; tables = t }
 
 -- the absorbed index, by the rules
-abbrev pub absorbed_list : AreaIndex → Tables → Recorder → RecorderTables → ImageId → List ℕ → Index
-absorbed_list x t r u image ms = absorbed_index (index_in x t) (recorder_in r u) (id_in image) (given_in ms)
+abbrev pub absorbed_list : AreaIndex → Tables → Recorder → RecorderTables → Option ℕ → List ℕ → Index
+absorbed_list x t r u image ms = absorbed_index (index_in x t) (recorder_in r u) image (given_in ms)
 
 -- and put into the tables
-unfoldable pub absorbed_in : AreaIndex → Tables → Recorder → RecorderTables → ImageId → List ℕ → Written
+unfoldable pub absorbed_in : AreaIndex → Tables → Recorder → RecorderTables → Option ℕ → List ℕ → Written
 absorbed_in x t r u image ms = written (numbers_from (absorbed_list x t r u image ms)) (tables_from (absorbed_list x t r u image ms) t)
 
 -- hints and confirmations, read and put back, stay
@@ -135,7 +132,7 @@ abbrev pub front_at : AreaIndex → ℕ → Option EndState → ℕ
 front_at x n e = frontier_of x.area x.interval n e
 
 abbrev pub front_of : AreaIndex → ℕ
-front_of x = front_at x x.checkpoints (end_in x.ending)
+front_of x = front_at x x.checkpoints x.ending
 
 pub record TakesBelow (x : AreaIndex) (n : ℕ) (e : Option EndState) (t ms : List ℕ) : Type 0 where
   pub area : area_ok x.area ≡ true
@@ -148,7 +145,7 @@ TakenBelow x n e t ms r t' =
     Put encode_lsn (cond (ltb (front_of x) (front_at x n e)) (take max_malformed (below (front_at x n e) (given_in ms))) (lsns_in x.malformed t)) r t t'
 
 -- ---- the numbers
-unfoldable pub numbers_by : AreaIndex → ImageId → ℕ → Counts → ℕ → End → AreaIndex
+unfoldable pub numbers_by : AreaIndex → Option ℕ → ℕ → Counts → ℕ → Option EndState → AreaIndex
 numbers_by x image n c m ending =
     record {
       area = x.area;
@@ -164,7 +161,7 @@ numbers_by x image n c m ending =
       confirmed = x.confirmed;
       ending = ending;
       fingerprint = x.fingerprint;
-      image = id_from (or_else (id_in x.image) (id_in image));
+      image = (or_else x.image image);
     }
 
 -- emptied: its next checkpoint is its first

@@ -3,7 +3,7 @@
 ghost use Rattle.std.specs.Prelude.{◌≡◌, List, ℕ, length, take};
 ghost use Rattle.rules.specs.Values.{max_malformed};
 ghost use Rattle.rules.specs.Record.{below};
-ghost use Rattle.tables.specs.Index.{tables, end_in};
+ghost use Rattle.tables.specs.Index.{tables};
 ghost use Rattle.tables.specs.Recorder.{recorder_tables};
 ghost use Rattle.tables.specs.Tables.{given_in};
 ghost use Rattle.absorb.specs.Steps.{written, Kept, absorbed_in, AbsorbReady, TakesBelow, TakenBelow, numbers_by};
@@ -13,7 +13,7 @@ use merge::numbers::image_of;
 use merge::take::{append_checkpoints, take_malformed, take_parts};
 use parts::Counts;
 use recorder::end_of;
-use rules::{AreaIndex, End, ImageId, MAX_MALFORMED_WARNINGS, Recorder};
+use rules::{AreaIndex, EndState, MAX_MALFORMED_WARNINGS, Recorder};
 use sections::frontier_of;
 
 // ---- malformed LSNs
@@ -25,9 +25,15 @@ fn count_taken(given: &[u8], front: u64) -> u32
 }
 
 // The given LSNs below the frontier over the held ones, where n checkpoints and this end state move it. Answers how many there are then.
-fn take_below(x: AreaIndex, n: u32, end: End, given: &[u8], malformed: &mut [u8]) -> u32
-    requires { TakesBelow x n (end_in end) malformed.old given.now }
-    ensures { TakenBelow x n (end_in end) malformed.old given.now result malformed.new }
+fn take_below(
+    x: AreaIndex,
+    n: u32,
+    end: Option<EndState>,
+    given: &[u8],
+    malformed: &mut [u8],
+) -> u32
+    requires { TakesBelow x n end malformed.old given.now }
+    ensures { TakenBelow x n end malformed.old given.now result malformed.new }
 {
     let before = frontier_of(x.area, x.interval, x.checkpoints, x.ending);
     let front = frontier_of(x.area, x.interval, n, end);
@@ -38,7 +44,14 @@ fn take_below(x: AreaIndex, n: u32, end: End, given: &[u8], malformed: &mut [u8]
 // ---- the numbers
 // With these counts and this end state; the image id is filled in.
 #[tactic(auto, unfolding(crate::specs::Steps::numbers_by))]
-fn numbers(x: AreaIndex, image: ImageId, n: u32, c: Counts, m: u32, ending: End) -> AreaIndex
+fn numbers(
+    x: AreaIndex,
+    image: Option<u64>,
+    n: u32,
+    c: Counts,
+    m: u32,
+    ending: Option<EndState>,
+) -> AreaIndex
     ensures { result ≡ numbers_by x image n c m ending }
 {
     AreaIndex {
@@ -57,7 +70,7 @@ fn numbers(x: AreaIndex, image: ImageId, n: u32, c: Counts, m: u32, ending: End)
 pub fn commit(
     x: AreaIndex,
     r: Recorder,
-    image: ImageId,
+    image: Option<u64>,
     given: &[u8],
     checkpoints: &mut [u8],
     frames: &mut [u8],

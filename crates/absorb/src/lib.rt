@@ -18,7 +18,7 @@ ghost use Rattle.absorb.specs.Steps.{drained_of};
 use crate::committed::commit;
 use crate::refusal::{absorb_refuses, is_stopped};
 use recorder::with_mode;
-use rules::{Absorbed, AreaIndex, ImageId, Mode, Recorder};
+use rules::{Absorbed, AreaIndex, Mode, Recorder};
 
 // ---- the recorder afterwards
 // 8 stops the recorder; another refusal leaves it.
@@ -64,7 +64,7 @@ fn drain(r: Recorder) -> Recorder
 pub fn absorb(
     x: AreaIndex,
     r: Recorder,
-    image: ImageId,
+    image: Option<u64>,
     given: &[u8],
     checkpoints: &mut [u8],
     frames: &mut [u8],

@@ -1,13 +1,12 @@
 // Questions 9, 11 and 12 of an index and a recorder in their tables, asked before anything is joined.
 ghost use Rattle.std.specs.Prelude.{◌≡◌, ◌||◌, ◌+◌, ◌-◌, ◌*◌, ◌≤◌, eqb, leb, length, get_or};
-ghost use Rattle.tables.specs.Index.{end_in};
 ghost use Rattle.tables.specs.Tables.{lsns_in};
 ghost use Rattle.absorb.specs.Steps.{nine_in, eleven_in, list_in, moved_in, twelve_in, Joinable};
 
 use crate::tests::{continues, count_below, joined_last, opens_with, or_else, same_counts};
 use merge::questions::{same_area, same_end};
 use recorder::end_of;
-use rules::{Area, AreaIndex, End, MAX_MALFORMED_WARNINGS, MAX_U32, Recorder};
+use rules::{Area, AreaIndex, EndState, MAX_MALFORMED_WARNINGS, MAX_U32, Recorder};
 use sections::records::check_lsns;
 use sections::{counted, ending_ok, frontier_of};
 use tables::read_lsn;
@@ -61,7 +60,7 @@ fn moved_ok(
     x: AreaIndex,
     r: Recorder,
     i: usize,
-    end: End,
+    end: Option<EndState>,
     front: u64,
     given: &[u8],
     checkpoints: &[u8],
@@ -69,7 +68,7 @@ fn moved_ok(
     theirs: &[u8],
 ) -> bool
     requires { Joinable x checkpoints.now malformed.now r theirs.now }
-    ensures { result ≡ moved_in x checkpoints.now malformed.now r theirs.now given.now i (end_in end) front }
+    ensures { result ≡ moved_in x checkpoints.now malformed.now r theirs.now given.now i end front }
 {
     let n = x.checkpoints as usize;
     let m = r.checkpoints as usize;

@@ -10,7 +10,7 @@ use index::refuses;
 use index::room::lowest;
 use merge::questions::same_image;
 use recorder::recorder_refuses;
-use rules::{AreaIndex, ImageId, Mode, Recorder};
+use rules::{AreaIndex, Mode, Recorder};
 use sections::frontier_of;
 
 #[tactic(auto, unfolding(rules::specs::Record::is_stopped))]
@@ -35,7 +35,7 @@ fn question10(x: AreaIndex, r: Recorder) -> bool
 fn later_number(
     x: AreaIndex,
     r: Recorder,
-    image: ImageId,
+    image: Option<u64>,
     given: &[u8],
     checkpoints: &[u8],
     malformed: &[u8],
@@ -69,7 +69,7 @@ fn later_number(
 pub fn absorb_refuses(
     x: AreaIndex,
     r: Recorder,
-    image: ImageId,
+    image: Option<u64>,
     given: &[u8],
     checkpoints: &[u8],
     frames: &[u8],

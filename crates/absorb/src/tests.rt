@@ -6,10 +6,9 @@ ghost use Rattle.rules.specs.Values.{last_checkpoint};
 ghost use Rattle.rules.specs.Record.{same_counts, below};
 ghost use Rattle.laws.specs.Twelve.{not_below, continues};
 ghost use Rattle.tables.specs.Tables.{checkpoints_in, lsns_in};
-ghost use Rattle.tables.specs.Index.{end_in};
 
 use field::same;
-use rules::{Checkpoint, End};
+use rules::{Checkpoint, EndState};
 use sections::last_checkpoint;
 use tables::{get_checkpoint, read_checkpoint, read_lsn};
 
@@ -66,13 +65,13 @@ pub fn joined_last(t: &[u8], n: usize, other: &[u8], m: usize, i: usize) -> Chec
 
 // ---- the end state
 // The first, or the second where the first is open.
-#[tactic(auto, unfolding(rules::specs::Tests::or_else, tables::specs::Index::end_in))]
-pub fn or_else(a: End, b: End) -> End
-    ensures { end_in result ≡ or_else (end_in a) (end_in b) }
+#[tactic(auto, unfolding(rules::specs::Tests::or_else))]
+pub fn or_else(a: Option<EndState>, b: Option<EndState>) -> Option<EndState>
+    ensures { result ≡ or_else a b }
 {
     match a {
-        End::Open => b,
-        End::Closed(_) => a,
+        None => b,
+        Some(_) => a,
     }
 }
 

@@ -16,7 +16,7 @@ use Rattle.rules.specs.File.{decode_checkpoint, decode_confirmation}
 use Rattle.rules.specs.Merge.{further, merged_scan, merged_fingerprint, merged}
 use Rattle.rules.proofs.Tests.{test}
 use Rattle.tables.specs.Tables.{lsns_in, confirmations_in, decode_kept, kept_in}
-use Rattle.tables.specs.Index.{Tables, index_in, end_in, id_in}
+use Rattle.tables.specs.Index.{Tables, index_in}
 use Rattle.index.proofs.Questions.{passes_long, passes_hints}
 use Rattle.merge.specs.Merge.{merge_refusal, further_in}
 use Rattle.merge.specs.Steps.{Joins}
@@ -75,7 +75,7 @@ module _ {x y : AreaIndex} {t u : Tables} (j : Joins x t y u) where
 
     module _ {a b c d e f h i l : Bool}
         (p0 : a ≡ (go && ltb x.checkpoints y.checkpoints))
-        (p1 : b ≡ (go && is_some (end_in y.ending)))
+        (p1 : b ≡ (go && is_some y.ending))
         (p2 : c ≡ parts_change go x y (part_tables t.frames t.store t.parts)
         (part_tables u.frames u.store u.parts))
         (p3 : l ≡ same_list eqb (lsns_in x.malformed t.malformed) (lsns_in y.malformed u.malformed))
@@ -84,7 +84,7 @@ module _ {x y : AreaIndex} {t u : Tables} (j : Joins x t y u) where
         (p6 : ConfirmedAnswered (is_checked x.fingerprint) x.most (confirmations_in x.confirmed t.confirmed)
         (confirmations_in y.confirmed u.confirmed) f)
         (p7 : h ≡ not (same_fingerprint x.fingerprint (merged_fingerprint x.fingerprint y.fingerprint)))
-        (p8 : i ≡ not (same_known eqb (id_in x.image) (or_else (id_in x.image) (id_in y.image)))) where
+        (p8 : i ≡ not (same_known eqb x.image (or_else x.image y.image))) where
       pub brought_is : ◌≡◌ {A = Brings}
           (record {
             checkpoints = a;

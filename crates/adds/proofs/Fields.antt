@@ -1,8 +1,8 @@
 -- In what a merged list differs, by tests of the numbers and the tables. Assumes nothing.
+use Rattle.std.specs.Prelude.{Option, None, Some}
 use mathlib.Core.Path.{◌≡◌, refl, sym, ap, ◌∙◌}
 use mathlib.Core.Bool.{Bool, true, false, ◌&&◌, not}
 use mathlib.Core.List.{List, [], ◌∷◌, ◌++◌}
-use mathlib.Core.Option.{Option, none, some}
 use Prim.Native.Nat.{ℕ, suc, ◌-◌, ◌*◌, ◌≤◌}
 use native.Mathlib.Omega.{arith}
 use lib.Dec.{eqb, ltb}
@@ -56,13 +56,13 @@ module _ (own other : Scan) where
       (λ e. rw (e, same_list_self same_checkpoint same_checkpoint_self own.checkpoints))
 
   -- ---- the end state
-  open_end : further own other ≡ true → own.ending ≡ none
+  open_end : further own other ≡ true → own.ending ≡ None
   unfolding further is_some
   open_end e = none_of own.ending (and_left (not (complete own)) _ e)
     where
-      none_of : {A : Type 0} (o : Option A) → not (is_some o) ≡ true → o ≡ none
-      none_of none h = refl
-      none_of (some a) h = never {b = false} h refl
+      none_of : {A : Type 0} (o : Option A) → not (is_some o) ≡ true → o ≡ None
+      none_of None h = refl
+      none_of (Some a) h = never {b = false} h refl
 
   pub ending_change : not (same_known same_end own.ending (merged_scan own other).ending)
       ≡ (further own other && complete other)
@@ -71,9 +71,9 @@ module _ (own other : Scan) where
       test (further own other) (λ e. rw (e, open_end e) (known other.ending))
       (λ e. rw (e, same_known_self same_end same_end_self own.ending))
     where
-      known : (o : Option _) → not (same_known same_end none o) ≡ is_some o
-      known none = refl
-      known (some a) = refl
+      known : (o : Option _) → not (same_known same_end None o) ≡ is_some o
+      known None = refl
+      known (Some a) = refl
 
   -- ---- malformed LSNs
   pub malformed_change : not (same_list eqb own.malformed (merged_scan own other).malformed)
@@ -112,6 +112,6 @@ fingerprint_change (Checked v) g = rw (eqb_self v)
 
 pub image_change : (a b : Option ℕ) → not (same_known eqb a (or_else a b)) ≡ (not (is_some a) && is_some b)
 unfolding same_known or_else is_some
-image_change none none = refl
-image_change none (some w) = refl
-image_change (some v) b = rw (eqb_self v)
+image_change None None = refl
+image_change None (Some w) = refl
+image_change (Some v) b = rw (eqb_self v)

@@ -1,7 +1,7 @@
 -- Things that are the same are equal, and each is the same as itself. Assumes nothing.
+use Rattle.std.specs.Prelude.{Option, None, Some}
 use mathlib.Core.Path.{◌≡◌, refl, ap}
 use mathlib.Core.Bool.{Bool, true, false}
-use mathlib.Core.Option.{Option, none, some}
 use borrow.Author.Tests.{eqb-true}
 use Rattle.field.proofs.Bytes.{same_refl, same_true}
 use Rattle.rules.specs.declared.Fingerprint.{Fingerprint}
@@ -17,15 +17,15 @@ use Rattle.adds.specs.Adds.{same_known, same_frame, same_held, same_fingerprint}
 module _ {A : Type 0} (same : A → A → Bool) where
   pub same_known_self : ((a : A) → same a a ≡ true) → (o : Option A) → same_known same o o ≡ true
   unfolding same_known
-  same_known_self self none = refl
-  same_known_self self (some a) = self a
+  same_known_self self None = refl
+  same_known_self self (Some a) = self a
 
   pub same_known_eq : ((a b : A) → same a b ≡ true → a ≡ b) → (o p : Option A) → same_known same o p ≡ true → o ≡ p
   unfolding same_known
-  same_known_eq eq none none e = refl
-  same_known_eq eq none (some b) e = never {b = false} e refl
-  same_known_eq eq (some a) none e = never {b = false} e refl
-  same_known_eq eq (some a) (some b) e = ap some (eq a b e)
+  same_known_eq eq None None e = refl
+  same_known_eq eq None (Some b) e = never {b = false} e refl
+  same_known_eq eq (Some a) None e = never {b = false} e refl
+  same_known_eq eq (Some a) (Some b) e = ap Some (eq a b e)
 
 pub same_frame_self : (f : Frame) → same_frame f f ≡ true
 unfolding same_frame

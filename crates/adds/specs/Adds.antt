@@ -1,6 +1,5 @@
 -- What a merge would bring: in what the list afterwards differs from the own one.
-use Rattle.std.specs.Prelude.{Bool, true, false, ◌&&◌, not, List, [], ◌∷◌, eqb}
-use Rattle.std.proofs.Math.Option.{Option, none, some}
+use Rattle.std.specs.Prelude.{Bool, true, false, ◌&&◌, not, List, [], ◌∷◌, eqb, Option, None, Some}
 use Rattle.rules.specs.declared.Confirmation.{Confirmation}
 use Rattle.field.specs.Number.{same_bytes}
 use Rattle.rules.specs.declared.AreaIndex.{AreaIndex}
@@ -31,10 +30,10 @@ same_confirmation c d =
 -- ---- sameness
 -- of things that may be unknown
 unfoldable pub same_known : {A : Type 0} → (A → A → Bool) → Option A → Option A → Bool
-same_known same none none = true
-same_known same none (some b) = false
-same_known same (some a) none = false
-same_known same (some a) (some b) = same a b
+same_known same None None = true
+same_known same None (Some b) = false
+same_known same (Some a) None = false
+same_known same (Some a) (Some b) = same a b
 
 unfoldable pub same_frame : Frame → Frame → Bool
 same_frame f g = all (eqb f.start g.start ∷ same_bytes f.bytes g.bytes ∷ [])

@@ -8,7 +8,7 @@ ghost use Rattle.rules.specs.Tests.{or_else};
 ghost use Rattle.rules.specs.PartRule.{stores};
 ghost use Rattle.rules.specs.Merge.{merged_fingerprint};
 ghost use Rattle.tables.specs.Tables.{lsns_in, frames_in, parts_in};
-ghost use Rattle.tables.specs.Index.{tables, id_in};
+ghost use Rattle.tables.specs.Index.{tables};
 ghost use Rattle.merge.specs.Steps.{Joins};
 ghost use Rattle.parts.specs.Parts.{part_tables, stored_in};
 ghost use Rattle.parts.specs.Steps.{CountsReady, Lent, held_piece};
@@ -22,7 +22,7 @@ use merge::goes_further::further;
 use merge::numbers::has_id;
 use merge::questions::merge_refuses;
 use parts::{Counts, Piece, Source, source_at, stores, used_bytes};
-use rules::{Added, AreaIndex, Brings, Fingerprint, Held, ImageId};
+use rules::{Added, AreaIndex, Brings, Fingerprint, Held};
 use tables::{read_header, read_held};
 
 // ---- fingerprint and image id
@@ -36,8 +36,8 @@ fn fills_fingerprint(a: Fingerprint, b: Fingerprint) -> bool
 
 // Would b fill in an image id?
 #[tactic(auto, using(crate::proofs::Fields::image_change))]
-fn fills_image(a: ImageId, b: ImageId) -> bool
-    ensures { result ≡ not (same_known eqb (id_in a) (or_else (id_in a) (id_in b))) }
+fn fills_image(a: Option<u64>, b: Option<u64>) -> bool
+    ensures { result ≡ not (same_known eqb a (or_else a b)) }
 {
     !has_id(a) && has_id(b)
 }

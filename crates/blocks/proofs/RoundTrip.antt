@@ -1,4 +1,7 @@
 -- What is written into a head is read from it again. Assumes nothing.
+use Rattle.rules.specs.declared.Hint.{Hint}
+use Rattle.rules.specs.declared.EndState.{EndState}
+use Rattle.std.specs.Prelude.{Option, None, Some, ℕ}
 use mathlib.Core.Path.{◌≡◌, refl, sym, ap, ◌∙◌}
 use mathlib.Core.Bool.{true}
 use mathlib.Core.List.{List}
@@ -12,20 +15,12 @@ use Rattle.field.proofs.Bytes.{same_refl, same_true}
 use Rattle.field.proofs.Format.{Each, none, one, numbers, records_bytes, bytes_of_length}
 use Rattle.rules.specs.declared.Area.{Area}
 use Rattle.rules.specs.declared.AreaIndex.{AreaIndex}
-use Rattle.rules.specs.declared.End.{End}
-use Rattle.rules.specs.declared.End.TheVariants.{Open, Closed}
 use Rattle.rules.specs.declared.Fingerprint.{Fingerprint}
 use Rattle.rules.specs.declared.Fingerprint.TheVariants.{Unknown, Held, Checked}
 use Rattle.rules.specs.declared.HintRecorder.{HintRecorder}
-use Rattle.rules.specs.declared.ImageId.{ImageId}
-use Rattle.rules.specs.declared.ImageId.TheVariants.{Anonymous, Id}
-use Rattle.rules.specs.declared.LastListed.{LastListed}
-use Rattle.rules.specs.declared.LastListed.TheVariants.{Never, Number}
 use Rattle.rules.specs.declared.Mode.{Mode}
 use Rattle.rules.specs.declared.Mode.TheVariants.{Running, Finished, Stopped}
 use Rattle.rules.specs.declared.Recorder.{Recorder}
-use Rattle.rules.specs.declared.Tail.{Tail}
-use Rattle.rules.specs.declared.Tail.TheVariants as tail
 use Rattle.rules.specs.File.{over}
 use Rattle.rules.proofs.Tests.{and_right}
 use Rattle.blocks.specs.Blocks.{at, told, with_area, area_read, end_read, fingerprint_read, image_read, mode_read, last_read, tail_read, index_read, recorder_read, hint_recorder_read, is_head, with_free, words_in, block_of, end_words, fingerprint_words, image_words, mode_words, last_words, tail_words, index_words, recorder_words, hint_recorder_array, hint_recorder_words}
@@ -51,15 +46,15 @@ no_bits : Fits64 0
 no_bits = omega arith
 
 -- ---- things that may be unknown
-mark_fits : (e : End) → Fits64 (end_words e).mark
+mark_fits : (e : Option EndState) → Fits64 (end_words e).mark
 unfolding end_words
-mark_fits Open = omega arith
-mark_fits (Closed s) = omega arith
+mark_fits None = omega arith
+mark_fits (Some s) = omega arith
 
-end_back : (e : End) → Fits32 (end_words e).first → end_read (end_words e).mark (end_words e).first (end_words e).second ≡ e
+end_back : (e : Option EndState) → Fits32 (end_words e).first → end_read (end_words e).mark (end_words e).first (end_words e).second ≡ e
 unfolding end_read end_words
-end_back Open h = refl
-end_back (Closed s) h = rw (low32 s.threshold h)
+end_back None h = refl
+end_back (Some s) h = rw (low32 s.threshold h)
 
 print_fits : (f : Fingerprint) → Fits64 (fingerprint_words f).mark
 unfolding fingerprint_words
@@ -73,15 +68,15 @@ print_back Unknown = refl
 print_back (Held v) = refl
 print_back (Checked v) = refl
 
-image_fits : (i : ImageId) → Fits64 (image_words i).mark
+image_fits : (i : Option ℕ) → Fits64 (image_words i).mark
 unfolding image_words
-image_fits Anonymous = omega arith
-image_fits (Id v) = omega arith
+image_fits None = omega arith
+image_fits (Some v) = omega arith
 
-image_back : (i : ImageId) → image_read (image_words i).mark (image_words i).first ≡ i
+image_back : (i : Option ℕ) → image_read (image_words i).mark (image_words i).first ≡ i
 unfolding image_read image_words
-image_back Anonymous = refl
-image_back (Id v) = refl
+image_back None = refl
+image_back (Some v) = refl
 
 mode_fits : (m : Mode) → Fits64 (mode_words m).mark
 unfolding mode_words
@@ -95,25 +90,25 @@ mode_back Running h = refl
 mode_back (Finished s) h = rw (low32 s.threshold h)
 mode_back Stopped h = refl
 
-last_fits : (l : LastListed) → Fits64 (last_words l).mark
+last_fits : (l : Option ℕ) → Fits64 (last_words l).mark
 unfolding last_words
-last_fits Never = omega arith
-last_fits (Number t) = omega arith
+last_fits None = omega arith
+last_fits (Some t) = omega arith
 
-last_back : (l : LastListed) → Fits32 (last_words l).first → last_read (last_words l).mark (last_words l).first ≡ l
+last_back : (l : Option ℕ) → Fits32 (last_words l).first → last_read (last_words l).mark (last_words l).first ≡ l
 unfolding last_read last_words
-last_back Never h = refl
-last_back (Number t) h = rw (low32 t h)
+last_back None h = refl
+last_back (Some t) h = rw (low32 t h)
 
-tail_fits : (t : Tail) → Fits64 (tail_words t).mark
+tail_fits : (t : Option Hint) → Fits64 (tail_words t).mark
 unfolding tail_words
-tail_fits tail.Empty = omega arith
-tail_fits (tail.Hint h) = omega arith
+tail_fits None = omega arith
+tail_fits (Some h) = omega arith
 
-tail_back : (t : Tail) → Fits32 (tail_words t).first → Fits32 (tail_words t).second → tail_mark t ≡ 0 → tail_read (tail_words t).mark (tail_words t).first (tail_words t).second ≡ t
+tail_back : (t : Option Hint) → Fits32 (tail_words t).first → Fits32 (tail_words t).second → tail_mark t ≡ 0 → tail_read (tail_words t).mark (tail_words t).first (tail_words t).second ≡ t
 unfolding tail_read tail_words tail_mark
-tail_back tail.Empty g h m = refl
-tail_back (tail.Hint k) g h m = rw (low32 k.lsn g, low32 k.number h) (λ i. tail.Hint (record { lsn = k.lsn; number = k.number; mark = sym m i }))
+tail_back None g h m = refl
+tail_back (Some k) g h m = rw (low32 k.lsn g, low32 k.number h) (λ i. Some (record { lsn = k.lsn; number = k.number; mark = sym m i }))
 
 -- ---- heads
 zeros : (n : ℕ) → Each Fits64 (replicate n 0)

@@ -1,26 +1,20 @@
 -- The numbers of an index, a recorder and a hint recorder as words of a block of bytes, and read from one.
-use Rattle.std.specs.Prelude.{ℕ, ◌%◌, List, [], ◌∷◌, cond, Bool, ◌&&◌, eqb, leb, get_or, length, set}
+use Rattle.rules.specs.declared.Hint.{Hint}
+use Rattle.rules.specs.declared.EndState.{EndState}
+use Rattle.std.specs.Prelude.{ℕ, ◌%◌, List, [], ◌∷◌, cond, Bool, ◌&&◌, eqb, leb, get_or, length, set, Option, None, Some}
 use Rattle.field.specs.Number.{encode, decode, same_bytes}
 use Rattle.field.specs.Records.{records, bytes_of}
 use Rattle.rules.specs.declared.Absence.{Absence}
 use Rattle.rules.specs.declared.Absence.TheVariants.{NoFrame, Missing}
 use Rattle.rules.specs.declared.AreaIndex.{AreaIndex}
-use Rattle.rules.specs.declared.End.{End}
-use Rattle.rules.specs.declared.End.TheVariants.{Open, Closed}
 use Rattle.rules.specs.declared.Fingerprint.{Fingerprint}
 use Rattle.rules.specs.declared.Fingerprint.TheVariants.{Unknown, Held, Checked}
 use Rattle.rules.specs.declared.First.{First}
 use Rattle.rules.specs.declared.First.TheVariants as first
 use Rattle.rules.specs.declared.HintRecorder.{HintRecorder}
-use Rattle.rules.specs.declared.ImageId.{ImageId}
-use Rattle.rules.specs.declared.ImageId.TheVariants.{Anonymous, Id}
-use Rattle.rules.specs.declared.LastListed.{LastListed}
-use Rattle.rules.specs.declared.LastListed.TheVariants.{Never, Number}
 use Rattle.rules.specs.declared.Mode.{Mode}
 use Rattle.rules.specs.declared.Mode.TheVariants.{Running, Finished, Stopped}
 use Rattle.rules.specs.declared.Recorder.{Recorder}
-use Rattle.rules.specs.declared.Tail.{Tail}
-use Rattle.rules.specs.declared.Tail.TheVariants as tail
 use Rattle.rules.specs.declared.Area.{Area}
 use Rattle.blocks.specs.declared.Marked.{Marked}
 use Rattle.blocks.specs.declared.Told.{Told}
@@ -36,31 +30,31 @@ block_of ws = bytes_of (encode 8) ws
 abbrev pub marked : ℕ → ℕ → ℕ → Marked
 marked k a b = record { mark = k; first = a; second = b }
 
-unfoldable pub end_words : End → Marked
-end_words Open = marked 0 0 0
-end_words (Closed e) = marked 1 e.threshold e.malformed
+unfoldable pub end_words : Option EndState → Marked
+end_words None = marked 0 0 0
+end_words (Some e) = marked 1 e.threshold e.malformed
 
 unfoldable pub fingerprint_words : Fingerprint → Marked
 fingerprint_words Unknown = marked 0 0 0
 fingerprint_words (Held v) = marked 1 v 0
 fingerprint_words (Checked v) = marked 2 v 0
 
-unfoldable pub image_words : ImageId → Marked
-image_words Anonymous = marked 0 0 0
-image_words (Id v) = marked 1 v 0
+unfoldable pub image_words : Option ℕ → Marked
+image_words None = marked 0 0 0
+image_words (Some v) = marked 1 v 0
 
 unfoldable pub mode_words : Mode → Marked
 mode_words Running = marked 0 0 0
 mode_words (Finished e) = marked 1 e.threshold e.malformed
 mode_words Stopped = marked 2 0 0
 
-unfoldable pub last_words : LastListed → Marked
-last_words Never = marked 0 0 0
-last_words (Number t) = marked 1 t 0
+unfoldable pub last_words : Option ℕ → Marked
+last_words None = marked 0 0 0
+last_words (Some t) = marked 1 t 0
 
-unfoldable pub tail_words : Tail → Marked
-tail_words tail.Empty = marked 0 0 0
-tail_words (tail.Hint h) = marked 1 h.lsn h.number
+unfoldable pub tail_words : Option Hint → Marked
+tail_words None = marked 0 0 0
+tail_words (Some h) = marked 1 h.lsn h.number
 
 -- the seven words of an area, then ws
 abbrev pub with_area : Area → List ℕ → List ℕ
@@ -121,25 +115,25 @@ abbrev pub low32 : ℕ → ℕ
 low32 v = v % 4294967296
 
 -- a flag of 0 is unknown, anything else known
-unfoldable pub end_read : ℕ → ℕ → ℕ → End
-end_read known t m = cond (eqb known 0) Open (Closed (record { threshold = low32 t; malformed = m }))
+unfoldable pub end_read : ℕ → ℕ → ℕ → Option EndState
+end_read known t m = cond (eqb known 0) None (Some (record { threshold = low32 t; malformed = m }))
 
 -- 0 unknown, 1 held, anything else checked
 unfoldable pub fingerprint_read : ℕ → ℕ → Fingerprint
 fingerprint_read mark v = cond (eqb mark 0) Unknown (cond (eqb mark 1) (Held v) (Checked v))
 
-unfoldable pub image_read : ℕ → ℕ → ImageId
-image_read known v = cond (eqb known 0) Anonymous (Id v)
+unfoldable pub image_read : ℕ → ℕ → Option ℕ
+image_read known v = cond (eqb known 0) None (Some v)
 
 -- 0 running, 1 finished, anything else stopped
 unfoldable pub mode_read : ℕ → ℕ → ℕ → Mode
 mode_read mark t m = cond (eqb mark 0) Running (cond (eqb mark 1) (Finished (record { threshold = low32 t; malformed = m })) Stopped)
 
-unfoldable pub last_read : ℕ → ℕ → LastListed
-last_read known t = cond (eqb known 0) Never (Number (low32 t))
+unfoldable pub last_read : ℕ → ℕ → Option ℕ
+last_read known t = cond (eqb known 0) None (Some (low32 t))
 
-unfoldable pub tail_read : ℕ → ℕ → ℕ → Tail
-tail_read known l t = cond (eqb known 0) tail.Empty (tail.Hint (record { lsn = low32 l; number = low32 t; mark = 0 }))
+unfoldable pub tail_read : ℕ → ℕ → ℕ → Option Hint
+tail_read known l t = cond (eqb known 0) None (Some (record { lsn = low32 l; number = low32 t; mark = 0 }))
 
 unfoldable pub area_read : List ℕ → Area
 area_read ws =

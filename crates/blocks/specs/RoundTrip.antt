@@ -1,11 +1,10 @@
 -- Decode of encode is the identity: what is proved of heads.
-use Rattle.std.specs.Prelude.{◌≡◌, true, List, [], length, ℕ, ◌<◌, ◌≤◌}
+use Rattle.rules.specs.declared.Hint.{Hint}
+use Rattle.std.specs.Prelude.{◌≡◌, true, List, [], length, ℕ, ◌<◌, ◌≤◌, Option, None, Some}
 use Rattle.rules.specs.declared.Area.{Area}
 use Rattle.rules.specs.declared.AreaIndex.{AreaIndex}
 use Rattle.rules.specs.declared.HintRecorder.{HintRecorder}
 use Rattle.rules.specs.declared.Recorder.{Recorder}
-use Rattle.rules.specs.declared.Tail.{Tail}
-use Rattle.rules.specs.declared.Tail.TheVariants as tail
 use Rattle.rules.specs.File.{over}
 use Rattle.blocks.specs.Blocks.{at, index_read, recorder_read, hint_recorder_read, is_head, with_free, is_index, is_recorder, is_hint_recorder, words_in, block_of, end_words, fingerprint_words, image_words, mode_words, last_words, tail_words, index_words, recorder_words, hint_recorder_array, hint_recorder_words}
 use Rattle.blocks.specs.declared.Told.{Told}
@@ -59,9 +58,9 @@ pub record RecorderFits (r : Recorder) : Type 0 where
   pub counted : Fits64 (mode_words r.mode).second
 
 -- a tail has no kept mark: a head holds none
-unfoldable pub tail_mark : Tail → ℕ
-tail_mark tail.Empty = 0
-tail_mark (tail.Hint h) = h.mark
+unfoldable pub tail_mark : Option Hint → ℕ
+tail_mark None = 0
+tail_mark (Some h) = h.mark
 
 pub record HintRecorderFits (r : HintRecorder) : Type 0 where
   pub spacing : Fits32 r.spacing

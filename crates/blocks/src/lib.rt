@@ -9,10 +9,7 @@ ghost use Rattle.rules.specs.File.{over};
 ghost use Rattle.blocks.specs.Blocks.{words_in, block_of, marked, index_array, recorder_array, index_words, recorder_words, hint_recorder_array, hint_recorder_words, seen_words, end_words, fingerprint_words, image_words, last_words, tail_words, mode_words, absence_number, first_told};
 
 use field::{read_u64, write_u64};
-use rules::{
-    Absence, AreaIndex, End, Fingerprint, First, HintRecorder, ImageId, LastListed, Mode, Recorder,
-    Tail,
-};
+use rules::{Absence, AreaIndex, EndState, Fingerprint, First, Hint, HintRecorder, Mode, Recorder};
 
 // The words of a head.
 pub const HEAD_WORDS: usize = 24;
@@ -62,12 +59,12 @@ impl Marked {
 }
 
 #[tactic(auto, unfolding(crate::specs::Blocks::end_words))]
-fn end_words(e: End) -> Marked
+fn end_words(e: Option<EndState>) -> Marked
     ensures { result ≡ end_words e }
 {
     match e {
-        End::Open => Marked::new(0, 0, 0),
-        End::Closed(s) => Marked::new(1, s.threshold as u64, s.malformed),
+        None => Marked::new(0, 0, 0),
+        Some(s) => Marked::new(1, s.threshold as u64, s.malformed),
     }
 }
 
@@ -83,12 +80,12 @@ fn fingerprint_words(f: Fingerprint) -> Marked
 }
 
 #[tactic(auto, unfolding(crate::specs::Blocks::image_words))]
-fn image_words(i: ImageId) -> Marked
+fn image_words(i: Option<u64>) -> Marked
     ensures { result ≡ image_words i }
 {
     match i {
-        ImageId::Anonymous => Marked::new(0, 0, 0),
-        ImageId::Id(v) => Marked::new(1, v, 0),
+        None => Marked::new(0, 0, 0),
+        Some(v) => Marked::new(1, v, 0),
     }
 }
 
@@ -104,22 +101,22 @@ fn mode_words(m: Mode) -> Marked
 }
 
 #[tactic(auto, unfolding(crate::specs::Blocks::last_words))]
-fn last_words(l: LastListed) -> Marked
+fn last_words(l: Option<u32>) -> Marked
     ensures { result ≡ last_words l }
 {
     match l {
-        LastListed::Never => Marked::new(0, 0, 0),
-        LastListed::Number(t) => Marked::new(1, t as u64, 0),
+        None => Marked::new(0, 0, 0),
+        Some(t) => Marked::new(1, t as u64, 0),
     }
 }
 
 #[tactic(auto, unfolding(crate::specs::Blocks::tail_words))]
-fn tail_words(t: Tail) -> Marked
+fn tail_words(t: Option<Hint>) -> Marked
     ensures { result ≡ tail_words t }
 {
     match t {
-        Tail::Empty => Marked::new(0, 0, 0),
-        Tail::Hint(h) => Marked::new(1, h.lsn as u64, h.number as u64),
+        None => Marked::new(0, 0, 0),
+        Some(h) => Marked::new(1, h.lsn as u64, h.number as u64),
     }
 }
 

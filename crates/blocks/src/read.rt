@@ -3,10 +3,7 @@ ghost use Rattle.std.specs.Prelude.{◌≡◌};
 ghost use Rattle.blocks.specs.Blocks.{low8, low32, end_read, fingerprint_read, image_read, mode_read, last_read, tail_read, area_read, index_read, recorder_read, hint_recorder_read, with_free, is_index, is_recorder, is_hint_recorder};
 
 use crate::{HEAD_BYTES, hint_recorder_words, index_words, read_words, recorder_words};
-use rules::{
-    Area, AreaIndex, AreaKey, End, EndState, Fingerprint, Hint, HintRecorder, ImageId, LastListed,
-    Mode, Recorder, Tail,
-};
+use rules::{Area, AreaIndex, AreaKey, EndState, Fingerprint, Hint, HintRecorder, Mode, Recorder};
 
 // ---- what may be unknown; what a field is too narrow for is cut off
 fn low8(v: u64) -> u8
@@ -23,12 +20,12 @@ fn low32(v: u64) -> u32
 
 // A flag of 0 is unknown, anything else known.
 #[tactic(auto, unfolding(crate::specs::Blocks::end_read))]
-fn end_from(known: u64, threshold: u64, malformed: u64) -> End
+fn end_from(known: u64, threshold: u64, malformed: u64) -> Option<EndState>
     ensures { result ≡ end_read known threshold malformed }
 {
     match known {
-        0 => End::Open,
-        _ => End::Closed(EndState {
+        0 => None,
+        _ => Some(EndState {
             threshold: low32(threshold),
             malformed,
         }),
@@ -48,12 +45,12 @@ fn fingerprint_from(mark: u64, value: u64) -> Fingerprint
 }
 
 #[tactic(auto, unfolding(crate::specs::Blocks::image_read))]
-fn image_from(known: u64, value: u64) -> ImageId
+fn image_from(known: u64, value: u64) -> Option<u64>
     ensures { result ≡ image_read known value }
 {
     match known {
-        0 => ImageId::Anonymous,
-        _ => ImageId::Id(value),
+        0 => None,
+        _ => Some(value),
     }
 }
 
@@ -73,22 +70,22 @@ fn mode_from(mark: u64, threshold: u64, malformed: u64) -> Mode
 }
 
 #[tactic(auto, unfolding(crate::specs::Blocks::last_read))]
-fn last_from(known: u64, number: u64) -> LastListed
+fn last_from(known: u64, number: u64) -> Option<u32>
     ensures { result ≡ last_read known number }
 {
     match known {
-        0 => LastListed::Never,
-        _ => LastListed::Number(low32(number)),
+        0 => None,
+        _ => Some(low32(number)),
     }
 }
 
 #[tactic(auto, unfolding(crate::specs::Blocks::tail_read))]
-fn tail_from(known: u64, lsn: u64, number: u64) -> Tail
+fn tail_from(known: u64, lsn: u64, number: u64) -> Option<Hint>
     ensures { result ≡ tail_read known lsn number }
 {
     match known {
-        0 => Tail::Empty,
-        _ => Tail::Hint(Hint {
+        0 => None,
+        _ => Some(Hint {
             lsn: low32(lsn),
             number: low32(number),
             mark: 0,

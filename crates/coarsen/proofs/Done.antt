@@ -1,4 +1,6 @@
 -- The steps of coarsening, put together. Assumes nothing.
+use Rattle.rules.specs.declared.EndState.{EndState}
+use Rattle.std.specs.Prelude.{Option, None, Some, ℕ}
 use mathlib.Core.Path.{◌≡◌, refl, sym, ap, ◌∙◌}
 use mathlib.Core.Bool.{cond}
 use mathlib.Core.List.{List, ◌++◌}
@@ -11,10 +13,6 @@ use Rattle.field.specs.Records.{Bytes, records, bytes_of}
 use Rattle.field.proofs.Records.{records_length, take_records}
 use Rattle.field.proofs.Format.{Layout, written, bytes_of_length}
 use Rattle.rules.specs.declared.AreaIndex.{AreaIndex}
-use Rattle.rules.specs.declared.End.{End}
-use Rattle.rules.specs.declared.End.TheVariants.{Open, Closed}
-use Rattle.rules.specs.declared.ImageId.{ImageId}
-use Rattle.rules.specs.declared.ImageId.TheVariants.{Anonymous, Id}
 use Rattle.rules.specs.Tests.{Accepted, after}
 use Rattle.rules.proofs.Tests.{test}
 use Rattle.rules.specs.Values.{Index, max_malformed}
@@ -23,7 +21,7 @@ use Rattle.rules_coarsen.specs.Coarse.{every_nth, coarse_parts, unstored, coarse
 use Rattle.laws.proofs.Layouts.{lsn_layout, confirmation_layout}
 use Rattle.tables.proofs.Kept.{kept_layout}
 use Rattle.tables.specs.Tables.{checkpoints_in, frames_in, parts_in, lsns_in, decode_kept}
-use Rattle.tables.specs.Index.{end_in, end_from, id_in, id_from, Tables, tables, room_of, index_in, numbers_from, tables_from, refusal, MadeOut, made_out, made_out_of}
+use Rattle.tables.specs.Index.{Tables, tables, room_of, index_in, numbers_from, tables_from, refusal, MadeOut, made_out, made_out_of}
 use Rattle.rules.specs.declared.Made.TheVariants as made
 use Rattle.parts.specs.declared.Counts.{Counts}
 use Rattle.parts.specs.Parts.{part_tables, Held, held, held_from}
@@ -37,15 +35,13 @@ ends : {r r' : AreaIndex} {a a' b b' c c' d d' e e' f f' g g' : List ℕ} → r 
     → out_index r (tables a b c d e f g) ≡ out_index r' (tables a' b' c' d' e' f' g')
 ends p q0 q1 q2 q3 q4 q5 q6 = λ i. out_index (p i) (tables (q0 i) (q1 i) (q2 i) (q3 i) (q4 i) (q5 i) (q6 i))
 
-end_back : (e : End) → e ≡ end_from (end_in e)
-unfolding end_from end_in
-end_back Open = refl
-end_back (Closed e) = refl
+end_back : (e : Option EndState) → e ≡ e
+end_back None = refl
+end_back (Some e) = refl
 
-id_back : (i : ImageId) → i ≡ id_from (id_in i)
-unfolding id_from id_in
-id_back Anonymous = refl
-id_back (Id v) = refl
+id_back : (i : Option ℕ) → i ≡ i
+id_back None = refl
+id_back (Some v) = refl
 
 -- the first n records of a table, copied over another
 copied : {A : Type 0} {w : ℕ} {d : List ℕ → A} {e : A → List ℕ} {F : A → Type 0} (l : Layout w d e F) (n : ℕ) (t o : List ℕ) {o' : List ℕ} → Bytes t → n * w ≤ length t

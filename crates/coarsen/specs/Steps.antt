@@ -6,7 +6,7 @@ use Rattle.rules.specs.Values.{max_interval, max_malformed, counted, frontier_of
 use Rattle.rules.specs.Questions.{question3}
 use Rattle.rules_coarsen.specs.Coarse.{every_nth, question47, coarser, coarse_fits}
 use Rattle.tables.specs.Tables.{checkpoints_in, lsns_in, parts_in}
-use Rattle.tables.specs.Index.{end_in, Tables, room_of, index_in, numbers_from, tables_from, MadeOut, made_out}
+use Rattle.tables.specs.Index.{Tables, room_of, index_in, numbers_from, tables_from, MadeOut, made_out}
 use Rattle.rules.specs.declared.Made.TheVariants as made
 use Rattle.index.specs.Steps.{Passes}
 use Rattle.parts.specs.declared.Counts.{Counts}
@@ -30,7 +30,7 @@ pub record Keeps (n m r : ℕ) (t : List ℕ) : Type 0 where
 
 -- how many malformed LSNs the coarser list counts
 abbrev pub counted_in : AreaIndex → ℕ → List ℕ → ℕ
-counted_in x r cs = counted (every_nth r (checkpoints_in x.checkpoints cs)) (end_in x.ending)
+counted_in x r cs = counted (every_nth r (checkpoints_in x.checkpoints cs)) x.ending
 
 -- 48 by a count, the malformed LSNs, and the new frontier
 unfoldable pub last_below : ℕ → List ℕ → ℕ → Bool
@@ -48,7 +48,7 @@ pub record Widens (x : AreaIndex) (k : ℕ) (cs ms : List ℕ) : Type 0 where
 unfoldable pub fits_in : AreaIndex → ℕ → List ℕ → List ℕ → Bool
 fits_in x k cs ms =
     last_below (counted_in x (k / x.interval) cs) (lsns_in x.malformed ms)
-    (frontier_of x.area k (kept_of x.checkpoints (k / x.interval)) (end_in x.ending))
+    (frontier_of x.area k (kept_of x.checkpoints (k / x.interval)) x.ending)
 
 -- ---- what is written
 -- and there is space for those that are kept

@@ -1,6 +1,5 @@
 -- keep_confirmation on an index in its tables.
-use Rattle.std.specs.Prelude.{ℕ}
-use Rattle.std.proofs.Math.Option.{Option, none, some}
+use Rattle.std.specs.Prelude.{ℕ, Option, None, Some}
 use Rattle.rules.specs.declared.AreaIndex.{AreaIndex}
 use Rattle.rules.specs.declared.Confirmation.{Confirmation}
 use Rattle.rules.specs.declared.Kept.{Kept}
@@ -24,8 +23,8 @@ kept_out r t = record { answer = r; tables = t }
 -- where nothing is kept, and with a refusal, no table changes; a list is put into them
 unfoldable pub kept_out_of : Tables → Answer (Option Index) → KeptOut
 kept_out_of t (Refused n) = kept_out (kept.Refused n) t
-kept_out_of t (Accepted none) = kept_out kept.Nothing t
-kept_out_of t (Accepted (some y)) = kept_out (kept.Index (numbers_from y)) (tables_from y t)
+kept_out_of t (Accepted None) = kept_out kept.Nothing t
+kept_out_of t (Accepted (Some y)) = kept_out (kept.Index (numbers_from y)) (tables_from y t)
 
 unfoldable pub keep_in : AreaIndex → Tables → Confirmation → KeptOut
 keep_in x t c = kept_out_of t (kinded (kinds_in x t) (keep_confirmation (room_of t) (index_in x t) c))

@@ -1,6 +1,5 @@
 -- What loading a disc file, its contents table and its sizes answer, and what the tables of both slots hold afterwards.
-use Rattle.std.specs.Prelude.{ℕ, List, [], ◌∷◌, Bool, cond, ◌&&◌}
-use Rattle.std.proofs.Math.Option.{Option, none, some}
+use Rattle.std.specs.Prelude.{ℕ, List, [], ◌∷◌, Bool, cond, ◌&&◌, Option, None, Some}
 use Rattle.rules.specs.declared.Area.{Area}
 use Rattle.rules_disc.specs.declared.Listed.{Listed}
 use Rattle.rules_disc.specs.declared.Listed.TheVariants as listed
@@ -32,12 +31,12 @@ disc_out r t u = record { answer = r; slot0 = t; slot1 = u }
 
 -- the answer for a slot: an absent list leaves its tables as they were
 unfoldable pub listed_from : Option Index → Listed
-listed_from none = listed.Absent
-listed_from (some x) = listed.Index (numbers_from x)
+listed_from None = listed.Absent
+listed_from (Some x) = listed.Index (numbers_from x)
 
 unfoldable pub tables_with : Option Index → Tables → Tables
-tables_with none t = t
-tables_with (some x) t = tables_from x t
+tables_with None t = t
+tables_with (Some x) t = tables_from x t
 
 -- a refusal changes no table
 unfoldable pub disc_out_of : Tables → Tables → Answer Disc → DiscOut
@@ -50,8 +49,8 @@ unfoldable pub load_disc_in : Area → Area → List ℕ → ℕ → Tables → 
 load_disc_in a0 a1 b limit t u = disc_out_of t u (load_disc (room_of t) (room_of u) a0 a1 b limit)
 
 unfoldable pub place_from : Option Entry → SlotEntry
-place_from none = Absent
-place_from (some e) = At e
+place_from None = Absent
+place_from (Some e) = At e
 
 -- the entries es, which are right where ok holds
 unfoldable pub contents_from : Bool → List Entry → Contents
@@ -68,8 +67,8 @@ pub record DiscSizes : Type 0 where
 
 -- for a body and a load limit: 1, then 20 to 38, as loading asks them
 unfoldable pub body_sizes : Area → ℕ → Option (List ℕ) → Answer (Option TableSizes)
-body_sizes a limit none = Accepted none
-body_sizes a limit (some b) = bind (file_sizes a b limit) (λ s. Accepted (some s))
+body_sizes a limit None = Accepted None
+body_sizes a limit (Some b) = bind (file_sizes a b limit) (λ s. Accepted (Some s))
 
 -- the first failing body's own number, or the sizes of both
 unfoldable pub both_sizes : Answer (Option TableSizes) → Answer (Option TableSizes) → Answer DiscSizes
@@ -83,8 +82,8 @@ disc_sizes a0 a1 b limit =
 
 -- ---- the answers
 unfoldable pub slot_sizes_of : SlotSizes → Option TableSizes
-slot_sizes_of slot.Absent = none
-slot_sizes_of (slot.Sizes s) = some s
+slot_sizes_of slot.Absent = None
+slot_sizes_of (slot.Sizes s) = Some s
 
 unfoldable pub disc_sized_of : DiscSized → Answer DiscSizes
 disc_sized_of (disc.Refused n) = Refused n

@@ -1,6 +1,5 @@
 -- What is asked of a disc file, and what the answers say.
-use Rattle.std.proofs.Math.Option.{Option, none, some}
-use Rattle.std.specs.Prelude.{◌≡◌, true, ◌&&◌, List, ℕ, ◌+◌, ◌≤◌, length, take, drop}
+use Rattle.std.specs.Prelude.{◌≡◌, true, ◌&&◌, List, ℕ, ◌+◌, ◌≤◌, length, take, drop, Option, None, Some}
 use Rattle.rules_disc.specs.declared.Entry.{Entry}
 use Rattle.rules_disc.specs.declared.SlotEntry.{SlotEntry}
 use Rattle.rules_disc.specs.declared.SlotEntry.TheVariants.{Absent, At}
@@ -24,8 +23,8 @@ use Rattle.disc_load.specs.declared.ask.Decided.TheVariants as decided
 use Rattle.disc_load.specs.DiscLoad.{slot_sizes_of}
 
 unfoldable pub entry_in : SlotEntry → Option Entry
-entry_in Absent = none
-entry_in (At e) = some e
+entry_in Absent = None
+entry_in (At e) = Some e
 
 -- inside the file b
 abbrev pub Inside : List ℕ → SlotEntry → Type 0
@@ -56,8 +55,8 @@ BodyLoads a b limit t (body.At e found y) = (e.offset + e.len ≤ length b) × L
 
 -- its limited list
 unfoldable pub held_in : Area → List ℕ → ℕ → Body → Option Index
-held_in a b limit body.Absent = none
-held_in a b limit (body.At e found y) = some (limited_in a (bytes_at b e) limit)
+held_in a b limit body.Absent = None
+held_in a b limit (body.At e found y) = Some (limited_in a (bytes_at b e) limit)
 
 -- what the answer of the questions says of the body at the place p
 pub record BodyDecision (a : Area) (b : List ℕ) (limit : ℕ) (t : Tables) (p : SlotEntry) (r : Asked) : Type 0 where

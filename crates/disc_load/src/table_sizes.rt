@@ -1,6 +1,5 @@
 // How long the tables of both lists of a disc file have to be.
-ghost use Rattle.std.specs.Prelude.{◌≡◌};
-ghost use Rattle.std.proofs.Math.Option.{some};
+ghost use Rattle.std.specs.Prelude.{◌≡◌, Some};
 ghost use Rattle.rules.specs.Tests.{Accepted, bind};
 ghost use Rattle.rules_disc.specs.Disc.{body_at};
 ghost use Rattle.disc_load.specs.Steps.{entry_in, Inside, body_sized_of};
@@ -14,7 +13,7 @@ use rules_disc::{BodySized, Contents, DiscSized, SlotEntry, SlotSizes};
 use sizes::file_sizes;
 
 fn body_sized(sized: Sized) -> BodySized
-    ensures { body_sized_of result ≡ bind (sized_of sized) (λ s. Accepted (some s)) }
+    ensures { body_sized_of result ≡ bind (sized_of sized) (λ s. Accepted (Some s)) }
 {
     match sized {
         Sized::Refused(n) => BodySized::Refused(n),

@@ -1,10 +1,8 @@
 -- What is asked of a set, and what the answers say.
-use Rattle.std.specs.Prelude.{ℕ, ◌+◌, ◌*◌, ◌/◌, ◌<◌, ◌≤◌, ◌≡◌, Bool, true, false, ◌&&◌, cond, List, [], ◌∷◌, map, eqb, leb, length, take, drop, get_or, replicate}
+use Rattle.std.specs.Prelude.{ℕ, ◌+◌, ◌*◌, ◌/◌, ◌<◌, ◌≤◌, ◌≡◌, Bool, true, false, ◌&&◌, cond, List, [], ◌∷◌, map, eqb, leb, length, take, drop, get_or, replicate, None}
 use Rattle.rules.specs.declared.Area.{Area}
 use Rattle.rules.specs.declared.AreaIndex.{AreaIndex}
-use Rattle.rules.specs.declared.End.TheVariants.{Open}
 use Rattle.rules.specs.declared.Fingerprint.TheVariants.{Unknown}
-use Rattle.rules.specs.declared.ImageId.TheVariants.{Anonymous}
 use Rattle.rules.specs.Tests.{Refused, Accepted, after}
 use Rattle.rules.specs.Values.{Index}
 use Rattle.rules_drawer.specs.Drawer.{max_files, lengths_in, question44, load_files, first_of, pairs_number, merge_all}
@@ -34,9 +32,9 @@ blank =
       malformed = 0;
       hints = 0;
       confirmed = 0;
-      ending = Open;
+      ending = None;
       fingerprint = Unknown;
-      image = Anonymous;
+      image = None;
     }
 
 abbrev pub no_file : Entry

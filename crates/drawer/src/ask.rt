@@ -9,7 +9,7 @@ use index::refuses;
 use inspect::Found;
 use load::{Decided, decide};
 use merge::questions::join_number;
-use rules::{Area, AreaIndex, AreaKey, End, Fingerprint, HEADER, ImageId};
+use rules::{Area, AreaIndex, AreaKey, Fingerprint, HEADER};
 use tables::behind;
 
 // The most files of one set.
@@ -66,9 +66,9 @@ fn blank_index() -> AreaIndex
         malformed: 0,
         hints: 0,
         confirmed: 0,
-        ending: End::Open,
+        ending: None,
         fingerprint: Fingerprint::Unknown,
-        image: ImageId::Anonymous,
+        image: None,
     }
 }
 

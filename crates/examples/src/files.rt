@@ -1,7 +1,7 @@
 // Examples of loading and saving.
 use crate::lines;
 use crate::tally::Tally;
-use rules::{Area, AreaIndex, AreaKey, End, Fingerprint, ImageId, Made};
+use rules::{Area, AreaIndex, AreaKey, Fingerprint, Made};
 use save::layout::saved_length;
 
 // An area without sectors.
@@ -62,9 +62,9 @@ fn length_of(most: u32) -> u64 {
         malformed: 0,
         hints: 0,
         confirmed: 0,
-        ending: End::Open,
+        ending: None,
         fingerprint: Fingerprint::Unknown,
-        image: ImageId::Anonymous,
+        image: None,
     };
     saved_length(x, &none)
 }

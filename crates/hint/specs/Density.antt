@@ -1,6 +1,5 @@
 -- What the functions of hintdensity need of each other.
-use Rattle.std.specs.Prelude.{ℕ, ◌-◌, cond, List, get_or, nat_le, slice_index_or}
-use Rattle.std.proofs.Math.Option.{Option, some}
+use Rattle.std.specs.Prelude.{ℕ, ◌-◌, cond, List, get_or, nat_le, slice_index_or, Option, Some}
 use Rattle.rules.specs.declared.Hint.{Hint}
 use Rattle.rules_jump.specs.declared.HintEnd.{HintEnd}
 use Rattle.rules_jump.specs.declared.HintEnd.TheVariants.{Average}
@@ -22,7 +21,7 @@ between a b = record { sectors = b.lsn - a.lsn; frames = b.number - a.number }
 -- between the hint at i and the run's last, the hint itself where there is no run
 unfoldable pub local_to : List Hint → ℕ → Hint → Option rules.Density
 local_to hs i last =
-    cond (nat_le 3 (last.number - (get_or hs i no_hint).number)) (some (between (slice_index_or hs i no_hint) last)) (density_before hs i)
+    cond (nat_le 3 (last.number - (get_or hs i no_hint).number)) (Some (between (slice_index_or hs i no_hint) last)) (density_before hs i)
 
 -- a density, and the name of the rule that gave it
 pub record Chosen : Type 0 where

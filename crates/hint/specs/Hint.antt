@@ -1,6 +1,5 @@
 -- What hint answers: the call of the rules on the list that the tables hold.
-use Rattle.std.specs.Prelude.{ℕ}
-use Rattle.std.proofs.Math.Option.{Option, none, some}
+use Rattle.std.specs.Prelude.{ℕ, Option, None, Some}
 use Rattle.rules.specs.declared.AreaIndex.{AreaIndex}
 use Rattle.rules.specs.declared.Hinted.{Hinted}
 use Rattle.rules_jump.specs.declared.NamedHint as declared
@@ -19,8 +18,8 @@ named_of h = record { hinted = hinted_of h.hint; start = h.start; end = h.end }
 
 unfoldable pub answer_of : HintAnswer → Answer (Option names.NamedHint)
 answer_of (answer.Refused n) = Refused n
-answer_of answer.Nothing = Accepted none
-answer_of (answer.Hinted h) = Accepted (some (named_of h))
+answer_of answer.Nothing = Accepted None
+answer_of (answer.Hinted h) = Accepted (Some (named_of h))
 
 unfoldable pub hint_in : AreaIndex → Tables → ℕ → ℕ → ℕ → Answer (Option names.NamedHint)
 hint_in x t first end playtime = kinded (kinds_in x t) (names.named_hint (room_of t) (index_in x t) first end playtime)

@@ -1,6 +1,5 @@
 -- What the functions of hint need of each other.
-use Rattle.std.specs.Prelude.{ℕ, suc, ◌+◌, ◌-◌, ◌*◌, ◌≤◌, Bool, true, cond, ◌&&◌, ◌||◌, List, length, drop, nat_le, slice_index_or}
-use Rattle.std.proofs.Math.Option.{Option, none, some}
+use Rattle.std.specs.Prelude.{ℕ, suc, ◌+◌, ◌-◌, ◌*◌, ◌≤◌, Bool, true, cond, ◌&&◌, ◌||◌, List, length, drop, nat_le, slice_index_or, Option, None, Some}
 use Rattle.std.specs.declared.option.Option as code
 use Rattle.std.specs.declared.option.Option.TheVariants.{None, Some}
 use Rattle.rules.specs.declared.Confirmation.{Confirmation}
@@ -27,13 +26,13 @@ candidate checked any cs first h = near first h && (any || (checked && confirmed
 
 -- a place or none, in the words of the rules
 abbrev pub place_of : code.Option ℕ → Option ℕ
-place_of None = none
-place_of (Some i) = some i
+place_of None = None
+place_of (Some i) = Some i
 
 -- hint k is the larger by (number, LSN), or the first
 unfoldable pub larger_than : List Hint → Option ℕ → ℕ → Bool
-larger_than hs none k = true
-larger_than hs (some i) k = larger hs i k
+larger_than hs None k = true
+larger_than hs (Some i) k = larger hs i k
 
 -- of the first n hints the candidate with the largest (number, LSN)
 unfoldable pub largest_in : Bool → Bool → List Hint → List Confirmation → ℕ → ℕ → Option ℕ
@@ -48,8 +47,8 @@ pub record HintReads (x : AreaIndex) (hs cs : List ℕ) : Type 0 where
 
 -- the upper end through a later hint, if at most 64 frames past end; 0 where there is none
 unfoldable pub later_end : ℕ → Option Hint → ℕ
-later_end end none = 0
-later_end end (some s) = cond (nat_le (s.number - end) hint_reach) (s.lsn + 1) 0
+later_end end None = 0
+later_end end (Some s) = cond (nat_le (s.number - end) hint_reach) (s.lsn + 1) 0
 
 -- the read from the hint at i on
 unfoldable pub hinted_from : Area → List Hint → ℕ → ℕ → ℕ → rules.Hinted

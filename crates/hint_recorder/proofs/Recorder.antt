@@ -1,4 +1,5 @@
 -- The hint recorder in its table. Assumes nothing.
+use Rattle.std.specs.Prelude.{Option, ℕ, None, Some}
 use mathlib.Core.Path.{◌≡◌, refl, sym, ◌∙◌}
 use mathlib.Core.Bool.{Bool, true, false, not}
 use mathlib.Core.List.{List, [], ◌∷◌, ◌++◌}
@@ -17,10 +18,6 @@ use Rattle.rules.specs.declared.First.{First}
 use Rattle.rules.specs.declared.First.TheVariants as first
 use Rattle.rules.specs.declared.Hint.{Hint}
 use Rattle.rules.specs.declared.HintRecorder.{HintRecorder}
-use Rattle.rules.specs.declared.LastListed.{LastListed}
-use Rattle.rules.specs.declared.LastListed.TheVariants.{Never, Number}
-use Rattle.rules.specs.declared.Tail.{Tail}
-use Rattle.rules.specs.declared.Tail.TheVariants as tail
 use Rattle.rules.specs.declared.TimeBytes.{TimeBytes}
 use Rattle.rules.specs.Tests.{each, ask, first_no, after}
 use Rattle.rules.specs.File.{decode_hint, encode_hint, over}
@@ -31,7 +28,7 @@ use Rattle.laws.proofs.Layouts.{hint_layout}
 use Rattle.tables.specs.Tables.{hints_in}
 use Rattle.tables.specs.Index.{Tables, refusal}
 use Rattle.index.proofs.Four.{Later, kinded_index}
-use Rattle.tables.specs.HintRecorder.{last_in, tail_in, last_from, tail_from, hint_recorder_in}
+use Rattle.tables.specs.HintRecorder.{hint_recorder_in}
 use Rattle.hint_recorder.specs.Steps.{tailless, emptied, Roomy, Steps, refusal_of, flushed_record, hint_seen}
 use Rattle.rules.specs.declared.Saw.TheVariants as saw
 use Rattle.rules.specs.declared.Seen.TheVariants as seen
@@ -40,15 +37,13 @@ use Rattle.rules.specs.declared.Created.TheVariants as created
 use Rattle.hint_recorder.specs.HintRecorder.{seen_out, seen_out_of, saw_out, saw_out_of, see_in, flush_in}
 use Rattle.hint_recorder.specs.HintRecorder.{taken_from, take_in, created_from, created_in}
 
-last_back : (l : LastListed) → last_from (last_in l) ≡ l
-unfolding last_from last_in
-last_back Never = refl
-last_back (Number n) = refl
+last_back : (l : Option ℕ) → l ≡ l
+last_back None = refl
+last_back (Some n) = refl
 
-tail_back : (u : Tail) → tail_from (tail_in u) ≡ u
-unfolding tail_from tail_in
-tail_back tail.Empty = refl
-tail_back (tail.Hint h) = refl
+tail_back : (u : Option Hint) → u ≡ u
+tail_back None = refl
+tail_back (Some h) = refl
 
 -- ---- 3 and 4
 pub short_list : (r : HintRecorder) (t : List ℕ) → length t / 8 < 65536 → 3 ≡ refusal_of r t
@@ -92,17 +87,17 @@ module _ (r : HintRecorder) (t : List ℕ) (p : Roomy r t) (b : Bytes t) where
       sym (rw (bytes_records hint_layout r.count t b fits, length-take-le (r.count * 8) t fits)
       (take-append-drop (r.count * 8) t))
 
-  pub step_none : (l : LastListed) (u : Tail)
+  pub step_none : (l : Option ℕ) (u : Option Hint)
       → Steps (record { spacing = r.spacing; last = l; tail = u; count = r.count })
-      (record { spacing = r.spacing; last = last_in l; tail = tail_in u; list = hs }) t t
+      (record { spacing = r.spacing; last = l; tail = u; list = hs }) t t
   step_none l u =
       record { numbers = rw (records_length 8 decode_hint r.count t, last_back l, tail_back u); list = list_same }
 
   -- a hint at the end of the list
-  pub step_more : {new : List ℕ} (l : LastListed) (u : Tail) (h : Hint) → r.count < 65536
+  pub step_more : {new : List ℕ} (l : Option ℕ) (u : Option Hint) (h : Hint) → r.count < 65536
       → new ≡ sets t (r.count * 8) (encode_hint h)
       → Steps (record { spacing = r.spacing; last = l; tail = u; count = r.count + 1 })
-      (record { spacing = r.spacing; last = last_in l; tail = tail_in u; list = hs ++ (h ∷ []) }) t new
+      (record { spacing = r.spacing; last = l; tail = u; list = hs ++ (h ∷ []) }) t new
   step_more l u h few e =
       let k : length (encode_hint h) ≡ 8 = hint_layout.size h in
       let a = p.room in
@@ -126,26 +121,23 @@ has_room {q} n e h = ltb-true n 65536 (sym e ∙ not-false q h)
 
 module _ (r : HintRecorder) (t : List ℕ) (p : Roomy r t) (b : Bytes t) where
   module _ (h : Hint) where
-    pub hint_listed : {k : HintRecorder} {new : List ℕ} → true ≡ spaced (last_in r.last) r.spacing h.number
+    pub hint_listed : {k : HintRecorder} {new : List ℕ} → true ≡ spaced r.last r.spacing h.number
         → true ≡ ltb r.count 65536 → new ≡ sets t (r.count * 8) (encode_hint h)
-        → k ≡ tailless r.spacing (Number h.number) (r.count + 1)
+        → k ≡ tailless r.spacing (Some h.number) (r.count + 1)
         → Steps k (hint_seen (hint_recorder_in r t) h) t new
-    unfolding last_in tail_in
     hint_listed e f w v =
         rw (records_length 8 decode_hint r.count t, ← e, ← f, v)
-        (step_more r t p b (Number h.number) tail.Empty h (ltb-true r.count 65536 (sym f)) w)
+        (step_more r t p b (Some h.number) None h (ltb-true r.count 65536 (sym f)) w)
 
     abbrev kept : HintRecorder
-    kept = record { spacing = r.spacing; last = r.last; tail = tail.Hint h; count = r.count }
+    kept = record { spacing = r.spacing; last = r.last; tail = Some h; count = r.count }
 
-    pub hint_unspaced : false ≡ spaced (last_in r.last) r.spacing h.number → Steps kept (hint_seen (hint_recorder_in r t) h) t t
-    unfolding tail_in
-    hint_unspaced e = rw (← e) (step_none r t p b r.last (tail.Hint h))
+    pub hint_unspaced : false ≡ spaced r.last r.spacing h.number → Steps kept (hint_seen (hint_recorder_in r t) h) t t
+    hint_unspaced e = rw (← e) (step_none r t p b r.last (Some h))
 
-    pub hint_full : true ≡ spaced (last_in r.last) r.spacing h.number → false ≡ ltb r.count 65536
+    pub hint_full : true ≡ spaced r.last r.spacing h.number → false ≡ ltb r.count 65536
         → Steps kept (hint_seen (hint_recorder_in r t) h) t t
-    unfolding tail_in
-    hint_full e f = rw (records_length 8 decode_hint r.count t, ← e, ← f) (step_none r t p b r.last (tail.Hint h))
+    hint_full e f = rw (records_length 8 decode_hint r.count t, ← e, ← f) (step_none r t p b r.last (Some h))
 
   pub same_step : Steps r (hint_recorder_in r t) t t
   same_step = step_none r t p b r.last r.tail
@@ -168,24 +160,24 @@ module _ (r : HintRecorder) (t : List ℕ) (p : Roomy r t) (b : Bytes t) where
   seen_number lsn e h s = rw (e, le-ltb 4294967295 lsn h) s
 
   -- ---- flush
-  pub flushed_none : {k : HintRecorder} → r.tail ≡ tail.Empty → k ≡ tailless r.spacing r.last r.count
+  pub flushed_none : {k : HintRecorder} → r.tail ≡ None → k ≡ tailless r.spacing r.last r.count
       → Steps k (flushed_record (hint_recorder_in r t)) t t
-  unfolding flushed_list tail_in
-  flushed_none e v = rw (e, v) (step_none r t p b r.last tail.Empty)
+  unfolding flushed_list
+  flushed_none e v = rw (e, v) (step_none r t p b r.last None)
 
-  module _ {q : Bool} {h : Hint} (e : r.tail ≡ tail.Hint h) (g : q ≡ ltb r.count 65536) where
+  module _ {q : Bool} {h : Hint} (e : r.tail ≡ Some h) (g : q ≡ ltb r.count 65536) where
     pub flushed_full : {k : HintRecorder} → not q ≡ true → k ≡ tailless r.spacing r.last r.count
         → Steps k (flushed_record (hint_recorder_in r t)) t t
-    unfolding flushed_list tail_in
+    unfolding flushed_list
     flushed_full l v =
-        rw (e, v, records_length 8 decode_hint r.count t, ← g, not-true q l) (step_none r t p b r.last tail.Empty)
+        rw (e, v, records_length 8 decode_hint r.count t, ← g, not-true q l) (step_none r t p b r.last None)
 
     pub flushed_listed : {k : HintRecorder} {new : List ℕ} → not q ≡ false → new ≡ sets t (r.count * 8) (encode_hint h)
         → k ≡ tailless r.spacing r.last (r.count + 1) → Steps k (flushed_record (hint_recorder_in r t)) t new
-    unfolding flushed_list tail_in
+    unfolding flushed_list
     flushed_listed l w v =
         rw (e, v, records_length 8 decode_hint r.count t, ← g, not-false q l)
-        (step_more r t p b r.last tail.Empty h (has_room r.count g l) w)
+        (step_more r t p b r.last None h (has_room r.count g l) w)
 
 -- ---- the calls
 module _ (r : HintRecorder) (t : List ℕ) {n : ℕ} (e : n ≡ refusal_of r t) where
@@ -247,8 +239,8 @@ module _ (x : AreaIndex) (t : Tables) {n : ℕ} (e : n ≡ refusal x t) where
         sym (rw (kinded_index x t [] no_later e _, eq-eqb n 0 z, ne_eqb x.spacing 0 g, eq-eqb x.most 0 h))
 
     pub created_yes : (x.spacing ≡ 0 → ⊥) → (x.most ≡ 0 → ⊥)
-        → created.Recorder (record { spacing = x.spacing; last = Never; tail = tail.Empty; count = 0 })
+        → created.Recorder (record { spacing = x.spacing; last = None; tail = None; count = 0 })
         ≡ created_in x t
-    unfolding created_in hint_recorder created_from after first_no last_from tail_from
+    unfolding created_in hint_recorder created_from after first_no
     created_yes g h =
         sym (rw (kinded_index x t [] no_later e _, eq-eqb n 0 z, ne_eqb x.spacing 0 g, ne_eqb x.most 0 h))

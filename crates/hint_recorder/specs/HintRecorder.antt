@@ -1,6 +1,5 @@
 -- What the calls on a hint recorder answer, and its table afterwards.
-use Rattle.std.specs.Prelude.{ℕ, ◌/◌, List, length}
-use Rattle.std.proofs.Math.Option.{Option, none, some}
+use Rattle.std.specs.Prelude.{ℕ, ◌/◌, List, length, Option, None, Some}
 use Rattle.field.specs.Records.{bytes_of}
 use Rattle.rules.specs.declared.AreaIndex.{AreaIndex}
 use Rattle.rules.specs.declared.HintRecorder.{HintRecorder}
@@ -63,8 +62,8 @@ take_in r t = taken_from (take_list (length t / 8) (hint_recorder_in r t))
 
 unfoldable pub created_from : Answer (Option values.HintRecorder) → Created
 created_from (Refused n) = created.Refused n
-created_from (Accepted none) = created.Nothing
-created_from (Accepted (some r)) = created.Recorder (hint_recorder_from r)
+created_from (Accepted None) = created.Nothing
+created_from (Accepted (Some r)) = created.Recorder (hint_recorder_from r)
 
 unfoldable pub created_in : AreaIndex → Tables → Created
 created_in x t = created_from (kinded (kinds_in x t) (hint_recorder (room_of t) (index_in x t)))

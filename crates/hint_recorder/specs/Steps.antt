@@ -1,9 +1,6 @@
 -- What the functions of a hint recorder need of each other.
-use Rattle.std.specs.Prelude.{ℕ, ◌*◌, ◌/◌, ◌≤◌, ◌≡◌, cond, ◌&&◌, List, [], ltb, length}
-use Rattle.std.proofs.Math.Option.{none}
+use Rattle.std.specs.Prelude.{ℕ, ◌*◌, ◌/◌, ◌≤◌, ◌≡◌, cond, ◌&&◌, List, [], ltb, length, None, Option, Some}
 use Rattle.rules.specs.declared.HintRecorder.{HintRecorder}
-use Rattle.rules.specs.declared.LastListed.{LastListed}
-use Rattle.rules.specs.declared.Tail.TheVariants as tail
 use Rattle.field.specs.Records.{bytes_of}
 use Rattle.rules.specs.declared.Hint.{Hint}
 use Rattle.rules.specs.Tests.{first_no}
@@ -15,8 +12,8 @@ use Rattle.rules.specs.Hints.{spaced, listed, tailed, flushed_list}
 use Rattle.tables.specs.HintRecorder.{hint_recorder_in, hint_recorder_from}
 
 -- without a tail
-abbrev pub tailless : ℕ → LastListed → ℕ → HintRecorder
-tailless spacing last count = record { spacing = spacing; last = last; tail = tail.Empty; count = count }
+abbrev pub tailless : ℕ → Option ℕ → ℕ → HintRecorder
+tailless spacing last count = record { spacing = spacing; last = last; tail = None; count = count }
 
 -- without the list
 abbrev pub emptied : HintRecorder → HintRecorder
@@ -38,7 +35,7 @@ pub record Steps (r : HintRecorder) (v : values.HintRecorder) (old new : List �
 
 -- the tail listed under the bound, and cleared
 abbrev pub flushed_record : values.HintRecorder → values.HintRecorder
-flushed_record r = record { spacing = r.spacing; last = r.last; tail = none; list = flushed_list r.tail r.list }
+flushed_record r = record { spacing = r.spacing; last = r.last; tail = None; list = flushed_list r.tail r.list }
 
 -- a record listed, under the bound, or made the tail
 abbrev pub hint_seen : values.HintRecorder → Hint → values.HintRecorder

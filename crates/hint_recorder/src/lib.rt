@@ -13,8 +13,8 @@ ghost use Rattle.hint_recorder.specs.Steps.{refusal_of, Roomy, Steps, flushed_re
 use crate::spacing::{cleared, emptied, has_room, is_spaced};
 use first_record::first_record;
 use rules::{
-    AreaIndex, Created, First, HINT, Hint, HintRecorder, LastListed, MAX_LIST, MAX_U32, Saw, Seen,
-    SeenSector, Tail, Taken, TakenList,
+    AreaIndex, Created, First, HINT, Hint, HintRecorder, MAX_LIST, MAX_U32, Saw, Seen, SeenSector,
+    Taken, TakenList,
 };
 use tables::write_given;
 
@@ -38,12 +38,9 @@ fn list_or_keep(r: HintRecorder, h: Hint, list: &mut [u8]) -> HintRecorder
 {
     if is_spaced(r.last, r.spacing, h.number) && has_room(r.count) {
         write_given(list, r.count as usize, h);
-        return cleared(r.spacing, LastListed::Number(h.number), r.count + 1);
+        return cleared(r.spacing, Some(h.number), r.count + 1);
     }
-    HintRecorder {
-        tail: Tail::Hint(h),
-        ..r
-    }
+    HintRecorder { tail: Some(h), ..r }
 }
 
 // A hint recorder in its step: a struct of this crate, for the form `else { return self; }` (docs/DECISIONS.md).
@@ -95,7 +92,7 @@ fn flushed(r: HintRecorder, list: &mut [u8]) -> HintRecorder
     requires { Roomy r list.old }
     ensures { Steps result (flushed_record (hint_recorder_in r list.old)) list.old list.new }
 {
-    let Tail::Hint(h) = r.tail else {
+    let Some(h) = r.tail else {
         return cleared(r.spacing, r.last, r.count);
     };
     if !has_room(r.count) {
@@ -161,8 +158,8 @@ pub fn hint_recorder(
     }
     Created::Recorder(HintRecorder {
         spacing: x.spacing,
-        last: LastListed::Never,
-        tail: Tail::Empty,
+        last: None,
+        tail: None,
         count: 0,
     })
 }

@@ -2,19 +2,18 @@
 ghost use Rattle.std.specs.Prelude.{◌≡◌, ltb};
 ghost use Rattle.rules.specs.Values.{max_list};
 ghost use Rattle.rules.specs.Hints.{spaced};
-ghost use Rattle.tables.specs.HintRecorder.{last_in};
 ghost use Rattle.hint_recorder.specs.Steps.{tailless, emptied};
 
-use rules::{HintRecorder, LastListed, MAX_LIST, Tail};
+use rules::{HintRecorder, MAX_LIST};
 
 // None was ever listed, or it is at least last + spacing, or below last.
-#[tactic(auto, unfolding(rules::specs::Hints::spaced, tables::specs::HintRecorder::last_in))]
-pub fn is_spaced(last: LastListed, spacing: u32, t: u32) -> bool
-    ensures { result ≡ spaced (last_in last) spacing t }
+#[tactic(auto, unfolding(rules::specs::Hints::spaced))]
+pub fn is_spaced(last: Option<u32>, spacing: u32, t: u32) -> bool
+    ensures { result ≡ spaced last spacing t }
 {
     match last {
-        LastListed::Never => true,
-        LastListed::Number(l) => l.saturating_add(spacing) <= t || t < l,
+        None => true,
+        Some(l) => l.saturating_add(spacing) <= t || t < l,
     }
 }
 
@@ -26,13 +25,13 @@ pub fn has_room(count: u32) -> bool
 }
 
 // A recorder without a tail.
-pub fn cleared(spacing: u32, last: LastListed, count: u32) -> HintRecorder
+pub fn cleared(spacing: u32, last: Option<u32>, count: u32) -> HintRecorder
     ensures { result ≡ tailless spacing last count }
 {
     HintRecorder {
         spacing,
         last,
-        tail: Tail::Empty,
+        tail: None,
         count,
     }
 }

@@ -1,4 +1,6 @@
 -- Frames written into a header table and a store are read back; and so are the numbers of a list. Assumes nothing.
+use Rattle.rules.specs.declared.EndState.{EndState}
+use Rattle.std.specs.Prelude.{Option, None, Some, ℕ}
 use mathlib.Core.Path.{◌≡◌, refl, ◌∙◌}
 use mathlib.Core.List.{List, [], ◌∷◌, ◌++◌, append-nil, append_assoc}
 use Prim.Native.Nat.{ℕ, ◌*◌}
@@ -13,18 +15,14 @@ use Rattle.field.proofs.Format as each
 use Rattle.field.proofs.Fields.{of_fields}
 use Rattle.field.proofs.Records.{records_length}
 use Rattle.rules.specs.declared.AreaIndex.{AreaIndex}
-use Rattle.rules.specs.declared.End.{End}
-use Rattle.rules.specs.declared.End.TheVariants.{Open, Closed}
 use Rattle.rules.specs.declared.Fingerprint.{Fingerprint}
-use Rattle.rules.specs.declared.ImageId.{ImageId}
-use Rattle.rules.specs.declared.ImageId.TheVariants.{Anonymous, Id}
 use Rattle.rules.specs.Values.{Frame}
 use Rattle.rules.specs.File.{encode_frame_header, decode_checkpoint, decode_held, decode_lsn, decode_confirmation}
 use Rattle.laws.proofs.Length.{length_each}
 use Rattle.tables.specs.declared.FrameHeader.{FrameHeader}
 use Rattle.tables.specs.Tables.{decode_kept, decode_header, headers_in, frames_of, stretch}
 use Rattle.tables.proofs.Frames.{stretch_within, frames_length}
-use Rattle.tables.specs.Index.{Tables, index_in, numbers_from, store_of, end_in, id_in, end_from, id_from}
+use Rattle.tables.specs.Index.{Tables, index_in, numbers_from, store_of}
 
 -- ---- frames: start and length of one
 abbrev pub header_of : Frame → FrameHeader
@@ -96,15 +94,13 @@ with_print x f =
       image = x.image;
     }
 
-end_back : (e : End) → end_from (end_in e) ≡ e
-unfolding end_from end_in
-end_back Open = refl
-end_back (Closed e) = refl
+end_back : (e : Option EndState) → e ≡ e
+end_back None = refl
+end_back (Some e) = refl
 
-id_back : (i : ImageId) → id_from (id_in i) ≡ i
-unfolding id_from id_in
-id_back Anonymous = refl
-id_back (Id v) = refl
+id_back : (i : Option ℕ) → i ≡ i
+id_back None = refl
+id_back (Some v) = refl
 
 -- the numbers of a value that numbers and tables stand for, with another fingerprint
 pub numbers_with : (x : AreaIndex) (t : Tables) (f : Fingerprint)

@@ -19,7 +19,7 @@ use Rattle.laws.proofs.scans.Parts.{frames_used}
 use Rattle.laws.proofs.Facts.{scan_ok→}
 use Rattle.tables.specs.Tables.{decode_header, headers_in, frames_in, decode_kept, kept_in, confirmations_in}
 use Rattle.tables.proofs.Frames.{frames_length}
-use Rattle.tables.specs.Index.{Tables, room_of, index_in, kinds_ok, kinds_in, kinded_number, refusal, three, room_in, end_in, hint_room}
+use Rattle.tables.specs.Index.{Tables, room_of, index_in, kinds_ok, kinds_in, kinded_number, refusal, three, room_in, hint_room}
 use Rattle.index.specs.Steps.{Roomy, Long, Passes, held_question4, sections_in, scan_in, hinting_in, sections_ok, hint_counts}
 use Rattle.index.specs.Index.{scan_space}
 use Rattle.index.proofs.Four.{one_bits}
@@ -87,7 +87,7 @@ long_by whole r e c = long (space r) whole (rw e at c)
 -- counts first, then sections
 pub scan_is : (x : AreaIndex) (t : Tables)
     → scan_in x t
-    ≡ (counts_ok (boundaries x.area x.interval) x.checkpoints (is_some (end_in x.ending)) x.frames x.parts x.malformed
+    ≡ (counts_ok (boundaries x.area x.interval) x.checkpoints (is_some x.ending) x.frames x.parts x.malformed
     && sections_in x t)
 unfolding scan_in sections_in scan_ok sections_ok all
 scan_is x t =
@@ -144,8 +144,8 @@ pub sections_is : (x : AreaIndex) (t : Tables)
     → sections_in x t
     ≡ (checkpoints_ok x.interval 0 (index_in x t).scan.checkpoints
     && (held_ok x.area x.interval x.budget 0 (index_in x t).scan.checkpoints (index_in x t).scan.frames (index_in x t).scan.parts
-    && (ending_ok x.area (index_in x t).scan.checkpoints (end_in x.ending)
-    && malformed_ok x.area (frontier_of x.area x.interval x.checkpoints (end_in x.ending)) (counted (index_in x t).scan.checkpoints (end_in x.ending)) (index_in x t).scan.malformed)))
+    && (ending_ok x.area (index_in x t).scan.checkpoints x.ending
+    && malformed_ok x.area (frontier_of x.area x.interval x.checkpoints x.ending) (counted (index_in x t).scan.checkpoints x.ending) (index_in x t).scan.malformed)))
 unfolding sections_in sections_ok all
 sections_is x t = rw (records_length 24 decode_checkpoint x.checkpoints t.checkpoints) (simp and-true)
 
@@ -198,7 +198,7 @@ pub checkpoints_hold : {x : AreaIndex} {t : Tables} → Passes x t → checkpoin
 unfolding sections_in sections_ok
 checkpoints_hold {x} {t} p =
     let s : sections_in x t ≡ true =
-    second (counts_ok (boundaries x.area x.interval) x.checkpoints (is_some (end_in x.ending)) x.frames x.parts x.malformed) (sections_in x t)
+    second (counts_ok (boundaries x.area x.interval) x.checkpoints (is_some x.ending) x.frames x.parts x.malformed) (sections_in x t)
     (sym (scan_is x t) ∙ scan_holds p) in
     test _ s 0
 

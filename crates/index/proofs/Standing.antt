@@ -1,8 +1,8 @@
 -- A list put into its tables: it stands there, its kinds are 0 or 1, and the tables keep their lengths. Assumes nothing.
+use Rattle.std.specs.Prelude.{Option, None, Some}
 use mathlib.Core.Path.{◌≡◌, refl, ap, ◌∙◌}
 use mathlib.Core.Bool.{true}
 use mathlib.Core.List.{List, ◌++◌, append_assoc}
-use mathlib.Core.Option.{Option, none, some}
 use Prim.Native.Nat.{ℕ, ◌+◌, ◌-◌, ◌*◌, ◌/◌, ◌≤◌}
 use native.Mathlib.Omega.{arith}
 use borrow.Author.Tests.{leb-true, ltb-true, le-leb}
@@ -31,19 +31,17 @@ use Rattle.laws.proofs.Facts.{Facts, facts}
 use Rattle.laws.proofs.Header.{scan_counts, few_boundaries}
 use Rattle.tables.specs.Tables.{parts_in, encode_kept}
 use Rattle.tables.proofs.Kept.{KeptFits, kept_layout}
-use Rattle.tables.specs.Index.{Tables, room_of, index_in, kinds_ok, kinds_in, numbers_from, store_of, tables_from, tables_cleared, end_in, id_in, end_from, id_from}
+use Rattle.tables.specs.Index.{Tables, room_of, index_in, kinds_ok, kinds_in, numbers_from, store_of, tables_from, tables_cleared}
 use Rattle.index.proofs.Back.{FrameFits, frames_back, header_length}
 use Rattle.index.proofs.Store.{store_length}
 
-ending_back : (o : Option EndState) → end_in (end_from o) ≡ o
-unfolding end_in end_from
-ending_back none = refl
-ending_back (some e) = refl
+ending_back : (o : Option EndState) → o ≡ o
+ending_back None = refl
+ending_back (Some e) = refl
 
-image_back : (o : Option ℕ) → id_in (id_from o) ≡ o
-unfolding id_in id_from
-image_back none = refl
-image_back (some v) = refl
+image_back : (o : Option ℕ) → o ≡ o
+image_back None = refl
+image_back (Some v) = refl
 
 -- ---- what fits its records
 module _ (x : Index) (f : Facts x) where
@@ -68,7 +66,7 @@ module _ (x : Index) (f : Facts x) where
   parts_fits =
       let c = scan_counts x f in
       let n = few_boundaries x f in
-      parts_fit x.scan.area x.scan.interval x.scan.checkpoints x.scan.frames none x.scan.parts f.area (omega arith) (omega arith)
+      parts_fit x.scan.area x.scan.interval x.scan.checkpoints x.scan.frames None x.scan.parts f.area (omega arith) (omega arith)
       frames_in (all→ _ f.scan.parts).0 f.sizes.parts
 
   pub malformed_fits : Each LsnFits x.scan.malformed

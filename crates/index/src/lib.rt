@@ -8,7 +8,7 @@ ghost use Rattle.std.specs.Prelude.{◌≡◌, true, List, ℕ};
 ghost use Rattle.rules.specs.Tests.{is_some};
 ghost use Rattle.rules.specs.Values.{stated, is_checked};
 ghost use Rattle.rules.specs.Questions.{area_ok};
-ghost use Rattle.tables.specs.Index.{tables, room_in, three, refusal, frontier_in, frontier_answer, end_in, hint_room};
+ghost use Rattle.tables.specs.Index.{tables, room_in, three, refusal, frontier_in, frontier_answer, hint_room};
 ghost use Rattle.index.specs.Steps.{Long, Roomy, held_question4, sections_in, scan_in, hinting_in, hint_counts};
 ghost use Rattle.index.specs.Index.{scan_space};
 
@@ -268,7 +268,7 @@ pub fn frontier(x: AreaIndex) -> FrontierLsn
 }
 
 pub fn is_complete(x: AreaIndex) -> bool
-    ensures { result ≡ is_some (end_in x.ending) }
+    ensures { result ≡ is_some x.ending }
 {
     is_complete_end(x.ending)
 }

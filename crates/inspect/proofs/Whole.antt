@@ -18,7 +18,6 @@ use Rattle.rules.specs.Tests.{Answer, Refused, Accepted, after, bind, first_no}
 use Rattle.rules.specs.Values.{Frame, Index, used}
 use Rattle.rules.specs.File.{read_header}
 use Rattle.rules.specs.Load.{Read, read_each, HintSection, no_hint_header, read_hint_section, read_sections, index_from, body_in, sum_in, file_number, from_bytes}
-use Rattle.tables.specs.Index.{id_from}
 use Rattle.rules.proofs.Tests.{accepted_eq, after→, bind→}
 use Rattle.inspect.specs.declared.Found.{Found}
 use Rattle.inspect.specs.declared.Inspected.{Inspected}
@@ -74,7 +73,7 @@ module _ (f : List ℕ) where
       → h ≡ read_header (body_in f) → length cs ≡ h.checkpoints → length fs ≡ h.frames → length ps ≡ h.parts → length ms ≡ h.malformed
       → length hs.hints ≡ hs.header.count
       → inspection_of f (Accepted (index_from a h cs fs ps ms hs qs)) ≡ answered (Accepted (found_by a h (used fs) hs.header (length qs)))
-  unfolding inspection_of answered found_by id_from
+  unfolding inspection_of answered found_by
   numbers a h cs fs ps ms hs qs e l1 l2 l3 l4 l5 = rw (← e, l1, l2, l3, l4, l5)
 
   sections : (a : Area) (h : Header) (b : List ℕ) → h ≡ read_header (body_in f) → inspection_of f (read_sections a h b) ≡ answered (from_checkpoints a h b)

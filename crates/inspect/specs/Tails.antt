@@ -1,5 +1,5 @@
 -- The sections from each one on, down to the numbers of what is found.
-use Rattle.std.specs.Prelude.{ℕ, cond, ◌&&◌, List, [], ◌∷◌, eqb, leb, length, drop}
+use Rattle.std.specs.Prelude.{ℕ, cond, ◌&&◌, List, [], ◌∷◌, eqb, leb, length, drop, None}
 use Rattle.field.specs.Number.{decode}
 use Rattle.fnv.specs.Fnv.{fnv64}
 use Rattle.rules.specs.declared.Area.{Area}
@@ -9,14 +9,12 @@ use Rattle.rules.specs.declared.Fingerprint.TheVariants.{Unknown, Held as Stated
 use Rattle.rules.specs.declared.Header.{Header}
 use Rattle.rules.specs.declared.Held.{Held}
 use Rattle.rules.specs.declared.HintHeader.{HintHeader}
-use Rattle.rules.specs.declared.ImageId.TheVariants.{Anonymous}
 use Rattle.rules.specs.Tests.{Answer, Refused, Accepted, after, ask, bind, first_no}
 use Rattle.rules.specs.Values.{Frame, used, frontier_of}
 use Rattle.rules.specs.File.{read_header, magic_bytes}
 use Rattle.rules.specs.Load.{Read, has_fingerprint, ending_of, header_number, end_number, read_checkpoints, read_frames, read_parts, read_hint_section, read_confirmed_section}
 use Rattle.tables.specs.Files.{frames_read}
 use Rattle.inspect.specs.Steps.{read_lsns}
-use Rattle.tables.specs.Index.{end_from}
 use Rattle.inspect.specs.declared.Found.{Found}
 use Rattle.inspect.specs.declared.Inspected.{Inspected}
 use Rattle.inspect.specs.declared.Inspected.TheVariants as inspected
@@ -38,9 +36,9 @@ found_by a h u g c =
             malformed = h.malformed;
             hints = g.count;
             confirmed = c;
-            ending = end_from (ending_of h);
+            ending = (ending_of h);
             fingerprint = cond (has_fingerprint h) (Stated g.fingerprint) Unknown;
-            image = Anonymous;
+            image = None;
           };
       used = u;
       version = h.version;

@@ -25,8 +25,7 @@ use fnv::fnv;
 use header::questions::header_number;
 use header::{has_fingerprint, read_header};
 use rules::{
-    Area, AreaIndex, CHECKPOINT, FRAME_HEADER, Fingerprint, HEADER, Header, HintHeader, ImageId,
-    MAGIC,
+    Area, AreaIndex, CHECKPOINT, FRAME_HEADER, Fingerprint, HEADER, Header, HintHeader, MAGIC,
 };
 use sections::part_records::reached;
 use sections::records::check_checkpoints;
@@ -76,7 +75,7 @@ fn found_by(area: Area, h: Header, used: u64, g: HintHeader, confirmed: u32) -> 
             confirmed,
             ending: ending_of(h),
             fingerprint: fingerprint_of(h, g.fingerprint),
-            image: ImageId::Anonymous,
+            image: None,
         },
         used,
         version: h.version,

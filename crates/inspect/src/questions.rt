@@ -6,22 +6,21 @@ ghost use Rattle.rules.specs.Questions.{area_ok};
 ghost use Rattle.rules.specs.Values.{last_checkpoint};
 ghost use Rattle.rules.specs.Sections.{reached as framesReached};
 ghost use Rattle.rules.specs.Load.{is_complete, ending_of, end_number, body_in};
-ghost use Rattle.tables.specs.Index.{end_in, end_from};
 
 use crate::cursor::cut;
 use header::complete;
-use rules::{Area, Checkpoint, End, EndState, Header, MAX_MALFORMED_WARNINGS};
+use rules::{Area, Checkpoint, EndState, Header, MAX_MALFORMED_WARNINGS};
 use sections::{ask, counted, ending_ok};
 
 // The end state of a header.
-#[tactic(auto, unfolding(tables::specs::Index::end_from, tables::specs::Index::end_in))]
-pub fn ending_of(h: Header) -> End
-    ensures { (result ≡ end_from (ending_of h)) × (end_in result ≡ ending_of h) }
+#[tactic(auto)]
+pub fn ending_of(h: Header) -> Option<EndState>
+    ensures { (result ≡ (ending_of h)) × (result ≡ ending_of h) }
 {
     if !complete(h) {
-        return End::Open;
+        return None;
     }
-    End::Closed(EndState {
+    Some(EndState {
         threshold: h.threshold,
         malformed: h.counted,
     })

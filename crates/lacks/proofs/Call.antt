@@ -1,8 +1,8 @@
 -- What is lacking, from the numbers and the tables. Assumes nothing.
+use Rattle.std.specs.Prelude.{Option, None, Some}
 use mathlib.Core.Path.{◌≡◌, refl, sym, ap₂, ◌∙◌}
 use mathlib.Core.Bool.{true}
 use mathlib.Core.List.{List, [], ◌∷◌}
-use mathlib.Core.Option.{Option, none, some}
 use Prim.Native.Nat.{ℕ, ◌-◌, ◌*◌, ◌≤◌}
 use native.Mathlib.Omega.{arith}
 use lib.Dec.{eqb}
@@ -52,7 +52,7 @@ walk_within a k cs f headers store o (p ∷ ps) e =
     let l = h.frame in let n = frames_length (headers_in f headers) store in
     let m = records_length 8 decode_header f headers in (
       (omega arith, h.len),
-      walk_within a k cs f headers store (some p) ps (walk_tail (part_ok a k 0 cs fs) keep o p ps e),
+      walk_within a k cs f headers store (Some p) ps (walk_tail (part_ok a k 0 cs fs) keep o p ps e),
     )
 
 pub parts_lent : {x : AreaIndex} {t : Tables} → Passes x t
@@ -62,7 +62,7 @@ parts_lent {x} {t} p =
       room = (passes_long p).parts;
       frames = record { room = (passes_long p).frames; bytes = passes_store p };
       within =
-          walk_within x.area x.interval (index_in x t).scan.checkpoints x.frames t.frames t.store none
+          walk_within x.area x.interval (index_in x t).scan.checkpoints x.frames t.frames t.store None
           (parts_in x.parts t.parts) (scan_is p).stretch.held.parts;
     }
 

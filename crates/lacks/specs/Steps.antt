@@ -5,7 +5,7 @@ use Rattle.rules_lacks.specs.declared.Lacks.{Lacks}
 use Rattle.rules.specs.Tests.{is_some}
 use Rattle.rules.specs.Values.{stated}
 use Rattle.rules_lacks.specs.Lacks.{lacking}
-use Rattle.tables.specs.Index.{Tables, index_in, end_in, id_in}
+use Rattle.tables.specs.Index.{Tables, index_in}
 use Rattle.lacks.specs.declared.Missing.{Missing}
 
 -- what is lacking, by the counts and the numbers
@@ -13,13 +13,13 @@ unfoldable pub lacks_by : AreaIndex → AreaIndex → Missing → Lacks
 lacks_by x y c =
     record {
       checkpoints = c.checkpoints;
-      ending = is_some (end_in y.ending) && not (is_some (end_in x.ending));
+      ending = is_some y.ending && not (is_some x.ending);
       parts = c.parts;
       malformed = c.malformed;
       hints = c.hints;
       confirmed = c.confirmed;
       fingerprint = is_some (stated y.fingerprint) && not (is_some (stated x.fingerprint));
-      image = is_some (id_in y.image) && not (is_some (id_in x.image));
+      image = is_some y.image && not (is_some x.image);
       budget = ltb x.budget y.budget;
       most = ltb x.most y.most;
     }

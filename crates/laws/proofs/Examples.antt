@@ -1,7 +1,7 @@
 -- A list with every kind of record: the theorems' premises hold of it. Assumes nothing.
+use Rattle.std.specs.Prelude.{Some}
 use mathlib.Core.Path.{◌≡◌, refl}
 use mathlib.Core.List.{[], ◌∷◌}
-use mathlib.Core.Option.{some}
 use lib.IntN.{negsuc}
 use Rattle.rules.specs.declared.FrameKind.TheVariants.{Dsd}
 use Rattle.rules.specs.declared.Fingerprint.TheVariants.{Checked}
@@ -26,12 +26,12 @@ example =
             checkpoints = record { threshold = 3; back = 0; malformed = 0; digest = 7 } ∷ record { threshold = 9; back = 10; malformed = 1; digest = 18446744073709551615 } ∷ [];
             frames = record { start = 110; bytes = 1 ∷ 2 ∷ 255 ∷ [] } ∷ [];
             parts = record { at = 1; frame = 0; len = 3; number = 5; kind = Dsd; remaining = negsuc 2147483647 } ∷ [];
-            ending = some (record { threshold = 9; malformed = 1 });
+            ending = Some (record { threshold = 9; malformed = 1 });
             malformed = 105 ∷ [];
           };
       hinting = record { spacing = 8; most = 2048; hints = record { lsn = 101; number = 4; mark = 1 } ∷ []; confirmed = record { lsn = 130; threshold = 8; digest = 1 } ∷ [] };
       fingerprint = Checked 99;
-      image = some 3;
+      image = Some 3;
     }
 
 example_savable : Savable example

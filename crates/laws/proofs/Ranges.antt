@@ -1,8 +1,8 @@
 -- The numbers of a list that questions 1, 2 and 4 accept fit their fields. Assumes nothing.
+use Rattle.std.specs.Prelude.{Option, None, Some}
 use mathlib.Core.Path.{◌≡◌, refl}
 use mathlib.Core.Bool.{true}
 use mathlib.Core.List.{List, [], ◌∷◌}
-use mathlib.Core.Option.{Option, none, some}
 use Prim.Native.Nat.{ℕ, zero, suc, ◌+◌, ◌-◌, ◌*◌, ◌≤◌, ◌<◌}
 use native.Mathlib.Nat.{mul-le-mul_left}
 use native.Mathlib.Omega.{arith}
@@ -51,9 +51,9 @@ boundaries_small a k l = go (boundaries a k) refl
 -- the frontier is in the area
 pub frontier_small : (a : Area) (k n : ℕ) (e : Option EndState) → 1 ≤ k → AreaFacts a → n ≤ boundaries a k → frontier_of a k n e ≤ a.end
 unfolding frontier_of
-frontier_small a k zero none l f h = omega arith
-frontier_small a k (suc n) none l f h = let g = in_boundary a k n l h in omega arith
-frontier_small a k n (some e) l f h = omega arith
+frontier_small a k zero None l f h = omega arith
+frontier_small a k (suc n) None l f h = let g = in_boundary a k n l h in omega arith
+frontier_small a k n (Some e) l f h = omega arith
 
 -- ---- the sections
 module _ (a : Area) (k : ℕ) (l : 1 ≤ k) (f : AreaFacts a) where
@@ -82,10 +82,10 @@ pub frames_fit : (a : Area) (fs : List Frame) → AreaFacts a → Each (Placed a
 frames_fit a fs g ps qs = each_both (λ f p q. record { numbers = omega arith; bytes = q }) ps qs
 
 pub parts_fit : (a : Area) (k : ℕ) (cs : List Checkpoint) (fs : List Frame) (o : Option Held) (ps : List Held) → AreaFacts a
-    → length cs ≤ max32 → length fs ≤ max32 → Each (Placed a) fs → walk (part_ok a k 0 cs fs) (λ o p. some p) o ps ≡ true
+    → length cs ≤ max32 → length fs ≤ max32 → Each (Placed a) fs → walk (part_ok a k 0 cs fs) (λ o p. Some p) o ps ≡ true
     → Each (λ p. ltb (mag p.remaining) 2147483648 ≡ true) ps → Each HeldFits ps
 parts_fit a k cs fs o ps f m n g h r =
-    each_both (λ p q s. record { numbers = q; signed = ltb-true _ _ s }) (walk_each (part_ok a k 0 cs fs) (λ o p. some p)
+    each_both (λ p q s. record { numbers = q; signed = ltb-true _ _ s }) (walk_each (part_ok a k 0 cs fs) (λ o p. Some p)
     (λ o p q. let u = (part→ a k 0 cs fs o p q).0 in
     let s : length (frame_at fs p.frame).bytes ≤ max_frame = each_at {P = λ f. length f.bytes ≤ max_frame} p.frame no_frame (each_map (λ f p. p.size) g) (omega arith) in
     omega arith) o ps h) r

@@ -1,6 +1,5 @@
 -- Terms of the laws of saving and loading.
-use Rattle.std.specs.Prelude.{◌≡◌, true}
-use Rattle.std.proofs.Math.Option.{none}
+use Rattle.std.specs.Prelude.{◌≡◌, true, None}
 use Rattle.rules.specs.Values.{Hinting, Index}
 use Rattle.rules.specs.Questions.{question1, question2, question4}
 use Rattle.rules.specs.Sizes.{sized}
@@ -12,7 +11,7 @@ abbrev pub stripped_hinting : Hinting → Hinting
 stripped_hinting r = record { spacing = r.spacing; most = r.most; hints = unkept r.hints; confirmed = r.confirmed }
 
 abbrev pub stripped : Index → Index
-stripped x = record { scan = x.scan; hinting = stripped_hinting x.hinting; fingerprint = unmarked x.fingerprint; image = none }
+stripped x = record { scan = x.scan; hinting = stripped_hinting x.hinting; fingerprint = unmarked x.fingerprint; image = None }
 
 -- questions 1, 2 and 4, and the numbers fit their types
 pub record Savable (x : Index) : Type 0 where

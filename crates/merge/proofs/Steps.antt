@@ -1,4 +1,6 @@
 -- The steps of a merge, put together. Assumes nothing.
+use Rattle.rules.specs.declared.EndState.{EndState}
+use Rattle.std.specs.Prelude.{Option, None, Some}
 use mathlib.Core.Path.{◌≡◌, refl, sym, ap, ◌∙◌}
 use mathlib.Core.Bool.{Bool, cond}
 use mathlib.Core.List.{List, ◌++◌, append-nil}
@@ -10,8 +12,6 @@ use Rattle.field.specs.Records.{records, bytes_of}
 use Rattle.field.proofs.Format.{bytes_of_length}
 use Rattle.field.proofs.Records.{records_length}
 use Rattle.rules.specs.declared.AreaIndex.{AreaIndex}
-use Rattle.rules.specs.declared.End.{End}
-use Rattle.rules.specs.declared.End.TheVariants.{Open, Closed}
 use Rattle.rules.specs.Tests.{Accepted, after}
 use Rattle.rules.specs.Values.{Scan, Index, is_checked}
 use Rattle.rules.specs.PartRule.{Stored, add_parts}
@@ -22,7 +22,7 @@ use Rattle.rules.proofs.Tests.{test}
 use Rattle.laws.specs.Passes.{Begins}
 use Rattle.laws.proofs.Layouts.{confirmation_layout}
 use Rattle.tables.specs.Tables.{checkpoints_in, parts_in, encode_kept, confirmations_in}
-use Rattle.tables.specs.Index.{Tables, tables, index_in, store_of, numbers_from, tables_cleared, MadeOut, made_out, made_out_of, end_in, end_from, id_from}
+use Rattle.tables.specs.Index.{Tables, tables, index_in, store_of, numbers_from, tables_cleared, MadeOut, made_out, made_out_of}
 use Rattle.rules.specs.declared.Made.TheVariants as made
 use Rattle.merge.specs.Merge.{merge_refusal, further_in, hints_written, merge_in}
 use Rattle.merge.proofs.questions.Refusal.{further_is, asked_after}
@@ -51,10 +51,9 @@ module _ (own other : Scan) where
   unfolding merged_scan
   budget_kept = test (further own other) (λ e. rw e) (λ e. rw e)
 
-end_back : (e : End) → e ≡ end_from (end_in e)
-unfolding end_from end_in
-end_back Open = refl
-end_back (Closed e) = refl
+end_back : (e : Option EndState) → e ≡ e
+end_back None = refl
+end_back (Some e) = refl
 
 module _ (x y : AreaIndex) (t u : Tables) {go : Bool} (g : go ≡ further_in x y) where
   abbrev own : Scan
@@ -80,7 +79,7 @@ module _ (x y : AreaIndex) (t u : Tables) {go : Bool} (g : go ≡ further_in x y
   unfolding merged_scan
   malformed_are = rw go_is (test (further own other) (λ e. rw e) (λ e. rw e))
 
-  ending_is : cond go y.ending x.ending ≡ end_from after_scan.ending
+  ending_is : cond go y.ending x.ending ≡ after_scan.ending
   unfolding merged_scan
   ending_is = rw go_is (test (further own other) (λ e. rw e (end_back y.ending)) (λ e. rw e (end_back x.ending)))
 
@@ -147,7 +146,7 @@ module _ (x y : AreaIndex) (t u : Tables) {go : Bool} (g : go ≡ further_in x y
           confirmed = e8 i;
           ending = e9 i;
           fingerprint = after_index.fingerprint;
-          image = id_from after_index.image;
+          image = after_index.image;
         })
 
     pub committed : out_index r (tables cs fs st ps ms hs ks) ≡ merged_in x t y u

@@ -3,7 +3,7 @@ use Rattle.std.specs.Prelude.{ℕ, ◌+◌, ◌&&◌, cond, Bool, not, ◌||◌,
 use Rattle.rules.specs.declared.AreaIndex.{AreaIndex}
 use Rattle.rules.specs.Merge.{merge, merge_number}
 use Rattle.rules.specs.Tests.{is_some}
-use Rattle.tables.specs.Index.{Tables, room_of, index_in, kinds_in, kinded, tables_cleared, MadeOut, made_out_of, end_in, kinded_number}
+use Rattle.tables.specs.Index.{Tables, room_of, index_in, kinds_in, kinded, tables_cleared, MadeOut, made_out_of, kinded_number}
 
 -- up to which record number the hint table is written: both lists' hints, before they are thinned; at M = 0 the own ones stay
 unfoldable pub hints_written : AreaIndex → AreaIndex → ℕ
@@ -17,7 +17,7 @@ merge_in x t y u =
 
 -- the other list goes further, by the numbers
 unfoldable pub further_in : AreaIndex → AreaIndex → Bool
-further_in x y = not (is_some (end_in x.ending)) && (is_some (end_in y.ending) || ltb x.checkpoints y.checkpoints)
+further_in x y = not (is_some x.ending) && (is_some y.ending || ltb x.checkpoints y.checkpoints)
 
 -- the number of the rules, with the kind bytes of both; 0 for none
 unfoldable pub merge_refusal : AreaIndex → Tables → AreaIndex → Tables → ℕ

@@ -3,7 +3,6 @@ use Rattle.std.specs.Prelude.{ℕ, Bool, cond}
 use Rattle.rules.specs.declared.AreaIndex.{AreaIndex}
 use Rattle.rules.specs.Tests.{or_else}
 use Rattle.rules.specs.Merge.{merged_fingerprint}
-use Rattle.tables.specs.Index.{id_in, id_from}
 use Rattle.parts.specs.declared.Counts.{Counts}
 
 -- by the numbers x and y of both, whether the other goes further, and the counts
@@ -23,5 +22,5 @@ numbers_by x y go n c m s d =
       confirmed = d;
       ending = cond go y.ending x.ending;
       fingerprint = merged_fingerprint x.fingerprint y.fingerprint;
-      image = id_from (or_else (id_in x.image) (id_in y.image));
+      image = (or_else x.image y.image);
     }

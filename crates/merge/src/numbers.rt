@@ -4,27 +4,26 @@ ghost use Rattle.std.specs.Prelude.{◌≡◌};
 ghost use Rattle.rules.specs.Tests.{is_some, or_else};
 ghost use Rattle.rules.specs.Merge.{merged_fingerprint};
 ghost use Rattle.rules.specs.declared.Fingerprint.TheVariants.{Unknown};
-ghost use Rattle.tables.specs.Index.{id_in, id_from};
 ghost use Rattle.merge.specs.Numbers.{numbers_by};
 
 use parts::Counts;
-use rules::{AreaIndex, Fingerprint, ImageId};
+use rules::{AreaIndex, Fingerprint};
 
-#[tactic(auto, unfolding(tables::specs::Index::id_in, rules::specs::Tests::is_some))]
-pub fn has_id(a: ImageId) -> bool
-    ensures { result ≡ is_some (id_in a) }
+#[tactic(auto, unfolding(rules::specs::Tests::is_some))]
+pub fn has_id(a: Option<u64>) -> bool
+    ensures { result ≡ is_some a }
 {
-    matches!(a, ImageId::Id(_))
+    matches!(a, Some(_))
 }
 
 // The own image id, or the other's where there is none.
-#[tactic(auto, unfolding(tables::specs::Index::id_in, tables::specs::Index::id_from, rules::specs::Tests::or_else))]
-pub fn image_of(a: ImageId, b: ImageId) -> ImageId
-    ensures { result ≡ id_from (or_else (id_in a) (id_in b)) }
+#[tactic(auto, unfolding(rules::specs::Tests::or_else))]
+pub fn image_of(a: Option<u64>, b: Option<u64>) -> Option<u64>
+    ensures { result ≡ (or_else a b) }
 {
     match a {
-        ImageId::Anonymous => b,
-        ImageId::Id(_) => a,
+        None => b,
+        Some(_) => a,
     }
 }
 

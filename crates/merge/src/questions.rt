@@ -3,7 +3,7 @@
 ghost use Rattle.std.specs.Prelude.{◌≡◌, ◌*◌, ◌≤◌, eqb, length};
 ghost use Rattle.rules.specs.Tests.{agree};
 ghost use Rattle.rules.specs.Values.{stated, same_area, same_end};
-ghost use Rattle.tables.specs.Index.{tables, end_in, id_in};
+ghost use Rattle.tables.specs.Index.{tables};
 ghost use Rattle.merge.specs.Merge.{merge_refusal};
 ghost use Rattle.merge.specs.Steps.{area_agrees, image_agrees, reading_agrees, join_number};
 
@@ -12,7 +12,7 @@ use header::questions::same_key;
 use index::create::agrees;
 use index::refuses;
 use index::room::lowest;
-use rules::{Area, AreaIndex, End, EndState, Fingerprint, ImageId};
+use rules::{Area, AreaIndex, EndState, Fingerprint};
 use sections::ask;
 
 // ---- 41
@@ -32,12 +32,12 @@ fn question41(x: AreaIndex, y: AreaIndex) -> bool
 }
 
 // ---- 42
-#[tactic(auto, unfolding(tables::specs::Index::id_in, rules::specs::Tests::agree))]
-pub fn same_image(a: ImageId, b: ImageId) -> bool
-    ensures { result ≡ agree eqb (id_in a) (id_in b) }
+#[tactic(auto, unfolding(rules::specs::Tests::agree))]
+pub fn same_image(a: Option<u64>, b: Option<u64>) -> bool
+    ensures { result ≡ agree eqb a b }
 {
     match (a, b) {
-        (ImageId::Id(v), ImageId::Id(w)) => v == w,
+        (Some(v), Some(w)) => v == w,
         _ => true,
     }
 }
@@ -68,12 +68,12 @@ fn same_state(a: EndState, b: EndState) -> bool
     a.threshold == b.threshold && a.malformed == b.malformed
 }
 
-#[tactic(auto, unfolding(tables::specs::Index::end_in, rules::specs::Tests::agree))]
-pub fn same_end(a: End, b: End) -> bool
-    ensures { result ≡ agree same_end (end_in a) (end_in b) }
+#[tactic(auto, unfolding(rules::specs::Tests::agree))]
+pub fn same_end(a: Option<EndState>, b: Option<EndState>) -> bool
+    ensures { result ≡ agree same_end a b }
 {
     match (a, b) {
-        (End::Closed(e), End::Closed(f)) => same_state(e, f),
+        (Some(e), Some(f)) => same_state(e, f),
         _ => true,
     }
 }

@@ -1,8 +1,8 @@
 -- What the part rule needs of tables follows from question 4 of their lists. Assumes nothing.
+use Rattle.std.specs.Prelude.{Option, None, Some}
 use mathlib.Core.Path.{◌≡◌, ap}
 use mathlib.Core.Bool.{true}
 use mathlib.Core.List.{List, [], ◌∷◌}
-use mathlib.Core.Option.{Option, none, some}
 use Prim.Native.Nat.{ℕ, suc, ◌+◌, ◌*◌, ◌<◌, ◌≤◌}
 use native.Mathlib.Omega.{arith}
 use borrow.Author.Tests.{ltb-true, ltb-false}
@@ -30,13 +30,13 @@ use Rattle.parts.proofs.Frames.{count}
 module _ (a : Area) (k first : ℕ) (cs : List Checkpoint) (fs : List Frame) where
   -- the frame of the part before
   frame_of : Option Held → ℕ
-  frame_of none = 0
-  frame_of (some q) = q.frame
+  frame_of None = 0
+  frame_of (Some q) = q.frame
 
   steps : (o : Option Held) (x : ℕ) → x ≤ frames_to o → frames_to o ≤ suc x → (frame_of o ≤ x) × (x ≤ frame_of o + 1)
   unfolding frame_of
-  steps none x l h = (omega arith, omega arith)
-  steps (some q) x l h = (omega arith, omega arith)
+  steps None x l h = (omega arith, omega arith)
+  steps (Some q) x l h = (omega arith, omega arith)
 
   in_order : (o : Option Held) (ps : List Held) → walk (part_ok a k first cs fs) keep o ps ≡ true
       → InOrder (frame_of o) fs ps
@@ -46,7 +46,7 @@ module _ (a : Area) (k first : ℕ) (cs : List Checkpoint) (fs : List Frame) whe
       let w = part→ a k first cs fs o p (walk_head (part_ok a k first cs fs) keep o p ps e) in
       let g = follows→ o p w.1 in
       let s = steps o p.frame g.1 g.2 in
-      (s.0, s.1, w.0.frame, w.0.len, in_order (some p) ps (walk_tail (part_ok a k first cs fs) keep o p ps e))
+      (s.0, s.1, w.0.frame, w.0.len, in_order (Some p) ps (walk_tail (part_ok a k first cs fs) keep o p ps e))
 
   -- at most one part for each checkpoint from number n on
   few_wanted : (n : ℕ) (o : Option Held) (ps : List Held) → n ≤ first + length cs → at_after o ≤ first + length cs
@@ -58,7 +58,7 @@ module _ (a : Area) (k first : ℕ) (cs : List Checkpoint) (fs : List Frame) whe
       let w = part→ a k first cs fs o p (walk_head (part_ok a k first cs fs) keep o p ps e) in
       let g = (follows→ o p w.1).0 in
       let h = w.0.high in
-      let r = few_wanted n (some p) ps l (omega arith) (walk_tail (part_ok a k first cs fs) keep o p ps e) in
+      let r = few_wanted n (Some p) ps l (omega arith) (walk_tail (part_ok a k first cs fs) keep o p ps e) in
       let r0 = r.0 in let r1 = r.1 in
       test (ltb p.at n) (λ q. let z = ltb-true p.at n q in rw q (omega arith, omega arith))
       (λ q. let z = ltb-false p.at n q in rw q (omega arith, omega arith))
@@ -75,12 +75,12 @@ module _ {a : Area} {k budget first : ℕ} {cs : List Checkpoint} (f h : ℕ) (t
         parts = lp;
         store = omega arith;
         order = in_order a k first cs
-            (frames_in f t.frames t.store) none (parts_in h t.parts) ok.parts;
+            (frames_in f t.frames t.store) None (parts_in h t.parts) ok.parts;
       }
 
   pub wanted_from : (n : ℕ) → n ≤ first + length cs → n + wanted n (parts_in h t.parts) ≤ first + length cs
   wanted_from n l =
-      (few_wanted a k first cs (frames_in f t.frames t.store) n none (parts_in h t.parts) l (omega arith)
+      (few_wanted a k first cs (frames_in f t.frames t.store) n None (parts_in h t.parts) l (omega arith)
       ok.parts).0
 
   -- the own tables, with space for n more

@@ -1,4 +1,6 @@
 -- A part's bytes in the store, and the part of a checkpoint. Assumes nothing.
+use Rattle.rules.specs.declared.HeldPart.{HeldPart}
+use Rattle.std.specs.Prelude.{Option, None}
 use mathlib.Core.Path.{◌≡◌, refl, sym, ap, ◌∙◌}
 use mathlib.Core.Bool.{cond}
 use mathlib.Core.List.{List, [], ◌∷◌}
@@ -11,8 +13,6 @@ use lib.ListN.{length, take, drop, drop_of_length-le}
 use lib.Seq.{drop-nil}
 use Rattle.field.specs.Records.{record_at}
 use Rattle.field.proofs.Records.{records_length}
-use Rattle.rules.specs.declared.Assembly.{Assembly}
-use Rattle.rules.specs.declared.Assembly.TheVariants.{Replayed}
 use Rattle.rules.specs.declared.Held.{Held}
 use Rattle.rules.specs.Values.{Frame, used}
 use Rattle.rules.specs.File.{decode_held}
@@ -61,7 +61,7 @@ module _ {h : ℕ} {t : List ℕ} {j i : ℕ} (s : Sought h t j i) where
   at {p} l e fs =
       rw e (sym (ap (λ (ps : List Held). assembly_of fs ps j) (records_turn 24 decode_held h t i l)) ∙ s.rest fs)
 
-  pub sought_found : {p : Held} {r : Assembly} → i < h → p ≡ record_at 24 decode_held t i → p.at ≡ j → (fs : List Frame)
+  pub sought_found : {p : Held} {r : Option HeldPart} → i < h → p ≡ record_at 24 decode_held t i → p.at ≡ j → (fs : List Frame)
       → r ≡ stored_of fs p
       → r ≡ assembly_of fs (parts_in h t) j
   sought_found {p} l e q fs g = g ∙ rw (eq-eqb p.at j q) at (at l e fs)
@@ -69,7 +69,7 @@ module _ {h : ℕ} {t : List ℕ} {j i : ℕ} (s : Sought h t j i) where
   pub sought_on : {p : Held} → i < h → p ≡ record_at 24 decode_held t i → (p.at ≡ j → ⊥) → Sought h t j (i + 1)
   sought_on {p} l e q = record { within = omega arith; rest = λ fs. rw (ne_eqb p.at j q) at (at l e fs) }
 
-  pub sought_none : h ≤ i → (fs : List Frame) → Replayed ≡ assembly_of fs (parts_in h t) j
+  pub sought_none : h ≤ i → (fs : List Frame) → None ≡ assembly_of fs (parts_in h t) j
   unfolding assembly_of
   sought_none l fs =
       let n : length (parts_in h t) ≤ i = rw records_length l in

@@ -1,7 +1,7 @@
 -- The part that a plan names is held, and its bytes lie in the store where the plan says. Assumes nothing.
+use Rattle.std.specs.Prelude.{Option, None, Some}
 use mathlib.Core.Path.{◌≡◌, refl, sym, ap, ◌∙◌}
 use mathlib.Core.List.{List, [], ◌∷◌}
-use mathlib.Core.Option.{Option, none, some}
 use Prim.Native.Nat.{ℕ, suc, ◌<◌}
 use native.Mathlib.Omega.{arith}
 use borrow.Author.Tests.{eqb-true}
@@ -9,7 +9,6 @@ use lib.Dec.{eqb, leb}
 use lib.ListN.{length, get_or, drop}
 use Rattle.field.proofs.Records.{records_length}
 use Rattle.rules.specs.declared.AreaIndex.{AreaIndex}
-use Rattle.rules.specs.declared.Assembly.TheVariants.{Stored}
 use Rattle.rules.specs.declared.EndState.{EndState}
 use Rattle.rules.specs.declared.Held.{Held}
 use Rattle.rules.specs.declared.HeldPart.{HeldPart}
@@ -37,14 +36,14 @@ record Found (fs : List Frame) (ps : List Held) (j : ℕ) (h : HeldPart) : Type 
   place : ℕ
   within : place < length ps
   at : (get_or ps place no_held).at ≡ j
-  is : Stored h ≡ stored_of fs (get_or ps place no_held)
+  is : Some h ≡ stored_of fs (get_or ps place no_held)
 
-found : (fs : List Frame) (ps : List Held) (j : ℕ) (h : HeldPart) → assembly_of fs ps j ≡ Stored h → Found fs ps j h
+found : (fs : List Frame) (ps : List Held) (j : ℕ) (h : HeldPart) → assembly_of fs ps j ≡ Some h → Found fs ps j h
 unfolding assembly_of
 found fs [] j h e = let z : ◌≡◌ {A = ℕ} 0 1 = cc in let f : ⊥ = omega arith in absurd f
 found fs (p ∷ ps) j h e =
     test (eqb p.at j)
-    (λ q. let s : stored_of fs p ≡ Stored h = rw q at e in
+    (λ q. let s : stored_of fs p ≡ Some h = rw q at e in
     record { place = 0; within = omega arith; at = eqb-true p.at j q; is = sym s })
     (λ q.
     let r = found fs ps j h (rw q at e) in
@@ -54,16 +53,16 @@ found fs (p ∷ ps) j h e =
 from_some : (x : Scan) (o : Option ℕ) (r : Resume) → plan_from x o ≡ At r
     → r.assembly ≡ assembly_of x.frames x.parts r.number
 unfolding plan_from
-from_some x none r e = let z : ◌≡◌ {A = ℕ} 0 1 = cc in let f : ⊥ = omega arith in absurd f
-from_some x (some j) r e =
+from_some x None r e = let z : ◌≡◌ {A = ℕ} 0 1 = cc in let f : ⊥ = omega arith in absurd f
+from_some x (Some j) r e =
     let n : j ≡ r.number = cc in
     let a : assembly_of x.frames x.parts j ≡ r.assembly = cc in
     rw (← n) (sym a)
 
 or_some : (f : ℕ) (o : Option EndState) (p : Plan) (r : Resume) → plan_or f o p ≡ At r → p ≡ At r
 unfolding plan_or
-or_some f none p r e = e
-or_some f (some s) p r e =
+or_some f None p r e = e
+or_some f (Some s) p r e =
     test (leb s.threshold f) (λ q. let w : End s ≡ At r = rw q at e in let z : ◌≡◌ {A = ℕ} 0 1 = cc in
     let g : ⊥ = omega arith in absurd g) (λ q. rw q at e)
 
@@ -73,17 +72,17 @@ unfolding planned
 planned_part x f r e = from_some x _ r (or_some f x.ending _ r e)
 
 -- ---- its bytes
-offset_is : (fs : List Frame) (p : Held) (h : HeldPart) → Stored h ≡ stored_of fs p → h.offset ≡ offset_of fs p.frame
+offset_is : (fs : List Frame) (p : Held) (h : HeldPart) → Some h ≡ stored_of fs p → h.offset ≡ offset_of fs p.frame
 offset_is fs p h e = cc
 
-len_is : (fs : List Frame) (p : Held) (h : HeldPart) → Stored h ≡ stored_of fs p → h.len ≡ p.len
+len_is : (fs : List Frame) (p : Held) (h : HeldPart) → Some h ≡ stored_of fs p → h.len ≡ p.len
 len_is fs p h e = cc
 
 bytes_same : {o o' l l' : ℕ} {b : List ℕ} (s : List ℕ) → o ≡ o' → l ≡ l' → bytes_at s o' l' ≡ b → bytes_at s o l ≡ b
 bytes_same s p q e = rw (p, q) e
 
 named : {x : AreaIndex} {t : Tables} {j : ℕ} {h : HeldPart} → Passes x t
-    → assembly_of (index_in x t).scan.frames (index_in x t).scan.parts j ≡ Stored h → Names x t j h
+    → assembly_of (index_in x t).scan.frames (index_in x t).scan.parts j ≡ Some h → Names x t j h
 unfolding parts_ok
 named {x} {t} {j} {h} p e =
     let fs = (index_in x t).scan.frames in
@@ -91,7 +90,7 @@ named {x} {t} {j} {h} p e =
     let g = found fs ps j h e in
     let w = (all→ _ (passes_parts p)).0 in
     let k = (part→ x.area x.interval 0 (index_in x t).scan.checkpoints fs _ (get_or ps g.place no_held)
-    (walk_at _ _ no_held none ps g.place w g.within)).0 in
+    (walk_at _ _ no_held None ps g.place w g.within)).0 in
     let b : bytes_at t.store (offset_of fs (get_or ps g.place no_held).frame) (get_or ps g.place no_held).len ≡ _ =
     ap (λ (s : List ℕ). bytes_at s (offset_of fs (get_or ps g.place no_held).frame) (get_or ps g.place no_held).len)
     (sym (store_is p))

@@ -1,15 +1,14 @@
 -- A plan by its parts: the end state, the search, the checkpoint and its part. Assumes nothing.
+use Rattle.rules.specs.declared.HeldPart.{HeldPart}
+use Rattle.std.specs.Prelude.{Some, Option, None}
 use mathlib.Core.Path.{◌≡◌, refl, sym, ap, ◌∙◌}
 use mathlib.Core.List.{[]}
-use mathlib.Core.Option.{some}
 use Prim.Native.Nat.{ℕ, zero, suc, ◌-◌, ◌<◌, ◌≤◌}
 use native.Mathlib.Omega.{arith}
 use borrow.Author.Tests.{le-leb, lt-leb, eq-eqb, ne_eqb}
 use Rattle.field.proofs.Records.{records_length}
 use Rattle.rules.specs.declared.AreaIndex.{AreaIndex}
-use Rattle.rules.specs.declared.Assembly.{Assembly}
 use Rattle.rules.specs.declared.Checkpoint.{Checkpoint}
-use Rattle.rules.specs.declared.End.TheVariants.{Open, Closed}
 use Rattle.rules.specs.declared.EndState.{EndState}
 use Rattle.rules.specs.declared.Plan.{Plan}
 use Rattle.rules.specs.declared.Plan.TheVariants as variant
@@ -19,7 +18,7 @@ use Rattle.rules.specs.File.{decode_checkpoint}
 use Rattle.rules.specs.Plan.{last_not_above, assembly_of, plan_from, plan_or, planned, plan}
 use Rattle.tables.specs.Tables.{checkpoints_in, frames_in, parts_in}
 use Rattle.rules.specs.declared.Planned.TheVariants as variants
-use Rattle.tables.specs.Index.{Tables, index_in, refusal, end_in}
+use Rattle.tables.specs.Index.{Tables, index_in, refusal}
 use Rattle.plan.specs.Plan.{planned_of, plan_in}
 use Rattle.index.specs.Steps.{Passes}
 use Rattle.plan.specs.Search.{last_in}
@@ -40,13 +39,13 @@ ready {x} {t} p =
       rising = rising x.interval x.checkpoints t.checkpoints (checkpoints_hold p);
     }
 
-pub last_some : (m : ℕ) → (m ≡ 0 → ⊥) → last_in m ≡ some (m - 1)
+pub last_some : (m : ℕ) → (m ≡ 0 → ⊥) → last_in m ≡ Some (m - 1)
 unfolding last_in
 last_some zero h = absurd (h refl)
-last_some (suc m) h = ap some (let q : m ≡ suc m - 1 = omega arith in q)
+last_some (suc m) h = ap Some (let q : m ≡ suc m - 1 = omega arith in q)
 
 module _ (x : AreaIndex) (t : Tables) where
-  pub resume_is : {l : ℕ} {c : Checkpoint} {a : Assembly} (j : ℕ) → l ≡ lsn_of x.area x.interval j
+  pub resume_is : {l : ℕ} {c : Checkpoint} {a : Option HeldPart} (j : ℕ) → l ≡ lsn_of x.area x.interval j
       → c ≡ checkpoint_at (checkpoints_in x.checkpoints t.checkpoints) j
       → a ≡ assembly_of (frames_in x.frames t.frames t.store) (parts_in x.parts t.parts) j
       → variant.At (record { number = j; lsn = l; checkpoint = c; assembly = a }) ≡ resume_in x t j
@@ -65,21 +64,21 @@ module _ (x : AreaIndex) (t : Tables) where
         g ∙ sym (rw (← e, last_some m z))
 
   module _ (f : ℕ) where
-    plan_is : plan_of x t f ≡ plan_or f (end_in x.ending) (within_of x t f)
+    plan_is : plan_of x t f ≡ plan_or f x.ending (within_of x t f)
     unfolding plan_of planned within_of
     plan_is = rw (records_length 24 decode_checkpoint x.checkpoints t.checkpoints)
 
-    pub plan_open : {r : Plan} → x.ending ≡ Open → r ≡ within_of x t f → r ≡ plan_of x t f
-    unfolding plan_or end_in
+    pub plan_open : {r : Plan} → x.ending ≡ None → r ≡ within_of x t f → r ≡ plan_of x t f
+    unfolding plan_or
     plan_open e g = g ∙ sym (plan_is ∙ rw e)
 
-    pub plan_past : {e : EndState} → x.ending ≡ Closed e → e.threshold ≤ f → variant.End e ≡ plan_of x t f
-    unfolding plan_or end_in
+    pub plan_past : {e : EndState} → x.ending ≡ Some e → e.threshold ≤ f → variant.End e ≡ plan_of x t f
+    unfolding plan_or
     plan_past {e} q h = sym (plan_is ∙ rw (q, le-leb e.threshold f h))
 
-    pub plan_before : {e : EndState} {r : Plan} → x.ending ≡ Closed e → f < e.threshold → r ≡ within_of x t f
+    pub plan_before : {e : EndState} {r : Plan} → x.ending ≡ Some e → f < e.threshold → r ≡ within_of x t f
         → r ≡ plan_of x t f
-    unfolding plan_or end_in
+    unfolding plan_or
     plan_before {e} q h g = g ∙ sym (plan_is ∙ rw (q, lt-leb e.threshold f h))
 
     pub answer_is : {n : ℕ} → n ≡ refusal x t

@@ -1,7 +1,6 @@
 -- The bytes of the part that a plan names.
-use Rattle.std.specs.Prelude.{◌≡◌, ℕ, ◌<◌, get_or}
+use Rattle.std.specs.Prelude.{◌≡◌, ℕ, ◌<◌, get_or, Some}
 use Rattle.rules.specs.declared.AreaIndex.{AreaIndex}
-use Rattle.rules.specs.declared.Assembly.TheVariants.{Stored}
 use Rattle.rules.specs.declared.Held.{Held}
 use Rattle.rules.specs.declared.HeldPart.{HeldPart}
 use Rattle.rules.specs.declared.Plan.TheVariants.{At}
@@ -27,4 +26,4 @@ pub record Names (x : AreaIndex) (t : Tables) (j : ℕ) (h : HeldPart) : Type 0 
 abbrev pub PlanNames : Type 0
 PlanNames =
     (x : AreaIndex) (t : Tables) (f : ℕ) (r : Resume) (h : HeldPart) → plan_in x t f ≡ Accepted (At r)
-    → r.assembly ≡ Stored h → Names x t r.number h
+    → r.assembly ≡ Some h → Names x t r.number h

@@ -1,6 +1,5 @@
 -- What the search of a plan needs, and what it finds.
-use Rattle.std.specs.Prelude.{ℕ, zero, suc, ◌≤◌, ◌<◌, List}
-use Rattle.std.proofs.Math.Option.{Option, none, some}
+use Rattle.std.specs.Prelude.{ℕ, zero, suc, ◌≤◌, ◌<◌, List, Option, None, Some}
 use Rattle.field.specs.Records.{record_at}
 use Rattle.rules.specs.File.{decode_checkpoint}
 
@@ -11,5 +10,5 @@ pub record Rising (n : ℕ) (t : List ℕ) : Type 0 where
 
 -- the last of n
 unfoldable pub last_in : ℕ → Option ℕ
-last_in zero = none
-last_in (suc n) = some n
+last_in zero = None
+last_in (suc n) = Some n

@@ -1,8 +1,7 @@
 -- What the functions of plan need of each other.
-use Rattle.std.specs.Prelude.{ℕ, ◌*◌, ◌≤◌, List, length}
+use Rattle.rules.specs.declared.HeldPart.{HeldPart}
+use Rattle.std.specs.Prelude.{ℕ, ◌*◌, ◌≤◌, List, length, Option, Some}
 use Rattle.rules.specs.declared.AreaIndex.{AreaIndex}
-use Rattle.rules.specs.declared.Assembly.{Assembly}
-use Rattle.rules.specs.declared.Assembly.TheVariants.{Stored}
 use Rattle.rules.specs.declared.Held.{Held}
 use Rattle.rules.specs.declared.Plan.{Plan}
 use Rattle.rules.specs.Values.{Frame}
@@ -19,9 +18,9 @@ pub record PlanReads (x : AreaIndex) (cs fs ps : List ℕ) : Type 0 where
   pub rising : Rising x.checkpoints cs
 
 -- a part as a plan names it
-abbrev pub stored_of : List Frame → Held → Assembly
+abbrev pub stored_of : List Frame → Held → Option HeldPart
 stored_of fs p =
-    Stored (record {
+    Some (record {
       kind = p.kind;
       number = p.number;
       remaining = p.remaining;

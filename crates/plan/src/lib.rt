@@ -12,7 +12,7 @@ ghost use Rattle.plan.specs.Steps.{PlanReads, stored_of, resume_in, within_of, p
 
 use crate::search::not_above;
 use index::refuses;
-use rules::{AreaIndex, Assembly, End, Held, HeldPart, Plan, Planned, Resume};
+use rules::{AreaIndex, Held, HeldPart, Plan, Planned, Resume};
 use sections::lsn_at;
 use tables::{get_checkpoint, get_header, read_held};
 
@@ -28,11 +28,11 @@ fn offset_of(frames: &[u8], f: usize, g: u32) -> u64
     sum
 }
 
-fn stored(frames: &[u8], f: usize, p: Held) -> Assembly
+fn stored(frames: &[u8], f: usize, p: Held) -> Option<HeldPart>
     requires { f * 8 ≤ length frames.now }
     ensures { (store : List ℕ) → result ≡ stored_of (frames_in f frames.now store) p }
 {
-    Assembly::Stored(HeldPart {
+    Some(HeldPart {
         kind: p.kind,
         number: p.number,
         remaining: p.remaining,
@@ -42,7 +42,7 @@ fn stored(frames: &[u8], f: usize, p: Held) -> Assembly
 }
 
 // The part of checkpoint number j.
-fn assembly_of(frames: &[u8], f: usize, parts: &[u8], h: usize, j: u32) -> Assembly
+fn assembly_of(frames: &[u8], f: usize, parts: &[u8], h: usize, j: u32) -> Option<HeldPart>
     requires { (f * 8 ≤ length frames.now) × (h * 24 ≤ length parts.now) }
     ensures { (store : List ℕ) → result ≡ assembly_of (frames_in f frames.now store) (parts_in h parts.now) j }
 {
@@ -52,7 +52,7 @@ fn assembly_of(frames: &[u8], f: usize, parts: &[u8], h: usize, j: u32) -> Assem
             return stored(frames, f, p);
         }
     }
-    Assembly::Replayed
+    None
 }
 
 fn resume(x: AreaIndex, j: u32, checkpoints: &[u8], frames: &[u8], parts: &[u8]) -> Plan
@@ -89,7 +89,7 @@ fn plan_in(x: AreaIndex, first: u32, checkpoints: &[u8], frames: &[u8], parts: &
         hints confirmed) first }
 {
     match x.ending {
-        End::Closed(e) if e.threshold <= first => Plan::End(e),
+        Some(e) if e.threshold <= first => Plan::End(e),
         _ => plan_within(x, first, checkpoints, frames, parts),
     }
 }

@@ -1,8 +1,7 @@
 -- Words of answers, 24 in a block.
-use Rattle.std.specs.Prelude.{ℕ, List, [], ◌∷◌}
+use Rattle.rules.specs.declared.HeldPart.{HeldPart}
+use Rattle.std.specs.Prelude.{ℕ, List, [], ◌∷◌, Option, None, Some}
 use Rattle.rules.specs.declared.Area.{Area}
-use Rattle.rules.specs.declared.Assembly.{Assembly}
-use Rattle.rules.specs.declared.Assembly.TheVariants.{Replayed, Stored}
 use Rattle.rules.specs.declared.First.{First}
 use Rattle.rules.specs.declared.Plan.{Plan}
 use Rattle.rules.specs.declared.Plan.TheVariants as plan
@@ -16,9 +15,9 @@ use Rattle.player.specs.declared.block.HeldWords.{HeldWords}
 
 -- ---- words of answers
 -- whether a part is held, its kind, frame number, remaining (as 32 bits), offset and length
-unfoldable pub assembly_words : Assembly → HeldWords
-assembly_words Replayed = record { held = 0; kind = 0; number = 0; remaining = 0; offset = 0; len = 0 }
-assembly_words (Stored p) =
+unfoldable pub assembly_words : Option HeldPart → HeldWords
+assembly_words None = record { held = 0; kind = 0; number = 0; remaining = 0; offset = 0; len = 0 }
+assembly_words (Some p) =
     record {
       held = 1;
       kind = kind_number p.kind;
@@ -39,11 +38,11 @@ rule_word p = plan_rule_number (plan_rule p)
 
 -- 0 the area's start, 1 a checkpoint, 2 the area's end; word 13 is the rule
 unfoldable pub plan_words : Plan → List ℕ
-plan_words plan.Start = plan_array 0 0 0 0 0 0 0 (assembly_words Replayed) (rule_word plan.Start)
+plan_words plan.Start = plan_array 0 0 0 0 0 0 0 (assembly_words None) (rule_word plan.Start)
 plan_words (plan.At r) =
     plan_array 1 r.number r.lsn r.checkpoint.threshold r.checkpoint.back r.checkpoint.malformed r.checkpoint.digest
     (assembly_words r.assembly) (rule_word (plan.At r))
-plan_words (plan.End e) = plan_array 2 0 0 e.threshold 0 e.malformed 0 (assembly_words Replayed) (rule_word (plan.End e))
+plan_words (plan.End e) = plan_array 2 0 0 e.threshold 0 e.malformed 0 (assembly_words None) (rule_word (plan.End e))
 
 -- whether there is a first record, its frame number, its offset, and why there is none
 abbrev pub told_words : Told → List ℕ

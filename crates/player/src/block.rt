@@ -13,7 +13,7 @@ ghost use Rattle.player.specs.Steps.{resume_words};
 use blocks::calls::bit_word;
 use blocks::{first_told, index_words, write_words};
 use rules::{
-    Added, Area, Assembly, Brings, FileArea, First, Made, Plan, Planned, Resume, Sized, TableSizes,
+    Added, Area, Brings, FileArea, First, HeldPart, Made, Plan, Planned, Resume, Sized, TableSizes,
 };
 use rules_jump::{plan_rule, plan_rule_number};
 use tables::part_records::{kind_number, unsigned};
@@ -30,11 +30,11 @@ pub struct HeldWords {
     pub len: u64,
 }
 
-fn assembly_words(a: Assembly) -> HeldWords
+fn assembly_words(a: Option<HeldPart>) -> HeldWords
     ensures { result ≡ assembly_words a }
 {
     match a {
-        Assembly::Replayed => HeldWords {
+        None => HeldWords {
             held: 0,
             kind: 0,
             number: 0,
@@ -42,7 +42,7 @@ fn assembly_words(a: Assembly) -> HeldWords
             offset: 0,
             len: 0,
         },
-        Assembly::Stored(p) => {
+        Some(p) => {
             let kind = p.kind;
             HeldWords {
                 held: 1,
@@ -130,17 +130,7 @@ pub fn plan_words(p: Plan) -> [u64; 24]
 {
     let rule = rule_word(p);
     match p {
-        Plan::Start => plan_array(
-            0,
-            0,
-            0,
-            0,
-            0,
-            0,
-            0,
-            assembly_words(Assembly::Replayed),
-            rule,
-        ),
+        Plan::Start => plan_array(0, 0, 0, 0, 0, 0, 0, assembly_words(None), rule),
         Plan::At(r) => resume_words(r),
         Plan::End(e) => plan_array(
             2,
@@ -150,7 +140,7 @@ pub fn plan_words(p: Plan) -> [u64; 24]
             0,
             e.malformed,
             0,
-            assembly_words(Assembly::Replayed),
+            assembly_words(None),
             rule,
         ),
     }

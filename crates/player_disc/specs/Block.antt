@@ -1,6 +1,5 @@
 -- Answers of the calls for disc files as a number and blocks of 24 words.
-use Rattle.std.specs.Prelude.{ℕ, List, [], ◌∷◌}
-use Rattle.std.proofs.Math.Option.{Option, none, some}
+use Rattle.std.specs.Prelude.{ℕ, List, [], ◌∷◌, Option, None, Some}
 use Rattle.rules.specs.File.{over}
 use Rattle.blocks.specs.Blocks.{block_of, index_words}
 use Rattle.blocks.specs.Calls.{Called, called, two}
@@ -34,12 +33,12 @@ contents_into answer (Lists p q) = called 0 (over (block_of (contents_words (pla
 
 -- ---- sizes
 unfoldable pub is_present : Option TableSizes → ℕ
-is_present none = 0
-is_present (some s) = 1
+is_present None = 0
+is_present (Some s) = 1
 
 unfoldable pub sizes_or0 : Option TableSizes → TableSizes
-sizes_or0 none = record { checkpoints = 0; frames = 0; store = 0; parts = 0; malformed = 0; hints = 0; confirmed = 0 }
-sizes_or0 (some s) = s
+sizes_or0 None = record { checkpoints = 0; frames = 0; store = 0; parts = 0; malformed = 0; hints = 0; confirmed = 0 }
+sizes_or0 (Some s) = s
 
 abbrev pub slot_words : TableSizes → ℕ → TableSizes → ℕ → List ℕ
 slot_words s p t q =

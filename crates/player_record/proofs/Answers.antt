@@ -1,4 +1,5 @@
 -- What each call answers where its blocks are heads or long enough, from what the calls in it ensure. Assumes nothing.
+use Rattle.std.specs.Prelude.{Option, ℕ}
 use mathlib.Core.Path.{◌≡◌}
 use mathlib.Core.Bool.{true}
 use mathlib.Core.List.{List}
@@ -6,9 +7,7 @@ use Prim.Native.Nat.{ℕ, ◌≤◌}
 use lib.ListN.{length}
 use Rattle.rules.specs.declared.AreaIndex.{AreaIndex}
 use Rattle.rules.specs.declared.EndState.{EndState}
-use Rattle.rules.specs.declared.ImageId.{ImageId}
 use Rattle.rules.specs.declared.Recorder.{Recorder}
-use Rattle.rules.specs.declared.UnderAssembly.{UnderAssembly}
 use Rattle.blocks.specs.Blocks.{is_index, is_recorder}
 use Rattle.tables.specs.Index.{Tables, frontier_in, frontier_answer}
 use Rattle.rules.specs.declared.Recorded.{Recorded}
@@ -17,6 +16,7 @@ use Rattle.recorder.specs.Recorder.{started_in, finished_in, recorder_out, recor
 use Rattle.rules.specs.declared.Boundary.{Boundary}
 use Rattle.rules.specs.declared.FrontierLsn.{FrontierLsn}
 use Rattle.rules.specs.declared.Absorbed.{Absorbed}
+use Rattle.rules.specs.declared.Assembling as under
 use Rattle.absorb.specs.Absorb.{absorbed_out, absorb_in}
 use Rattle.player_record.specs.Block.{called_both, absorbed_into, boundary_of, lsn_words, boundary_words}
 use Rattle.blocks.specs.Calls.{called, into, head_index, head_recorder}
@@ -33,7 +33,7 @@ module _ (b b' : List ℕ) (n : ℕ) (q : Recorded) (p : called n b' ≡ recorde
   unfolding finish_call
   finish_done l r t s e z = is_head_lemma _ _ _ l (rw (e, z) at p)
 
-  pub record_done : is_recorder b ≡ true → (r : Recorder) (t t' : RecorderTables) (lsn threshold malformed : ℕ) (f g : UnderAssembly) (bytes sector : List ℕ)
+  pub record_done : is_recorder b ≡ true → (r : Recorder) (t t' : RecorderTables) (lsn threshold malformed : ℕ) (f g : Option under.Assembling) (bytes sector : List ℕ)
       → recorder_out q t' ≡ record_in r t lsn threshold malformed f bytes sector → r ≡ head_recorder b → f ≡ g
       → called_four n b' t' ≡ record_call b lsn threshold malformed g bytes sector t
   unfolding record_call
@@ -56,7 +56,7 @@ frontier_done h a a' n l q p g x e z = is_head_lemma _ _ _ g (long_enough a _ _ 
 
 -- ---- a list and a recorder
 module _ (h h' b b' : List ℕ) (n : ℕ) (g : is_index h ≡ true) (l : is_recorder b ≡ true) (x : AreaIndex) (r : Recorder) (t : Tables) (u : RecorderTables) where
-  pub absorb_done : (t' : Tables) (i j : ImageId) (given : List ℕ) (q : Absorbed) → called_both n h' b' ≡ absorbed_into h b q
+  pub absorb_done : (t' : Tables) (i j : Option ℕ) (given : List ℕ) (q : Absorbed) → called_both n h' b' ≡ absorbed_into h b q
       → absorbed_out q t' ≡ absorb_in x t i given r u → x ≡ head_index h → r ≡ head_recorder b → i ≡ j → called_absorbed n h' b' t' ≡ absorb_call h b j given t u
   unfolding absorb_call
   absorb_done t' i j given q p e z y w = is_head_lemma _ _ _ g (is_head_lemma _ _ _ l (rw (← z, ← y, ← w, ← e, p)))

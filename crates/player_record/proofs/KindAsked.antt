@@ -1,4 +1,5 @@
 -- A frame whose kind is neither 0 nor 1 is refused by question 7. Assumes nothing.
+use Rattle.std.specs.Prelude.{None, Some}
 use mathlib.Core.Path.{◌≡◌, refl}
 use mathlib.Core.Bool.{Bool, true, false, ◌&&◌, ◌||◌, cond}
 use mathlib.Core.List.{List}
@@ -6,7 +7,6 @@ use Prim.Native.Nat.{ℕ}
 use lib.Dec.{eqb, leb, ltb}
 use lib.IntN.{ℤ}
 use Rattle.rules.specs.declared.FrameKind.{FrameKind}
-use Rattle.rules.specs.declared.UnderAssembly.TheVariants as frame
 use Rattle.rules.specs.Record.{question7}
 use Rattle.rules.specs.Tests.{all}
 use Rattle.rules.specs.Values.{Recorder, lim}
@@ -21,8 +21,8 @@ no_last false b = refl
 
 module _ (r : Recorder) (lsn start number : ℕ) (remaining : ℤ) (bytes : List ℕ) (k l : FrameKind) where
   asked : (none known : Bool)
-      → question7 r lsn (assembling_in (cond none frame.Nothing (frame.Frame (record { start = start; number = cond known number lim; kind = k; remaining = remaining }))) bytes)
-      ≡ (none || (known && question7 r lsn (assembling_in (frame.Frame (record { start = start; number = number; kind = l; remaining = remaining })) bytes)))
+      → question7 r lsn (assembling_in (cond none None (Some (record { start = start; number = cond known number lim; kind = k; remaining = remaining }))) bytes)
+      ≡ (none || (known && question7 r lsn (assembling_in (Some (record { start = start; number = number; kind = l; remaining = remaining })) bytes)))
   unfolding question7 all assembling_in
   asked true known = refl
   asked false true = refl

@@ -1,12 +1,9 @@
 -- Answers of recorders, hint recorders, hint and keep_confirmation as a number and blocks of 24 words.
-use Rattle.std.specs.Prelude.{ℕ, ℤ, eqb, leb, cond, List, [], ◌∷◌}
-use Rattle.std.proofs.Math.Option.{Option, none, some}
+use Rattle.std.specs.Prelude.{ℕ, ℤ, eqb, leb, cond, List, [], ◌∷◌, Option, None, Some}
 use Rattle.rules.specs.declared.FrameKind.{FrameKind}
 use Rattle.rules.specs.declared.FrameKind.TheVariants.{Dst, Dsd}
 use Rattle.rules.specs.declared.HintRecorder.{HintRecorder}
 use Rattle.rules.specs.declared.Recorder.{Recorder}
-use Rattle.rules.specs.declared.UnderAssembly.{UnderAssembly}
-use Rattle.rules.specs.declared.UnderAssembly.TheVariants as frame
 use Rattle.rules.specs.File.{bit, over}
 use Rattle.rules.specs.Tests.{Answer, Refused, Accepted}
 use Rattle.rules.specs.Values.{lim}
@@ -28,6 +25,7 @@ use Rattle.rules.specs.declared.Recorded.{Recorded}
 use Rattle.rules.specs.declared.Recorded.TheVariants as recorded
 use Rattle.rules.specs.declared.Boundary.{Boundary}
 use Rattle.rules.specs.declared.Boundary.TheVariants as boundary
+use Rattle.rules.specs.declared.Assembling as under
 use Rattle.blocks.specs.Calls.{one_word, two}
 
 -- ---- a frame under assembly
@@ -40,10 +38,10 @@ unfoldable pub number_from : ℕ → ℕ → ℕ
 number_from kind number = cond (leb kind 1) number lim
 
 -- a mark of 0 is no frame, anything else one
-unfoldable pub frame_from : ℕ → ℕ → ℕ → ℕ → ℤ → UnderAssembly
+unfoldable pub frame_from : ℕ → ℕ → ℕ → ℕ → ℤ → Option under.Assembling
 frame_from mark start number kind remaining =
-    cond (eqb mark 0) frame.Nothing
-    (frame.Frame (record { start = start; number = number_from kind number; kind = kind_from kind; remaining = remaining }))
+    cond (eqb mark 0) None
+    (Some (record { start = start; number = number_from kind number; kind = kind_from kind; remaining = remaining }))
 
 -- ---- answers
 unfoldable pub recorded_of : Recorded → Answer Recorder
@@ -60,13 +58,13 @@ saw_of (saw.Sector s) = Accepted s
 
 unfoldable pub created_of : Created → Answer (Option HintRecorder)
 created_of (created.Refused n) = Refused n
-created_of created.Nothing = Accepted none
-created_of (created.Recorder r) = Accepted (some r)
+created_of created.Nothing = Accepted None
+created_of (created.Recorder r) = Accepted (Some r)
 
 unfoldable pub boundary_of : Boundary → Answer (Option ℕ)
 boundary_of (boundary.Refused n) = Refused n
-boundary_of boundary.Nothing = Accepted none
-boundary_of (boundary.Lsn l) = Accepted (some l)
+boundary_of boundary.Nothing = Accepted None
+boundary_of (boundary.Lsn l) = Accepted (Some l)
 
 -- ---- words
 -- the hint recorder afterwards, and the first record of the sector
@@ -75,8 +73,8 @@ sector_words s = seen_words s.recorder s.first
 
 -- where there is no hint recorder, the words are 0: its spacing, the first word, is not
 unfoldable pub created_words : Option HintRecorder → List ℕ
-created_words none = one_word 0
-created_words (some r) = hint_recorder_words r
+created_words None = one_word 0
+created_words (Some r) = hint_recorder_words r
 
 -- 1, LSN, frame number, upper end of the read, and 1 where a later hint gave it; how the hint was chosen, and where the upper end came from
 abbrev pub found_words : NamedHint → List ℕ
@@ -86,16 +84,16 @@ found_words h =
 
 -- where there is no hint, the words are 0
 unfoldable pub hint_words : Option NamedHint → List ℕ
-hint_words none = one_word 0
-hint_words (some h) = found_words h
+hint_words None = one_word 0
+hint_words (Some h) = found_words h
 
 -- 1 and the LSN; where there is no such boundary, the words are 0
 abbrev pub lsn_words : ℕ → List ℕ
 lsn_words l = two 1 l
 
 unfoldable pub boundary_words : Option ℕ → List ℕ
-boundary_words none = one_word 0
-boundary_words (some l) = lsn_words l
+boundary_words None = one_word 0
+boundary_words (Some l) = lsn_words l
 
 -- ---- two blocks
 pub record CalledBoth : Type 0 where

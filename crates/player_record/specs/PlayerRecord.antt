@@ -1,11 +1,10 @@
 -- What the calls for C answer on recorders and hints.
-use Rattle.std.specs.Prelude.{ℕ, List}
+use Rattle.std.specs.Prelude.{ℕ, List, Option}
 use Rattle.rules.specs.declared.EndState.{EndState}
-use Rattle.rules.specs.declared.ImageId.{ImageId}
-use Rattle.rules.specs.declared.UnderAssembly.{UnderAssembly}
 use Rattle.rules.specs.declared.Recorded.{Recorded}
 use Rattle.rules.specs.declared.Confirmation.{Confirmation}
 use Rattle.rules.specs.Tests.{number_of}
+use Rattle.rules.specs.declared.Assembling as under
 use Rattle.blocks.specs.Blocks.{recorder_words, hint_recorder_words, is_index, is_recorder, is_hint_recorder}
 use Rattle.tables.specs.Index.{Tables, frontier_in}
 use Rattle.tables.specs.Recorder.{RecorderTables}
@@ -42,7 +41,7 @@ unfoldable pub recorder_call : List ℕ → ℕ → List ℕ → Tables → Call
 recorder_call head from block t =
     in_head (is_index head) (called 3 block) (in_block block (called 3 block) (recorded_into block (started_in (head_index head) t from)))
 
-unfoldable pub record_call : List ℕ → ℕ → ℕ → ℕ → UnderAssembly → List ℕ → List ℕ → RecorderTables → CalledFour
+unfoldable pub record_call : List ℕ → ℕ → ℕ → ℕ → Option under.Assembling → List ℕ → List ℕ → RecorderTables → CalledFour
 record_call block lsn threshold malformed f bytes sector t =
     let o = record_in (head_recorder block) t lsn threshold malformed f bytes sector in
     in_head (is_recorder block) (called_four 3 block t) (with_four (recorded_into block o.answer) o.tables)
@@ -78,7 +77,7 @@ with_absorbed c t = record { call = c; tables = t }
 abbrev pub called_absorbed : ℕ → List ℕ → List ℕ → Tables → CalledAbsorbed
 called_absorbed n head b t = with_absorbed (called_both n head b) t
 
-unfoldable pub absorb_call : List ℕ → List ℕ → ImageId → List ℕ → Tables → RecorderTables → CalledAbsorbed
+unfoldable pub absorb_call : List ℕ → List ℕ → Option ℕ → List ℕ → Tables → RecorderTables → CalledAbsorbed
 absorb_call head block image given t u =
     let o = absorb_in (head_index head) t image given (head_recorder block) u in
     in_head (is_index head) (called_absorbed 3 head block t)

@@ -11,8 +11,8 @@ ghost use Rattle.player_record.specs.Block.{kind_from, number_from, frame_from, 
 use blocks::calls::{bit_word, one_word};
 use blocks::{hint_recorder_words, index_words, recorder_words, seen_words, write_words};
 use rules::{
-    Absorbed, Assembling, Boundary, Created, FrameKind, FrontierLsn, ImageId, Kept,
-    MAX_NEXT_ACCEPTABLE, Made, Recorded, Saw, Seen, Taken, UnderAssembly,
+    Absorbed, Assembling, Boundary, Created, FrameKind, FrontierLsn, Kept, MAX_NEXT_ACCEPTABLE,
+    Made, Recorded, Saw, Seen, Taken,
 };
 use rules_jump::{HintAnswer, NamedHint, end_rule_number, start_rule_number};
 
@@ -38,13 +38,13 @@ fn number_from(kind: u8, number: u32) -> u32
 }
 
 // A mark of 0 is no frame, anything else one.
-pub fn frame_from(mark: u8, start: u64, number: u32, kind: u8, remaining: i32) -> UnderAssembly
+pub fn frame_from(mark: u8, start: u64, number: u32, kind: u8, remaining: i32) -> Option<Assembling>
     ensures { result ≡ frame_from mark start number kind remaining }
 {
     if mark == 0 {
-        return UnderAssembly::Nothing;
+        return None;
     }
-    UnderAssembly::Frame(Assembling {
+    Some(Assembling {
         start,
         number: number_from(kind, number),
         kind: kind_from(kind),
@@ -53,13 +53,13 @@ pub fn frame_from(mark: u8, start: u64, number: u32, kind: u8, remaining: i32) -
 }
 
 // A mark of 0 is no image id, anything else one.
-pub fn image_given(mark: u8, image: u64) -> ImageId
+pub fn image_given(mark: u8, image: u64) -> Option<u64>
     ensures { result ≡ image_read mark image }
 {
     if mark == 0 {
-        return ImageId::Anonymous;
+        return None;
     }
-    ImageId::Id(image)
+    Some(image)
 }
 
 // ---- into blocks

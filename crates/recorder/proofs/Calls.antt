@@ -1,8 +1,8 @@
 -- What recorder and finish answer, by the numbers that refuse. Assumes nothing.
+use Rattle.std.specs.Prelude.{Some}
 use mathlib.Core.Path.{◌≡◌, refl, sym, ap, ◌∙◌}
 use mathlib.Core.Bool.{Bool, true, false, ◌&&◌, not, cond}
 use mathlib.Core.List.{[], ◌∷◌}
-use mathlib.Core.Option.{some}
 use Prim.Native.Nat.{ℕ, ◌+◌}
 use borrow.Author.Tests.{eq-eqb, ne_eqb, not-true, not-false}
 use lib.Dec.{eqb}
@@ -97,7 +97,7 @@ module _ (r : Recorder) (t : RecorderTables) {n : ℕ} (e : n ≡ recorder_refus
       pub finished_5 : not g ≡ true → recorded.Refused 5 ≡ finished_in r t s
       finished_5 h = sym (finished_is ∙ rw (eq-eqb n 0 z, ← p, not-true g h))
 
-      module _ (m : not g ≡ false) {k : Bool} (q : k ≡ ending_ok r.area (recorder_in r t).checkpoints (some s)) where
+      module _ (m : not g ≡ false) {k : Bool} (q : k ≡ ending_ok r.area (recorder_in r t).checkpoints (Some s)) where
         pub finished_6 : not k ≡ true → recorded.Refused 6 ≡ finished_in r t s
         unfolding ending_ok
         finished_6 h = sym (finished_is ∙ rw (eq-eqb n 0 z, ← p, not-false g m, ← q, not-true k h))

@@ -1,5 +1,5 @@
 -- What the calls on a recorder answer, and its tables afterwards.
-use Rattle.std.specs.Prelude.{ℕ, ◌+◌, List, Bool, true, cond, ◌&&◌, ltb}
+use Rattle.std.specs.Prelude.{ℕ, ◌+◌, List, Bool, true, cond, ◌&&◌, ltb, Option}
 use Rattle.rules.specs.declared.AreaIndex.{AreaIndex}
 use Rattle.rules.specs.declared.EndState.{EndState}
 use Rattle.rules.specs.declared.Recorder.{Recorder}
@@ -10,13 +10,13 @@ use Rattle.rules.specs.Record.{finish, record_at, is_running}
 use Rattle.tables.specs.Index.{Tables, room_of, index_in, kinds_in, kinded}
 use Rattle.rules.specs.declared.Recorded.{Recorded}
 use Rattle.rules.specs.declared.Recorded.TheVariants as recorded
-use Rattle.rules.specs.declared.UnderAssembly.{UnderAssembly}
 use Rattle.rules.specs.declared.Area.{Area}
 use Rattle.rules.specs.declared.Boundary.{Boundary}
 use Rattle.rules.specs.declared.Boundary.TheVariants as boundary
 use Rattle.rules.specs.declared.Mode.{Mode}
 use Rattle.rules.specs.Questions.{area_ok, numbers_ok}
 use Rattle.rules.specs.Values.{boundaries, lsn_of}
+use Rattle.rules.specs.declared.Assembling as under
 use Rattle.tables.specs.Recorder.{RecorderTables, recorder_from, recorder_in, recorder_kinds, recorder_room, recorder_over, assembling_in}
 
 -- ---- answers
@@ -45,7 +45,7 @@ unfoldable pub record_out : RecorderTables → Answer values.Recorder → Record
 record_out t (Refused n) = recorder_out (recorded.Refused n) t
 record_out t (Accepted r) = recorder_out (recorded.Recorder (recorder_from r)) (recorder_over r t)
 
-unfoldable pub record_in : Recorder → RecorderTables → ℕ → ℕ → ℕ → UnderAssembly → List ℕ → List ℕ → RecorderOut
+unfoldable pub record_in : Recorder → RecorderTables → ℕ → ℕ → ℕ → Option under.Assembling → List ℕ → List ℕ → RecorderOut
 record_in r t lsn threshold malformed f b sector =
     record_out t (kinded (recorder_kinds r t) (record_at (recorder_room t) (recorder_in r t) lsn threshold malformed (assembling_in f b) sector))
 

@@ -1,20 +1,17 @@
 -- What the functions of a recorder need of each other.
-use Rattle.std.specs.Prelude.{◌≡◌, ℕ, ◌+◌, ◌*◌, ◌/◌, ◌≤◌, ◌-◌, Bool, true, cond, ◌&&◌, ◌||◌, not, List, [], ◌∷◌, eqb, leb, ltb, length}
-use Rattle.std.proofs.Math.Option.{Option, none, some}
+use Rattle.std.specs.Prelude.{◌≡◌, ℕ, ◌+◌, ◌*◌, ◌/◌, ◌≤◌, ◌-◌, Bool, true, cond, ◌&&◌, ◌||◌, not, List, [], ◌∷◌, eqb, leb, ltb, length, Option, None, Some}
 use Rattle.rules.specs.declared.AreaIndex.{AreaIndex}
 use Rattle.rules.specs.declared.Mode.TheVariants.{Running, Stopped}
 use Rattle.rules.specs.declared.Recorder.{Recorder}
 use Rattle.rules.specs.declared.Area.{Area}
 use Rattle.rules.specs.declared.Checkpoint.{Checkpoint}
-use Rattle.rules.specs.declared.UnderAssembly.{UnderAssembly}
-use Rattle.rules.specs.declared.UnderAssembly.TheVariants.{Nothing, Frame}
 use Rattle.rules.specs.Tests.{all, is_some, ask, first_no}
 use Rattle.rules.specs.Values.{boundaries, lim, lsn_of, last_checkpoint, replay_sectors}
 use Rattle.rules.specs.Sections.{checkpoints_ok, ending_ok}
 use Rattle.rules.specs.Questions.{area_ok, numbers_ok, held_ok, end_of, recorder_question4}
 use Rattle.rules.specs.PartRule.{Stored, add_part}
 use Rattle.rules.specs.Record.{Assembling, is_running}
-use Rattle.tables.specs.Index.{end_in}
+use Rattle.rules.specs.declared.Assembling as under
 use Rattle.index.specs.Index.{scan_space}
 use Rattle.tables.specs.Recorder.{RecorderTables, recorder_in, recorder_kinds, recorder_refusal}
 use Rattle.tables.specs.Tables.{checkpoints_in}
@@ -71,7 +68,7 @@ empty_of x from =
       checkpoints = 0;
       frames = 0;
       parts = 0;
-      mode = cond (is_some (end_in x.ending)) Stopped Running;
+      mode = cond (is_some x.ending) Stopped Running;
     }
 
 -- 5, 6 and 7 by numbers
@@ -83,19 +80,19 @@ unfoldable pub rises_in : Checkpoint → ℕ → ℕ → ℕ → ℕ → Bool
 rises_in c j k threshold malformed =
     leb c.threshold threshold && (ltb threshold (lim + 1) && (leb c.malformed malformed && leb malformed (j * k)))
 
-unfoldable pub starts_in : Area → ℕ → UnderAssembly → Bool
-starts_in a lsn Nothing = true
-starts_in a lsn (Frame f) = leb a.start f.start && (ltb f.start lsn && ltb f.number lim)
+unfoldable pub starts_in : Area → ℕ → Option under.Assembling → Bool
+starts_in a lsn None = true
+starts_in a lsn (Some f) = leb a.start f.start && (ltb f.start lsn && ltb f.number lim)
 
 -- the frame under assembly, stored for checkpoint number j where back exceeds 32
 unfoldable pub assembled_in : ℕ → Stored → ℕ → ℕ → Option Assembling → Stored
-assembled_in budget s j lsn none = s
-assembled_in budget s j lsn (some f) =
+assembled_in budget s j lsn None = s
+assembled_in budget s j lsn (Some f) =
     cond (ltb replay_sectors (lsn - f.start))
     (add_part budget s (record { at = j; start = f.start; bytes = f.bytes; number = f.number; kind = f.kind; remaining = f.remaining })) s
 
 -- 1 to 7: the number of the first answered no, 0 for none
-unfoldable pub record_number : Recorder → RecorderTables → ℕ → ℕ → ℕ → UnderAssembly → ℕ → ℕ
+unfoldable pub record_number : Recorder → RecorderTables → ℕ → ℕ → ℕ → Option under.Assembling → ℕ → ℕ
 record_number r t lsn threshold malformed f len =
     cond (eqb (recorder_refusal r t) 0)
     (first_no

@@ -8,7 +8,7 @@ pub mod record;
 ghost use Rattle.std.specs.Prelude.{◌≡◌, List, ℕ};
 ghost use Rattle.rules.specs.Tests.{is_some};
 ghost use Rattle.rules.specs.Questions.{end_of};
-ghost use Rattle.tables.specs.Index.{tables, end_in};
+ghost use Rattle.tables.specs.Index.{tables};
 ghost use Rattle.tables.specs.Recorder.{recorder_tables, recorder_refusal};
 ghost use Rattle.recorder.specs.Recorder.{started_in, finished_in, mode_of};
 ghost use Rattle.recorder.specs.Steps.{recorder_held, stretch_counts, stretch_in, Spaced, Long, empty_of};
@@ -16,7 +16,7 @@ ghost use Rattle.recorder.specs.Steps.{recorder_held, stretch_counts, stretch_in
 use crate::modes::{at_end, mode_of};
 use index::room::{question1, question2};
 use index::{refuses, scan_room};
-use rules::{AreaIndex, End, EndState, Mode, Recorded, Recorder};
+use rules::{AreaIndex, EndState, Mode, Recorded, Recorder};
 use sections::part_records::check_parts;
 use sections::records::{check_checkpoints, check_frames};
 use sections::{area_boundaries, ending_ok, last_checkpoint};
@@ -24,13 +24,13 @@ use tables::kinds::check_kinds;
 
 // ---- the end state
 // The end state that a recorder has.
-#[tactic(auto, unfolding(tables::specs::Index::end_in, rules::specs::Questions::end_of))]
-pub fn end_of(mode: Mode) -> End
-    ensures { end_in result ≡ end_of mode }
+#[tactic(auto, unfolding(rules::specs::Questions::end_of))]
+pub fn end_of(mode: Mode) -> Option<EndState>
+    ensures { result ≡ end_of mode }
 {
     match mode {
-        Mode::Finished(e) => End::Closed(e),
-        Mode::Running | Mode::Stopped => End::Open,
+        Mode::Finished(e) => Some(e),
+        Mode::Running | Mode::Stopped => None,
     }
 }
 
@@ -190,7 +190,7 @@ pub fn finish(
         return Recorded::Refused(5);
     }
     let last = last_checkpoint(checkpoints, r.checkpoints as usize);
-    if !ending_ok(r.area, last, End::Closed(e)) {
+    if !ending_ok(r.area, last, Some(e)) {
         return Recorded::Refused(6);
     }
     Recorded::Recorder(with_mode(r, Mode::Finished(e)))

@@ -5,9 +5,8 @@ ghost use Rattle.rules.specs.Values.{boundaries};
 ghost use Rattle.rules.specs.Questions.{area_ok};
 ghost use Rattle.rules.specs.declared.Mode.TheVariants.{Running, Stopped};
 ghost use Rattle.rules.specs.Record.{is_running};
-ghost use Rattle.tables.specs.Index.{end_in};
 
-use rules::{End, Mode, Recorder};
+use rules::{EndState, Mode, Recorder};
 use sections::area_boundaries;
 
 #[tactic(auto, unfolding(rules::specs::Record::is_running))]
@@ -18,13 +17,13 @@ pub fn is_running(mode: Mode) -> bool
 }
 
 // The mode of the recorder of an index with this end state.
-#[tactic(auto, unfolding(rules::specs::Tests::is_some, tables::specs::Index::end_in))]
-pub fn mode_of(ending: End) -> Mode
-    ensures { result ≡ cond (is_some (end_in ending)) Stopped Running }
+#[tactic(auto, unfolding(rules::specs::Tests::is_some))]
+pub fn mode_of(ending: Option<EndState>) -> Mode
+    ensures { result ≡ cond (is_some ending) Stopped Running }
 {
     match ending {
-        End::Open => Mode::Running,
-        End::Closed(_) => Mode::Stopped,
+        None => Mode::Running,
+        Some(_) => Mode::Stopped,
     }
 }
 

@@ -15,8 +15,8 @@ use field::{write_u32, write_u64};
 use fnv::digest;
 use parts::{Counts, Piece, add_part, used_bytes};
 use rules::{
-    Area, Checkpoint, MAX_NEXT_ACCEPTABLE, REPLAY_SECTORS, Recorded, Recorder, SECTOR_BYTES,
-    UnderAssembly,
+    Area, Assembling, Checkpoint, MAX_NEXT_ACCEPTABLE, REPLAY_SECTORS, Recorded, Recorder,
+    SECTOR_BYTES,
 };
 use sections::last_checkpoint;
 
@@ -47,26 +47,24 @@ fn rises(c: Checkpoint, j: u64, interval: u32, threshold: u32, malformed: u64) -
 
 // 7: does the frame start in the area before this LSN, with a number below LIM?
 #[tactic(auto, unfolding(crate::specs::Steps::starts_in))]
-fn starts(area: Area, lsn: u64, frame: UnderAssembly) -> bool
+fn starts(area: Area, lsn: u64, frame: Option<Assembling>) -> bool
     ensures { result ≡ starts_in area lsn frame }
 {
     match frame {
-        UnderAssembly::Nothing => true,
-        UnderAssembly::Frame(a) => {
-            area.start <= a.start && a.start < lsn && a.number < MAX_NEXT_ACCEPTABLE
-        }
+        None => true,
+        Some(a) => { area.start <= a.start && a.start < lsn && a.number < MAX_NEXT_ACCEPTABLE }
     }
 }
 
 // ---- what is written
 #[tactic(auto, unfolding(rules::specs::Record::back_of, tables::specs::Recorder::assembling_in))]
-fn back_of(lsn: u64, frame: UnderAssembly) -> u32
+fn back_of(lsn: u64, frame: Option<Assembling>) -> u32
     requires { lsn < 4294967296 }
     ensures { (b : List ℕ) → result ≡ back_of lsn (assembling_in frame b) }
 {
     match frame {
-        UnderAssembly::Nothing => 0,
-        UnderAssembly::Frame(a) => lsn.saturating_sub(a.start) as u32,
+        None => 0,
+        Some(a) => lsn.saturating_sub(a.start) as u32,
     }
 }
 
@@ -87,7 +85,7 @@ fn assemble(
     c: Counts,
     j: u32,
     lsn: u64,
-    frame: UnderAssembly,
+    frame: Option<Assembling>,
     bytes: &[u8],
     frames: &mut [u8],
     store: &mut [u8],
@@ -96,7 +94,7 @@ fn assemble(
     requires { Room 1 budget c (part_tables frames.old store.old parts.old) × (lsn < 4294967296) }
     ensures { held result (part_tables frames.new store.new parts.new) ≡ held_from (assembled_in budget (stored_in c.frames c.parts (part_tables frames.old store.old parts.old)) j lsn (assembling_in frame bytes.now)) (part_tables frames.old store.old parts.old) }
 {
-    let UnderAssembly::Frame(a) = frame else {
+    let Some(a) = frame else {
         return c;
     };
     if lsn.saturating_sub(a.start) <= REPLAY_SECTORS {
@@ -120,7 +118,7 @@ fn record_number(
     lsn: u64,
     threshold: u32,
     malformed: u64,
-    frame: UnderAssembly,
+    frame: Option<Assembling>,
     len: usize,
     checkpoints: &[u8],
     frames: &[u8],
@@ -167,7 +165,7 @@ pub fn record(
     lsn: u64,
     threshold: u32,
     malformed: u64,
-    frame: UnderAssembly,
+    frame: Option<Assembling>,
     bytes: &[u8],
     sector: &[u8],
     checkpoints: &mut [u8],

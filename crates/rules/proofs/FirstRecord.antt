@@ -1,7 +1,7 @@
 -- What a first record tells. Assumes nothing.
+use Rattle.std.specs.Prelude.{None, Some}
 use mathlib.Core.Path.{◌≡◌, refl, subst}
 use mathlib.Core.Bool.{Bool, true, false, ◌||◌, cond}
-use mathlib.Core.Option.{none, some}
 use Prim.Native.Nat.{ℕ, ◌+◌, ◌*◌}
 use native.Mathlib.Omega.{arith}
 use lib.Dec.{eqb, ltb}
@@ -18,7 +18,7 @@ use Rattle.rules.specs.FirstStatements.{number_told, FirstNumbers, Placed, First
 abbrev told : Bool → Bool → Bool → TimeBytes → First
 told a b c t = cond a (Nothing Missing) (cond b (Nothing NoFrame) (cond c (Nothing Missing) (Number t)))
 
-number_told_lemma : (a b c : Bool) (t : TimeBytes) → number_told (told a b c t) ≡ cond (a || b || c) none (some t.number)
+number_told_lemma : (a b c : Bool) (t : TimeBytes) → number_told (told a b c t) ≡ cond (a || b || c) None (Some t.number)
 unfolding number_told
 number_told_lemma true b c t = refl
 number_told_lemma false true c t = refl

@@ -1,9 +1,9 @@
 -- Laws of tests, questions and answers. Assumes nothing.
+use Rattle.std.specs.Prelude.{Option, None, Some}
 use mathlib.Core.Path.{◌≡◌, refl, sym}
 use mathlib.Core.Bool.{Bool, true, false, ◌&&◌, ◌||◌, not, cond}
 use mathlib.Core.Logic.{◌⊎◌, inl, inr, ◌≢◌}
 use mathlib.Core.List.{List, [], ◌∷◌, ◌++◌}
-use mathlib.Core.Option.{Option, none, some}
 use Prim.Native.Nat.{ℕ, zero, suc, ◌<◌, ◌≤◌}
 use native.Mathlib.Omega.{arith}
 use lib.Dec.{eqb, leb, ltb}
@@ -32,15 +32,15 @@ choose P true x y f g = f refl
 choose P false x y f g = g refl
 
 -- what is given, where nothing might have been
-pub given : {A : Type 0} (b : Bool) (x y : A) → cond b none (some x) ≡ some y → x ≡ y
+pub given : {A : Type 0} (b : Bool) (x y : A) → cond b None (Some x) ≡ Some y → x ≡ y
 given true x y e = let z : ◌≡◌ {A = ℕ} 0 1 = cc in let f : ⊥ = omega arith in absurd f
 given false x y e = cc
 
 -- two values that are there are one, and one that is there is not missing
-pub some_eq : {A : Type 0} {a b : A} → some a ≡ some b → a ≡ b
+pub some_eq : {A : Type 0} {a b : A} → Some a ≡ Some b → a ≡ b
 some_eq e = cc
 
-pub none_some : {A P : Type 0} {a : A} → none ≡ some a → P
+pub none_some : {A P : Type 0} {a : A} → None ≡ Some a → P
 none_some e = let z : ◌≡◌ {A = ℕ} 0 1 = cc in let f : ⊥ = omega arith in absurd f
 
 -- two tests of which each says the other are one
@@ -191,10 +191,10 @@ each_both f nothing nothing = nothing
 each_both f (one {x = x} p ps) (one q qs) = one (f x p q) (each_both f ps qs)
 
 -- ---- agree, agrees, or_else
-pub agree_none : {A : Type 0} (same : A → A → Bool) (o : Option A) → agree same o none ≡ true
+pub agree_none : {A : Type 0} (same : A → A → Bool) (o : Option A) → agree same o None ≡ true
 unfolding agree
-agree_none same none = refl
-agree_none same (some a) = refl
+agree_none same None = refl
+agree_none same (Some a) = refl
 
 module _ {A : Type 0} (same : A → A → Bool) (self : (a : A) → same a a ≡ true) where
   -- two first parts of one list agree
@@ -208,7 +208,7 @@ module _ {A : Type 0} (same : A → A → Bool) (self : (a : A) → same a a ≡
 
 module _ {A : Type 0} (same : A → A → Bool) (eq : (a b : A) → same a b ≡ true → a ≡ b) where
   -- two known values that agree are equal
-  pub agree_eq : (a b : A) → agree same (some a) (some b) ≡ true → a ≡ b
+  pub agree_eq : (a b : A) → agree same (Some a) (Some b) ≡ true → a ≡ b
   unfolding agree
   agree_eq a b e = eq a b e
 

@@ -1,6 +1,5 @@
 -- Document 01, "New", "Confirmation" and "Index": new, the fingerprint entry and the recorders that an index gives.
-use Rattle.std.specs.Prelude.{ℕ, min, ◌||◌, cond, [], ◌∷◌, eqb}
-use Rattle.std.proofs.Math.Option.{Option, none, some}
+use Rattle.std.specs.Prelude.{ℕ, min, ◌||◌, cond, [], ◌∷◌, eqb, Option, None, Some}
 use Rattle.rules.specs.declared.Area.{Area}
 use Rattle.rules.specs.declared.Fingerprint.TheVariants.{Unknown, Checked}
 use Rattle.rules.specs.declared.Mode.TheVariants.{Running, Stopped}
@@ -12,10 +11,10 @@ use Rattle.rules.specs.Questions.{question1, question2, question3, four}
 abbrev pub empty_index : Area → ℕ → ℕ → ℕ → ℕ → Index
 empty_index a k budget spacing most =
     record {
-      scan = record { area = a; interval = k; budget = budget; checkpoints = []; frames = []; parts = []; ending = none; malformed = [] };
+      scan = record { area = a; interval = k; budget = budget; checkpoints = []; frames = []; parts = []; ending = None; malformed = [] };
       hinting = record { spacing = spacing; most = min most max_hints; hints = []; confirmed = [] };
       fingerprint = Unknown;
-      image = none;
+      image = None;
     }
 
 -- New: 1, 2, then 3 with the lowered M
@@ -31,7 +30,7 @@ bound x v = record { scan = x.scan; hinting = x.hinting; fingerprint = Checked v
 
 -- 1 to 4, 15: the held one, if any?
 unfoldable pub bind_fingerprint : Lengths → Index → ℕ → Answer Index
-bind_fingerprint l x v = after (first_no (four l x (ask (agree eqb (stated x.fingerprint) (some v)) 15 ∷ []))) (Accepted (bound x v))
+bind_fingerprint l x v = after (first_no (four l x (ask (agree eqb (stated x.fingerprint) (Some v)) 15 ∷ []))) (Accepted (bound x v))
 
 -- A complete index gives a stopped recorder
 abbrev pub empty_recorder : Scan → ℕ → Recorder
@@ -55,7 +54,7 @@ recorder l x from = after (first_no (four l x [])) (Accepted (empty_recorder x.s
 -- Spacing or M of 0: no hint recorder
 abbrev pub empty_hint_recorder : Hinting → Option HintRecorder
 empty_hint_recorder r =
-    cond (eqb r.spacing 0 || eqb r.most 0) none (some (record { spacing = r.spacing; last = none; tail = none; list = [] }))
+    cond (eqb r.spacing 0 || eqb r.most 0) None (Some (record { spacing = r.spacing; last = None; tail = None; list = [] }))
 
 -- the call: 1 to 4
 unfoldable pub hint_recorder : Lengths → Index → Answer (Option HintRecorder)

@@ -1,6 +1,5 @@
 -- Document 01, "File": the layout, and saving.
-use Rattle.std.specs.Prelude.{ℕ, ◌+◌, ◌-◌, ◌*◌, Bool, ◌&&◌, ◌||◌, not, cond, List, [], ◌∷◌, ◌++◌, eqb, leb, ltb, ℤ, pos, negsuc, length, get_or, drop}
-use Rattle.std.proofs.Math.Option.{Option, none, some}
+use Rattle.std.specs.Prelude.{ℕ, ◌+◌, ◌-◌, ◌*◌, Bool, ◌&&◌, ◌||◌, not, cond, List, [], ◌∷◌, ◌++◌, eqb, leb, ltb, ℤ, pos, negsuc, length, get_or, drop, Option, None, Some}
 use Rattle.field.specs.Number.{encode, decode, number_at}
 use Rattle.field.specs.Records.{bytes_of}
 use Rattle.fnv.specs.Fnv.{fnv64}
@@ -144,12 +143,12 @@ decode_confirmation b = record { lsn = number_at 4 b 0; threshold = number_at 4 
 
 -- ---- what is saved
 unfoldable pub or_zero : Option ℕ → ℕ
-or_zero none = 0
-or_zero (some v) = v
+or_zero None = 0
+or_zero (Some v) = v
 
 unfoldable pub end_or_zero : Option EndState → EndState
-end_or_zero none = record { threshold = 0; malformed = 0 }
-end_or_zero (some e) = e
+end_or_zero None = record { threshold = 0; malformed = 0 }
+end_or_zero (Some e) = e
 
 unfoldable pub bit : Bool → ℕ
 bit b = cond b 1 0

@@ -1,6 +1,5 @@
 -- Document 01, "First record", with change request 4: where its three bytes lie, or why there is none.
-use Rattle.std.specs.Prelude.{ℕ, ◌+◌, ◌*◌, ◌/◌, ◌%◌, ◌^◌, ◌||◌, cond, List, eqb, ltb, length, get_or}
-use Rattle.std.proofs.Math.Option.{Option, none, some}
+use Rattle.std.specs.Prelude.{ℕ, ◌+◌, ◌*◌, ◌/◌, ◌%◌, ◌^◌, ◌||◌, cond, List, eqb, ltb, length, get_or, Option, None, Some}
 use Rattle.rules.specs.declared.Absence.TheVariants.{NoFrame, Missing}
 use Rattle.rules.specs.declared.First.{First}
 use Rattle.rules.specs.declared.First.TheVariants.{Number, Nothing}
@@ -28,5 +27,5 @@ first_record s =
 -- f = 0, or bytes missing: none. Else bytes a, b, c at 1 + 2 × k give the number
 unfoldable pub record_number : List ℕ → Option ℕ
 record_number s =
-    cond (eqb (length s) 0 || eqb (frames (get_or s 0 0)) 0 || ltb (length s) (1 + 2 * packets (get_or s 0 0) + 3)) none
-    (some (time_at s (1 + 2 * packets (get_or s 0 0))))
+    cond (eqb (length s) 0 || eqb (frames (get_or s 0 0)) 0 || ltb (length s) (1 + 2 * packets (get_or s 0 0) + 3)) None
+    (Some (time_at s (1 + 2 * packets (get_or s 0 0))))

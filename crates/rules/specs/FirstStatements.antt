@@ -1,6 +1,5 @@
 -- Change request 4: what first_record tells is what the source tells, and where it tells it from.
-use Rattle.std.specs.Prelude.{◌≡◌, ◌↔◌, List, ℕ, ◌+◌, ◌%◌, ◌≤◌, length, get_or}
-use Rattle.std.proofs.Math.Option.{Option, none, some}
+use Rattle.std.specs.Prelude.{◌≡◌, ◌↔◌, List, ℕ, ◌+◌, ◌%◌, ◌≤◌, length, get_or, Option, None, Some}
 use Rattle.field.specs.Records.{Bytes}
 use Rattle.rules.specs.declared.Absence.TheVariants.{NoFrame}
 use Rattle.rules.specs.declared.First.{First}
@@ -10,8 +9,8 @@ use Rattle.rules.specs.FirstRecord.{frames, time_at, first_record, record_number
 
 -- the number of a first record, if any
 unfoldable pub number_told : First → Option ℕ
-number_told (Number t) = some t.number
-number_told (Nothing a) = none
+number_told (Number t) = Some t.number
+number_told (Nothing a) = None
 
 -- "The numbers still equal first_record"
 abbrev pub FirstNumbers : Type 0

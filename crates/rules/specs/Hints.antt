@@ -1,6 +1,5 @@
 -- Document 01, "Hint" and "Confirmation".
-use Rattle.std.specs.Prelude.{ℕ, zero, suc, ◌+◌, ◌-◌, ◌*◌, ◌/◌, min, max, Bool, true, false, ◌&&◌, ◌||◌, not, cond, List, [], ◌∷◌, ◌++◌, eqb, leb, ltb, length, get_or, set, drop}
-use Rattle.std.proofs.Math.Option.{Option, none, some}
+use Rattle.std.specs.Prelude.{ℕ, zero, suc, ◌+◌, ◌-◌, ◌*◌, ◌/◌, min, max, Bool, true, false, ◌&&◌, ◌||◌, not, cond, List, [], ◌∷◌, ◌++◌, eqb, leb, ltb, length, get_or, set, drop, Option, None, Some}
 use Rattle.rules.specs.declared.Area.{Area}
 use Rattle.rules.specs.declared.Confirmation.{Confirmation}
 use Rattle.rules.specs.declared.First.{First}
@@ -15,16 +14,16 @@ use Rattle.rules.specs.Questions.{four, hint_recorder_four}
 -- ---- see, flush, take
 -- if none was ever listed, even before a taking, or it is at least last + spacing (saturating), or below last
 unfoldable pub spaced : Option ℕ → ℕ → ℕ → Bool
-spaced none spacing t = true
-spaced (some l) spacing t = leb (min (l + spacing) max32) t || ltb t l
+spaced None spacing t = true
+spaced (Some l) spacing t = leb (min (l + spacing) max32) t || ltb t l
 
 -- Listing and flushing clear the tail
 abbrev pub listed : HintRecorder → Hint → HintRecorder
-listed r h = record { spacing = r.spacing; last = some h.number; tail = none; list = r.list ++ (h ∷ []) }
+listed r h = record { spacing = r.spacing; last = Some h.number; tail = None; list = r.list ++ (h ∷ []) }
 
 -- it becomes the tail
 abbrev pub tailed : HintRecorder → Hint → HintRecorder
-tailed r h = record { spacing = r.spacing; last = r.last; tail = some h; list = r.list }
+tailed r h = record { spacing = r.spacing; last = r.last; tail = Some h; list = r.list }
 
 -- `see` lists a record that is spaced while the list has under 65,536; else it becomes the tail.
 -- A record whose LSN exceeds 4,294,967,295 is passed over.
@@ -48,14 +47,14 @@ see n r lsn sector =
 
 -- the tail, which `flush` lists under the same bound
 unfoldable pub flushed_list : Option Hint → List Hint → List Hint
-flushed_list none list = list
-flushed_list (some h) list = cond (ltb (length list) max_list) (list ++ (h ∷ [])) list
+flushed_list None list = list
+flushed_list (Some h) list = cond (ltb (length list) max_list) (list ++ (h ∷ [])) list
 
 -- the call
 unfoldable pub flush : ℕ → HintRecorder → Answer HintRecorder
 flush n r =
     after (first_no (hint_recorder_four n r []))
-    (Accepted (record { spacing = r.spacing; last = r.last; tail = none; list = flushed_list r.tail r.list }))
+    (Accepted (record { spacing = r.spacing; last = r.last; tail = None; list = flushed_list r.tail r.list }))
 
 -- the list that is taken, and the recorder afterwards
 pub record TakenHints : Type 0 where
@@ -217,8 +216,8 @@ unfoldable pub keep_confirmation : Lengths → Index → Confirmation → Answer
 keep_confirmation l x c =
     after (first_no (four l x (ask (question14 x.scan.area c) 14 ∷ [])))
     (Accepted
-    (cond (keeps_nothing (is_checked x.fingerprint) x.hinting.most) none
-    (some
+    (cond (keeps_nothing (is_checked x.fingerprint) x.hinting.most) None
+    (Some
     (with_hinting x
     (with_confirmed x.hinting (keep (is_checked x.fingerprint) x.hinting.most x.hinting.confirmed c))))))
 
@@ -230,12 +229,12 @@ larger hs i k =
     || (eqb (get_or hs i no_hint).number (get_or hs k no_hint).number && ltb (get_or hs i no_hint).lsn (get_or hs k no_hint).lsn)
 
 unfoldable pub larger_of : List Hint → Option ℕ → ℕ → ℕ
-larger_of hs none k = k
-larger_of hs (some i) k = cond (larger hs i k) k i
+larger_of hs None k = k
+larger_of hs (Some i) k = cond (larger hs i k) k i
 
 unfoldable pub largest_of : (ℕ → Bool) → List Hint → ℕ → Option ℕ
-largest_of p hs zero = none
-largest_of p hs (suc n) = cond (p n) (some (larger_of hs (largest_of p hs n) n)) (largest_of p hs n)
+largest_of p hs zero = None
+largest_of p hs (suc n) = cond (p n) (Some (larger_of hs (largest_of p hs n) n)) (largest_of p hs n)
 
 -- at most 64 frames below first
 unfoldable pub near : ℕ → Hint → Bool
@@ -254,13 +253,13 @@ hint_place checked hs cs first =
 
 -- the first of hs numbered end or more
 unfoldable pub first_from : ℕ → List Hint → Option Hint
-first_from end [] = none
-first_from end (h ∷ hs) = cond (leb end h.number) (some h) (first_from end hs)
+first_from end [] = None
+first_from end (h ∷ hs) = cond (leb end h.number) (Some h) (first_from end hs)
 
 -- the last of the run of hs numbered above t and below end
 unfoldable pub run_from : ℕ → ℕ → Option Hint → List Hint → Option Hint
 run_from t end o [] = o
-run_from t end o (h ∷ hs) = cond (ltb t h.number && ltb h.number end) (run_from t end (some h) hs) o
+run_from t end o (h ∷ hs) = cond (ltb t h.number && ltb h.number end) (run_from t end (Some h) hs) o
 
 -- sectors for frames
 pub record Density : Type 0 where
@@ -269,31 +268,31 @@ pub record Density : Type 0 where
 
 -- between the hint at a place and the hint before it, whose LSN is lower (question 4)
 unfoldable pub density_before : List Hint → ℕ → Option Density
-density_before hs zero = none
+density_before hs zero = None
 density_before hs (suc i) =
     cond (ltb (get_or hs i no_hint).number (get_or hs (suc i) no_hint).number)
-    (some (record { sectors = (get_or hs (suc i) no_hint).lsn - (get_or hs i no_hint).lsn; frames = (get_or hs (suc i) no_hint).number - (get_or hs i no_hint).number }))
-    none
+    (Some (record { sectors = (get_or hs (suc i) no_hint).lsn - (get_or hs i no_hint).lsn; frames = (get_or hs (suc i) no_hint).number - (get_or hs i no_hint).number }))
+    None
 
 -- between the hint at i and the run's last r, if 3 frames or more; else before the hint. The run's numbers exceed the hint's, and its LSNs too (question 4).
 unfoldable pub local : List Hint → ℕ → Option Hint → Option Density
-local hs i none = density_before hs i
-local hs i (some r) =
+local hs i None = density_before hs i
+local hs i (Some r) =
     cond (leb 3 (r.number - (get_or hs i no_hint).number))
-    (some (record { sectors = r.lsn - (get_or hs i no_hint).lsn; frames = r.number - (get_or hs i no_hint).number })) (density_before hs i)
+    (Some (record { sectors = r.lsn - (get_or hs i no_hint).lsn; frames = r.number - (get_or hs i no_hint).number })) (density_before hs i)
 
 -- the larger density
 unfoldable pub denser : Density → Option Density → Density
-denser whole none = whole
-denser whole (some d) = cond (ltb (whole.sectors * d.frames) (d.sectors * whole.frames)) d whole
+denser whole None = whole
+denser whole (Some d) = cond (ltb (whole.sectors * d.frames) (d.sectors * whole.frames)) d whole
 
 -- of the whole area
 abbrev pub average : Area → ℕ → Density
 average a playtime = record { sectors = a.end - a.start; frames = max playtime 1 }
 
 unfoldable pub or_hint : Hint → Option Hint → Hint
-or_hint h none = h
-or_hint h (some r) = r
+or_hint h None = h
+or_hint h (Some r) = r
 
 -- the answer of hint: LSN, frame number, upper end of the read, and whether a later hint gave it
 pub record Hinted : Type 0 where
@@ -311,7 +310,7 @@ upper_end r end d =
 
 unfoldable pub hinted_locally : Area → List Hint → ℕ → ℕ → ℕ → Hinted
 hinted_locally a hs i end playtime =
-    let run = run_from (get_or hs i no_hint).number end none (drop (suc i) hs) in
+    let run = run_from (get_or hs i no_hint).number end None (drop (suc i) hs) in
     record {
       lsn = (get_or hs i no_hint).lsn;
       number = (get_or hs i no_hint).number;
@@ -321,14 +320,14 @@ hinted_locally a hs i end playtime =
 
 -- through the first later hint s, numbered end or more, if at most 64 frames past it
 unfoldable pub hinted_later : Option Hint → ℕ → Hint → Hinted → Hinted
-hinted_later none end h other = other
-hinted_later (some s) end h other =
+hinted_later None end h other = other
+hinted_later (Some s) end h other =
     cond (leb (s.number - end) hint_reach) (record { lsn = h.lsn; number = h.number; upper = s.lsn + 1; later = true }) other
 
 unfoldable pub hinted_at : Area → List Hint → ℕ → ℕ → Option ℕ → Option Hinted
-hinted_at a hs end playtime none = none
-hinted_at a hs end playtime (some i) =
-    some (hinted_later (first_from end (drop (suc i) hs)) end (get_or hs i no_hint) (hinted_locally a hs i end playtime))
+hinted_at a hs end playtime None = None
+hinted_at a hs end playtime (Some i) =
+    Some (hinted_later (first_from end (drop (suc i) hs)) end (get_or hs i no_hint) (hinted_locally a hs i end playtime))
 
 -- the call: 1 to 4, 16: end not below first?
 unfoldable pub hint : Lengths → Index → ℕ → ℕ → ℕ → Answer (Option Hinted)

@@ -1,6 +1,5 @@
 -- Document 01, "File": loading, in the order of from_bytes, and the limited index.
-use Rattle.std.specs.Prelude.{ℕ, zero, suc, ◌+◌, ◌-◌, ◌*◌, ◌/◌, ◌%◌, min, Bool, ◌&&◌, ◌||◌, not, cond, List, [], ◌∷◌, eqb, leb, ltb, length, take, drop}
-use Rattle.std.proofs.Math.Option.{Option, none, some}
+use Rattle.std.specs.Prelude.{ℕ, zero, suc, ◌+◌, ◌-◌, ◌*◌, ◌/◌, ◌%◌, min, Bool, ◌&&◌, ◌||◌, not, cond, List, [], ◌∷◌, eqb, leb, ltb, length, take, drop, Option, None, Some}
 use Rattle.field.specs.Number.{decode, number_at}
 use Rattle.fnv.specs.Fnv.{fnv64}
 use Rattle.rules.specs.declared.Area.{Area}
@@ -86,7 +85,7 @@ header_number a h left =
     ∷ ask (counts_ok (boundaries a h.interval) h.checkpoints (is_complete h) h.frames h.parts h.malformed && leb (fixed_size h) left) 30 ∷ [])
 
 abbrev pub ending_of : Header → Option EndState
-ending_of h = cond (is_complete h) (some (record { threshold = h.threshold; malformed = h.counted })) none
+ending_of h = cond (is_complete h) (Some (record { threshold = h.threshold; malformed = h.counted })) None
 
 -- ---- behind the parts: 32 (does the last part reach the last frame?), 34, 28, 35
 unfoldable pub end_number : Area → Header → List Checkpoint → List Held → ℕ
@@ -167,7 +166,7 @@ abbrev pub read_frames : Area → Header → List ℕ → Answer (Read (List Fra
 read_frames a h b = read_each (read_frame a h.budget) (λ s f. filled s f.start (length f.bytes)) h.frames (unfilled a) b
 
 abbrev pub read_parts : Area → Header → List Checkpoint → List Frame → List ℕ → Answer (Read (List Held))
-read_parts a h cs fs b = read_each (read_part a h.interval cs fs) (λ o p. some p) h.parts none b
+read_parts a h cs fs b = read_each (read_part a h.interval cs fs) (λ o p. Some p) h.parts None b
 
 abbrev pub read_malformed : Area → Header → List Checkpoint → List ℕ → Answer (Read (List ℕ))
 read_malformed a h cs b =
@@ -190,7 +189,7 @@ index_from a h cs fs ps ms hs qs =
           };
       hinting = record { spacing = hs.header.spacing; most = hs.header.most; hints = hs.hints; confirmed = qs };
       fingerprint = cond (has_fingerprint h) (fingerprint.Held hs.header.fingerprint) Unknown;
-      image = none;
+      image = None;
     }
 
 unfoldable pub read_sections : Area → Header → List ℕ → Answer Index
@@ -275,7 +274,7 @@ limited limit x =
       scan = limited_scan limit x.scan;
       hinting = limited_hinting limit x.hinting;
       fingerprint = unmarked x.fingerprint;
-      image = none;
+      image = None;
     }
 
 -- Load: 1, then 20 to 38 when and as often as `from_bytes` tests. Then 3, for the limited index.

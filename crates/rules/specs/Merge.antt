@@ -1,6 +1,5 @@
 -- Document 01, "Index": merge, and questions 41 to 43.
-use Rattle.std.specs.Prelude.{ℕ, Bool, ◌&&◌, ◌||◌, not, cond, [], ◌∷◌, ◌++◌, eqb, ltb, drop}
-use Rattle.std.proofs.Math.Option.{Option, none, some}
+use Rattle.std.specs.Prelude.{ℕ, Bool, ◌&&◌, ◌||◌, not, cond, [], ◌∷◌, ◌++◌, eqb, ltb, drop, Option, None, Some}
 use Rattle.rules.specs.declared.Area.{Area}
 use Rattle.rules.specs.declared.Fingerprint.{Fingerprint}
 use Rattle.rules.specs.declared.Fingerprint.TheVariants.{Unknown, Checked}
@@ -53,8 +52,8 @@ merged_scan own other = cond (further own other) (taken_scan own other) own
 
 -- the other's fingerprint where none is held, and without its checked mark
 unfoldable pub held_from : Option ℕ → Fingerprint
-held_from none = Unknown
-held_from (some v) = fingerprint.Held v
+held_from None = Unknown
+held_from (Some v) = fingerprint.Held v
 
 unfoldable pub merged_fingerprint : Fingerprint → Fingerprint → Fingerprint
 merged_fingerprint Unknown g = held_from (stated g)

@@ -1,10 +1,8 @@
 -- Document 01, "Index". `plan`: End if complete and the frame is at or past the end threshold; else the last checkpoint
 -- whose threshold is not above it, with its held part; else Start. (What a definition uses stands above it.)
-use Rattle.std.specs.Prelude.{ℕ, zero, suc, ◌+◌, cond, List, [], ◌∷◌, eqb, leb, length, take, drop}
-use Rattle.std.proofs.Math.Option.{Option, none, some}
+use Rattle.rules.specs.declared.HeldPart.{HeldPart}
+use Rattle.std.specs.Prelude.{ℕ, zero, suc, ◌+◌, cond, List, [], ◌∷◌, eqb, leb, length, take, drop, Option, None, Some}
 use Rattle.rules.specs.declared.Area.{Area}
-use Rattle.rules.specs.declared.Assembly.{Assembly}
-use Rattle.rules.specs.declared.Assembly.TheVariants.{Replayed, Stored}
 use Rattle.rules.specs.declared.Checkpoint.{Checkpoint}
 use Rattle.rules.specs.declared.EndState.{EndState}
 use Rattle.rules.specs.declared.Held.{Held}
@@ -20,11 +18,11 @@ abbrev pub offset_of : List Frame → ℕ → ℕ
 offset_of fs f = used (take f fs)
 
 -- the part of checkpoint number j
-unfoldable pub assembly_of : List Frame → List Held → ℕ → Assembly
-assembly_of fs [] j = Replayed
+unfoldable pub assembly_of : List Frame → List Held → ℕ → Option HeldPart
+assembly_of fs [] j = None
 assembly_of fs (p ∷ ps) j =
     cond (eqb p.at j)
-    (Stored (record { kind = p.kind; number = p.number; remaining = p.remaining; offset = offset_of fs p.frame; len = p.len }))
+    (Some (record { kind = p.kind; number = p.number; remaining = p.remaining; offset = offset_of fs p.frame; len = p.len }))
     (assembly_of fs ps j)
 
 -- checkpoint number j, with its held part
@@ -41,17 +39,17 @@ resume x j =
 -- ---- else the last checkpoint whose threshold is not above it; else Start
 -- its number, among the first n
 unfoldable pub last_not_above : ℕ → List Checkpoint → ℕ → Option ℕ
-last_not_above t cs zero = none
-last_not_above t cs (suc n) = cond (leb (checkpoint_at cs n).threshold t) (some n) (last_not_above t cs n)
+last_not_above t cs zero = None
+last_not_above t cs (suc n) = cond (leb (checkpoint_at cs n).threshold t) (Some n) (last_not_above t cs n)
 
 unfoldable pub plan_from : Scan → Option ℕ → Plan
-plan_from x none = Start
-plan_from x (some j) = resume x j
+plan_from x None = Start
+plan_from x (Some j) = resume x j
 
 -- ---- End if complete and the frame is at or past the end threshold; else p
 unfoldable pub plan_or : ℕ → Option EndState → Plan → Plan
-plan_or t none p = p
-plan_or t (some e) p = cond (leb e.threshold t) (End e) p
+plan_or t None p = p
+plan_or t (Some e) p = cond (leb e.threshold t) (End e) p
 
 -- ---- what `plan` answers for frame t
 unfoldable pub planned : Scan → ℕ → Plan

@@ -1,6 +1,5 @@
 -- Document 01, "The questions": 1 to 4, which each call on an index or recorder asks.
-use Rattle.std.specs.Prelude.{ℕ, ◌+◌, Bool, ◌&&◌, ◌||◌, not, List, [], ◌∷◌, eqb, leb, length}
-use Rattle.std.proofs.Math.Option.{Option, none, some}
+use Rattle.std.specs.Prelude.{ℕ, ◌+◌, Bool, ◌&&◌, ◌||◌, not, List, [], ◌∷◌, eqb, leb, length, Option, None, Some}
 use Rattle.rules.specs.declared.Area.{Area}
 use Rattle.rules.specs.declared.Checkpoint.{Checkpoint}
 use Rattle.rules.specs.declared.EndState.{EndState}
@@ -85,9 +84,9 @@ four l x qs = ask_four (four_of l x) qs
 -- ---- of a recorder, which keeps these rules over its own stretch
 -- the end state that a recorder has
 unfoldable pub end_of : Mode → Option EndState
-end_of Running = none
-end_of (Finished e) = some e
-end_of Stopped = none
+end_of Running = None
+end_of (Finished e) = Some e
+end_of Stopped = None
 
 unfoldable pub recorder_question1 : Recorder → Bool
 recorder_question1 r = area_ok r.area

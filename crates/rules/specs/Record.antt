@@ -1,6 +1,5 @@
 -- Document 01, "Checkpoint" and "Index": record, finish and absorb.
-use Rattle.std.specs.Prelude.{ℕ, ◌+◌, ◌-◌, ◌*◌, min, ℤ, Bool, true, false, ◌&&◌, ◌||◌, not, cond, List, [], ◌∷◌, ◌++◌, eqb, leb, ltb, length, take, drop}
-use Rattle.std.proofs.Math.Option.{Option, none, some}
+use Rattle.std.specs.Prelude.{ℕ, ◌+◌, ◌-◌, ◌*◌, min, ℤ, Bool, true, false, ◌&&◌, ◌||◌, not, cond, List, [], ◌∷◌, ◌++◌, eqb, leb, ltb, length, take, drop, Option, None, Some}
 use Rattle.field.specs.Number.{same_bytes}
 use Rattle.fnv.specs.Fnv.{fnv64}
 use Rattle.rules.specs.declared.Checkpoint.{Checkpoint}
@@ -45,21 +44,21 @@ question6 r threshold malformed =
 
 -- 7: does the frame start in the area before this LSN, with number < LIM?
 unfoldable pub question7 : Recorder → ℕ → Option Assembling → Bool
-question7 r lsn none = true
-question7 r lsn (some f) = all (leb r.area.start f.start ∷ ltb f.start lsn ∷ ltb f.number lim ∷ [])
+question7 r lsn None = true
+question7 r lsn (Some f) = all (leb r.area.start f.start ∷ ltb f.start lsn ∷ ltb f.number lim ∷ [])
 
 -- no frame under assembly: back 0; else LSN − frame start, which 7 keeps above 0
 unfoldable pub back_of : ℕ → Option Assembling → ℕ
-back_of lsn none = 0
-back_of lsn (some f) = lsn - f.start
+back_of lsn None = 0
+back_of lsn (Some f) = lsn - f.start
 
 abbrev pub stored_of : Recorder → Stored
 stored_of r = record { frames = r.frames; parts = r.parts }
 
 -- the part is stored only if back exceeds 32
 unfoldable pub assembled : Recorder → ℕ → Option Assembling → Stored
-assembled r lsn none = stored_of r
-assembled r lsn (some f) =
+assembled r lsn None = stored_of r
+assembled r lsn (Some f) =
     cond (ltb replay_sectors (lsn - f.start))
     (add_part r.budget (stored_of r)
     (record { at = next_number r; start = f.start; bytes = f.bytes; number = f.number; kind = f.kind; remaining = f.remaining }))

@@ -1,7 +1,6 @@
 -- Document 01, "One reading" and "Run".
-use Rattle.std.specs.Prelude.{ℕ, suc, ◌<◌, ◌≤◌, ℤ, ◌≡◌, ◌⊎◌, true, false, cond, eqb, length, get_or, take}
+use Rattle.std.specs.Prelude.{ℕ, suc, ◌<◌, ◌≤◌, ℤ, ◌≡◌, ◌⊎◌, true, false, cond, eqb, length, get_or, take, Option, None, Some}
 use mathlib.Core.List.{List, [], ◌∷◌, ◌++◌, Memᴰ}
-use Rattle.std.proofs.Math.Option.{Option, none, some}
 use Rattle.rules.specs.declared.Area.{Area}
 use Rattle.rules.specs.declared.Checkpoint.{Checkpoint}
 use Rattle.rules.specs.declared.EndState.{EndState}
@@ -68,7 +67,7 @@ pub record Cut (R : Reading) (x : Index) : Type 0 where
   pub area : x.scan.area ≡ R.area
   pub interval : x.scan.interval ≡ R.interval
   pub checkpoints : x.scan.checkpoints ≡ take (count x.scan) (checkpoints_of R)
-  pub ending : (x.scan.ending ≡ none) ⊎ ((x.scan.ending ≡ some (end_state_of R)) × (count x.scan ≡ boundaries R.area R.interval))
+  pub ending : (x.scan.ending ≡ None) ⊎ ((x.scan.ending ≡ Some (end_state_of R)) × (count x.scan ≡ boundaries R.area R.interval))
   pub malformed : x.scan.malformed ≡ take max_malformed (below (frontier x.scan) R.malformed)
   pub parts :
       (i : ℕ) → i < length x.scan.parts → content_of x.scan.frames (get_or x.scan.parts i no_held) ≡ R.part (get_or x.scan.parts i no_held).at
@@ -99,7 +98,7 @@ pub record State : Type 0 where
 
 -- Into a place went its first list
 abbrev pub begin : (ℕ → Place) → State
-begin p = record { now = p; went = λ i. i ∷ []; just = none }
+begin p = record { now = p; went = λ i. i ∷ []; just = None }
 
 -- s with p at i
 abbrev pub replace {ℓ} : {A : Type ℓ} → (ℕ → A) → ℕ → A → ℕ → A
@@ -117,17 +116,17 @@ abbrev pub merge_refusal : Place → Place → ℕ
 merge_refusal own other = merge_number own.room own.list other.room other.list
 
 unfoldable pub just_saved : ℕ → Answer (List ℕ) → Option Saved
-just_saved i (Refused n) = none
-just_saved i (Accepted b) = some (record { place = i; bytes = b })
+just_saved i (Refused n) = None
+just_saved i (Accepted b) = Some (record { place = i; bytes = b })
 
 -- exactly the bytes just saved, loaded there under the reading's area a; nothing where nothing was just saved
 unfoldable pub load_into : Area → ℕ → State → Option Saved → State
-load_into a limit s none = s
-load_into a limit s (some b) =
+load_into a limit s None = s
+load_into a limit s (Some b) =
     record {
       now = replace s.now b.place (answered (s.now b.place) (load (s.now b.place).room a b.bytes limit));
       went = s.went;
-      just = none;
+      just = None;
     }
 
 -- a merge that no question refuses adds what went into the other
@@ -136,7 +135,7 @@ step a (merge_call i j) s =
     record {
       now = replace s.now i (answered (s.now i) (merge_into (s.now i) (s.now j)));
       went = replace s.went i (cond (eqb (merge_refusal (s.now i) (s.now j)) 0) (s.went i ++ s.went j) (s.went i));
-      just = none;
+      just = None;
     }
 step a (save_call i out) s = record { now = s.now; went = s.went; just = just_saved i (save (s.now i).room (s.now i).list out) }
 step a (load_call limit) s = load_into a limit s s.just

@@ -1,6 +1,5 @@
 -- The rule of each section, once: for question 4, for loading and for a recorder's own stretch.
-use Rattle.std.specs.Prelude.{ℕ, suc, ◌+◌, ◌-◌, ◌*◌, ◌/◌, min, Bool, true, ◌||◌, not, cond, List, [], ◌∷◌, eqb, leb, ltb, length}
-use Rattle.std.proofs.Math.Option.{Option, none, some}
+use Rattle.std.specs.Prelude.{ℕ, suc, ◌+◌, ◌-◌, ◌*◌, ◌/◌, min, Bool, true, ◌||◌, not, cond, List, [], ◌∷◌, eqb, leb, ltb, length, Option, None, Some}
 use Rattle.rules.specs.declared.Area.{Area}
 use Rattle.rules.specs.declared.Checkpoint.{Checkpoint}
 use Rattle.rules.specs.declared.EndState.{EndState}
@@ -61,8 +60,8 @@ frames_ok a budget fs =
 -- ---- 32: parts
 -- may p come after the part before it, if there is one?
 unfoldable pub follows : Option Held → Held → Bool
-follows none p = eqb p.frame 0
-follows (some q) p =
+follows None p = eqb p.frame 0
+follows (Some q) p =
     all (ltb q.at p.at
     ∷ (all (eqb p.frame q.frame ∷ leb q.len p.len ∷ eqb q.number p.number ∷ same_kind q.kind p.kind ∷ [])
     || eqb p.frame (suc q.frame))
@@ -84,7 +83,7 @@ unfoldable pub reached : List Held → ℕ
 reached ps = cond (eqb (length ps) 0) 0 (suc (last_or no_held ps).frame)
 
 unfoldable pub parts_ok : Area → ℕ → ℕ → List Checkpoint → List Frame → List Held → Bool
-parts_ok a k first cs fs ps = all (walk (part_ok a k first cs fs) (λ o p. some p) none ps ∷ eqb (reached ps) (length fs) ∷ [])
+parts_ok a k first cs fs ps = all (walk (part_ok a k first cs fs) (λ o p. Some p) None ps ∷ eqb (reached ps) (length fs) ∷ [])
 
 -- ---- 34: the end state, after the last checkpoint c; behind question 1, which keeps end − start from falling below 0
 unfoldable pub end_ok : Area → Checkpoint → EndState → Bool
@@ -92,8 +91,8 @@ end_ok a c e =
     all (leb c.threshold e.threshold ∷ leb e.threshold lim ∷ leb c.malformed e.malformed ∷ leb e.malformed (a.end - a.start) ∷ [])
 
 unfoldable pub ending_ok : Area → List Checkpoint → Option EndState → Bool
-ending_ok a cs none = true
-ending_ok a cs (some e) = end_ok a (last_checkpoint cs) e
+ending_ok a cs None = true
+ending_ok a cs (Some e) = end_ok a (last_checkpoint cs) e
 
 -- ---- sections in the order of an LSN: it rises from start on and stays below end, and ok holds of each
 unfoldable pub rising_ok : {A : Type 0} → (A → ℕ) → (A → Bool) → ℕ → ℕ → A → Bool

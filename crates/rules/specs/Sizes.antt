@@ -1,6 +1,5 @@
 -- Do the numbers of a list fit the types that its records give them? Only those that questions 1, 2 and 4 leave open.
-use Rattle.std.specs.Prelude.{ℕ, Bool, true, [], ◌∷◌, leb, ltb}
-use Rattle.std.proofs.Math.Option.{Option, none, some}
+use Rattle.std.specs.Prelude.{ℕ, Bool, true, [], ◌∷◌, leb, ltb, Option, None, Some}
 use Rattle.std.specs.Int.Signed.{mag}
 use Rattle.rules.specs.declared.AreaKey.{AreaKey}
 use Rattle.rules.specs.Tests.{all, each}
@@ -20,8 +19,8 @@ scan_sized x =
     ∷ each (λ p. ltb (mag p.remaining) 2147483648) x.parts ∷ [])
 
 unfoldable pub known_sized : Option ℕ → Bool
-known_sized none = true
-known_sized (some v) = leb v max64
+known_sized None = true
+known_sized (Some v) = leb v max64
 
 unfoldable pub hinting_sized : Hinting → Bool
 hinting_sized r = all (leb r.spacing max32 ∷ each (λ c. leb c.digest max64) r.confirmed ∷ [])

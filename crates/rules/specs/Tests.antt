@@ -1,6 +1,5 @@
 -- Tests, questions and answers, which the definitions are made of.
-use Rattle.std.specs.Prelude.{ℕ, ◌-◌, Bool, true, false, ◌&&◌, cond, List, [], ◌∷◌, eqb, length, get_or}
-use Rattle.std.proofs.Math.Option.{Option, none, some}
+use Rattle.std.specs.Prelude.{ℕ, ◌-◌, Bool, true, false, ◌&&◌, cond, List, [], ◌∷◌, eqb, length, get_or, Option, None, Some}
 
 -- does each hold?
 unfoldable pub all : List Bool → Bool
@@ -23,20 +22,20 @@ last_or z xs = get_or xs (length xs - 1) z
 
 -- ---- things that may be unknown
 unfoldable pub is_some : {A : Type 0} → Option A → Bool
-is_some none = false
-is_some (some a) = true
+is_some None = false
+is_some (Some a) = true
 
 -- the first, or the second where the first is unknown
 unfoldable pub or_else : {A : Type 0} → Option A → Option A → Option A
-or_else none o = o
-or_else (some a) o = some a
+or_else None o = o
+or_else (Some a) o = Some a
 
 module _ {A : Type 0} (same : A → A → Bool) where
   -- are two values the same, where both are known?
   unfoldable pub agree : Option A → Option A → Bool
-  agree none o = true
-  agree (some a) none = true
-  agree (some a) (some b) = same a b
+  agree None o = true
+  agree (Some a) None = true
+  agree (Some a) (Some b) = same a b
 
   -- are two lists the same over the shorter length?
   unfoldable pub agrees : List A → List A → Bool

@@ -113,13 +113,6 @@ pub struct EndState {
     pub malformed: u64,
 }
 
-// A list is complete where it has an end state.
-#[derive(Clone, Copy)]
-pub enum End {
-    Open,
-    Closed(EndState),
-}
-
 #[derive(Clone, Copy)]
 pub enum FrameKind {
     Dst,
@@ -160,12 +153,6 @@ pub enum Fingerprint {
     Checked(u64),
 }
 
-#[derive(Clone, Copy)]
-pub enum ImageId {
-    Anonymous,
-    Id(u64),
-}
-
 // What a recorder is at: it records, it has the end state, or it is stopped.
 #[derive(Clone, Copy)]
 pub enum Mode {
@@ -184,19 +171,14 @@ pub struct HeldPart {
     pub len: u32,
 }
 
-#[derive(Clone, Copy)]
-pub enum Assembly {
-    Replayed,
-    Stored(HeldPart),
-}
-
 // A jump that starts at a checkpoint.
 #[derive(Clone, Copy)]
 pub struct Resume {
     pub number: u32,
     pub lsn: u64,
     pub checkpoint: Checkpoint,
-    pub assembly: Assembly,
+    // Where no part is stored, the stretch before the checkpoint is read again.
+    pub assembly: Option<HeldPart>,
 }
 
 // Where a jump starts.
@@ -255,9 +237,10 @@ pub struct AreaIndex {
     pub malformed: u32,
     pub hints: u32,
     pub confirmed: u32,
-    pub ending: End,
+    // A list is complete where it has one.
+    pub ending: Option<EndState>,
     pub fingerprint: Fingerprint,
-    pub image: ImageId,
+    pub image: Option<u64>,
 }
 
 // The numbers of a recorder (source: Recorder): its own stretch begins with checkpoint number first. Its lists lie in four lent tables, with these
@@ -284,32 +267,13 @@ pub struct Assembling {
     pub remaining: i32,
 }
 
-#[derive(Clone, Copy)]
-pub enum UnderAssembly {
-    Nothing,
-    Frame(Assembling),
-}
-
-// The number of the hint listed last; none where none was ever listed.
-#[derive(Clone, Copy)]
-pub enum LastListed {
-    Never,
-    Number(u32),
-}
-
-// A hint recorder's tail.
-#[derive(Clone, Copy)]
-pub enum Tail {
-    Empty,
-    Hint(Hint),
-}
-
 // The numbers of a hint recorder (source: HintRecorder); its list lies in a lent table, with this count.
 #[derive(Clone, Copy)]
 pub struct HintRecorder {
     pub spacing: u32,
-    pub last: LastListed,
-    pub tail: Tail,
+    // The number of the hint listed last; none where none was ever listed.
+    pub last: Option<u32>,
+    pub tail: Option<Hint>,
     pub count: u32,
 }
 

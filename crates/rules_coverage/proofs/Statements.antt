@@ -1,9 +1,9 @@
 -- Totals are sums, and lines are what they say. Assumes nothing.
+use Rattle.std.specs.Prelude.{Option, None, Some}
 use Prim.Native.Nat.{ℕ, suc, ◌+◌, ◌*◌, ◌≤◌, ◌<◌}
 use mathlib.Core.Path.{◌≡◌, refl, sym, ap, ◌∙◌}
 use mathlib.Core.Bool.{true, ◌&&◌}
 use mathlib.Core.List.{List, [], ◌∷◌, ◌++◌}
-use mathlib.Core.Option.{Option, none, some}
 use native.Mathlib.Nat.{div-mul-le_self, lt-div-mul-add, add-mul, one-mul}
 use native.Mathlib.Omega.{arith}
 use borrow.Author.Tests.{eqb-true, eq-eqb, ne_eqb, leb-true, leb-false}
@@ -77,10 +77,10 @@ joined (b ∷ s) =
     test (eqb b 32) (λ e. record { first = []; rest = j.first ∷ j.rest; words = rw (e, j.words); back = rw (j.back, eqb-true b 32 e) })
     (λ e. record { first = b ∷ j.first; rest = j.rest; words = rw (e, j.words); back = join_more b j.first j.rest ∙ ap (◌∷◌ b) j.back })
 
-no_line : {A : Type 0} {l : Line} → none ≡ some l → A
+no_line : {A : Type 0} {l : Line} → None ≡ Some l → A
 no_line e = let z : ◌≡◌ {A = ℕ} 0 1 = cc in let f : ⊥ = omega arith in absurd f
 
-back_from : (w : List ℕ) (ws : List (List ℕ)) (l : Line) → line_from (w ∷ ws) ≡ some l → Written (join_from w ws) l
+back_from : (w : List ℕ) (ws : List (List ℕ)) (l : Line) → line_from (w ∷ ws) ≡ Some l → Written (join_from w ws) l
 unfolding line_from all
 back_from w [] l e = no_line e
 back_from w (x ∷ []) l e = no_line e
@@ -88,7 +88,7 @@ back_from w (x ∷ y ∷ z ∷ zs) l e = no_line (rw (ne_eqb (suc (suc (suc (suc
 back_from w (x ∷ y ∷ []) l e =
     test (all (true ∷ is_name w ∷ is_number x ∷ is_number y ∷ []))
     (λ t.
-    let q : ◌≡◌ {A = Option Line} (some (record { name = w; start = value_from 0 x; end = value_from 0 y })) (some l) = rw t at e in
+    let q : ◌≡◌ {A = Option Line} (Some (record { name = w; start = value_from 0 x; end = value_from 0 y })) (Some l) = rw t at e in
     let g = all→ (true ∷ is_name w ∷ is_number x ∷ is_number y ∷ []) t in
     let n : w ≡ l.name = cc in
     record { first = x; last = y; is = rw n; name = rw n at g.1.0; start = (g.1.1.0, cc); end = (g.1.1.1.0, cc) })
@@ -107,7 +107,7 @@ number_short : (w : List ℕ) → is_number w ≡ true → length w ≤ 10
 unfolding is_number between
 number_short w e = leb-true (length w) 10 (and_right (leb 1 (length w)) (leb (length w) 10) (and_left (leb 1 (length w) && leb (length w) 10) _ e))
 
-right_short : (s : List ℕ) (l : Line) → line_of s ≡ some l → length s ≤ 277
+right_short : (s : List ℕ) (l : Line) → line_of s ≡ Some l → length s ≤ 277
 right_short s l e =
     let w = name_back s l e in
     let n = name_short l.name w.name in
@@ -118,11 +118,11 @@ right_short s l e =
     let k = length-append w.first (32 ∷ w.last) in
     omega arith
 
-long_none : (s : List ℕ) → 277 < length s → (o : Option Line) → line_of s ≡ o → o ≡ none
-long_none s h none e = refl
-long_none s h (some l) e = let f : ⊥ = omega (arith, right_short s l e) in absurd f
+long_none : (s : List ℕ) → 277 < length s → (o : Option Line) → line_of s ≡ o → o ≡ None
+long_none s h None e = refl
+long_none s h (Some l) e = let f : ⊥ = omega (arith, right_short s l e) in absurd f
 
-long_broken : (s : List ℕ) → 277 < length s → line_of s ≡ none
+long_broken : (s : List ℕ) → 277 < length s → line_of s ≡ None
 long_broken s h = long_none s h (line_of s) refl
 
 cut_same : (s : List ℕ) → line_of (take 278 s) ≡ line_of s

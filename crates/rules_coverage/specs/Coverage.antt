@@ -1,6 +1,5 @@
 -- Change request 2: the row of a file, the totals, and the sheet.
-use Rattle.std.specs.Prelude.{ℕ, zero, suc, ◌+◌, ◌*◌, ◌/◌, ◌%◌, Bool, cond, List, [], ◌∷◌, ◌++◌, map, eqb, leb, ltb, length}
-use Rattle.std.proofs.Math.Option.{Option, none, some}
+use Rattle.std.specs.Prelude.{ℕ, zero, suc, ◌+◌, ◌*◌, ◌/◌, ◌%◌, Bool, cond, List, [], ◌∷◌, ◌++◌, map, eqb, leb, ltb, length, Option, None, Some}
 use Rattle.field.specs.Records.{bytes_of}
 use Rattle.rules.specs.declared.Area.{Area}
 use Rattle.rules.specs.declared.AreaKey.{AreaKey}
@@ -40,13 +39,13 @@ max_file = 65536
 
 -- "45 when a file cannot be read whole or exceeds 65,536 bytes, asked before loading"; none is a file that cannot be read
 unfoldable pub file_row : Option (List ℕ) → ℕ → ℕ → Answer Row
-file_row none s e = Refused 45
-file_row (some b) s e = after (first_no (ask (leb (length b) max_file) 45 ∷ [])) (row_of b s e)
+file_row None s e = Refused 45
+file_row (Some b) s e = after (first_no (ask (leb (length b) max_file) 45 ∷ [])) (row_of b s e)
 
 -- "46 when a line has another shape, asked before 45"; f is the file that it names
 unfoldable pub line_row : Option Line → Option (List ℕ) → Answer Row
-line_row none f = Refused 46
-line_row (some l) f = file_row f l.start l.end
+line_row None f = Refused 46
+line_row (Some l) f = file_row f l.start l.end
 
 -- ---- coverage and totals
 -- "in ten-thousandths, rounded down; no boundaries give 10000"
@@ -95,8 +94,8 @@ row_text name a = name ++ answer_text a
 
 -- "its name is then printed as a dash"
 unfoldable pub name_of : Option Line → List ℕ
-name_of none = 45 ∷ []
-name_of (some l) = l.name
+name_of None = 45 ∷ []
+name_of (Some l) = l.name
 
 -- "total"
 abbrev pub total_name : List ℕ
@@ -109,8 +108,8 @@ total_text r = row_text total_name (Accepted r)
 module _ (files : List ℕ → Option (List ℕ)) where
   -- the file that a line names
   unfoldable pub file_of : Option Line → Option (List ℕ)
-  file_of none = none
-  file_of (some l) = files l.name
+  file_of None = None
+  file_of (Some l) = files l.name
 
   abbrev pub answer_of : List ℕ → Answer Row
   answer_of s = line_row (line_of s) (file_of (line_of s))

@@ -1,6 +1,5 @@
 -- Examples of change request 2: each shape of a line, rows, and sheets.
-use Rattle.std.specs.Prelude.{ℕ, cond, List, [], ◌∷◌, ◌++◌, map, length, set, take, replicate}
-use Rattle.std.proofs.Math.Option.{Option, none, some}
+use Rattle.std.specs.Prelude.{ℕ, cond, List, [], ◌∷◌, ◌++◌, map, length, set, take, replicate, Option, None, Some}
 use Rattle.field.specs.Number.{encode, same_bytes}
 use Rattle.fnv.specs.Fnv.{fnv64}
 use Rattle.rules.specs.declared.Fingerprint.TheVariants.{Unknown}
@@ -15,11 +14,11 @@ use Rattle.rules_coverage.specs.Coverage.{row, row_of, file_row, line_row, cover
 -- ---- values
 -- two checkpoints of three
 abbrev pub two : Index
-two = index_of (area 1000 1250) 100 (checkpoint 0 0 0 ∷ checkpoint 0 0 0 ∷ []) none Unknown 2048 [] []
+two = index_of (area 1000 1250) 100 (checkpoint 0 0 0 ∷ checkpoint 0 0 0 ∷ []) None Unknown 2048 [] []
 
 -- no checkpoint, at interval k
 abbrev pub bare : ℕ → Index
-bare k = index_of (area 1000 1250) k [] none Unknown 2048 [] []
+bare k = index_of (area 1000 1250) k [] None Unknown 2048 [] []
 
 -- the file of two with another byte at a place of its header, and the sum of that
 abbrev pub mended : List ℕ → List ℕ
@@ -31,14 +30,14 @@ with_byte i v = mended (set (body_of two) i v)
 -- a.sbx is the file of two, b.sbx that of three; there are no others
 unfoldable pub folder : List ℕ → Option (List ℕ)
 folder name =
-    cond (same_bytes name (97 ∷ 46 ∷ 115 ∷ 98 ∷ 120 ∷ [])) (some (saved two))
-    (cond (same_bytes name (98 ∷ 46 ∷ 115 ∷ 98 ∷ 120 ∷ [])) (some (saved three)) none)
+    cond (same_bytes name (97 ∷ 46 ∷ 115 ∷ 98 ∷ 120 ∷ [])) (Some (saved two))
+    (cond (same_bytes name (98 ∷ 46 ∷ 115 ∷ 98 ∷ 120 ∷ [])) (Some (saved three)) None)
 
 -- ---- answers as numbers
 -- 46, or 0, start, end and the name
 unfoldable pub line_numbers : Option Line → List ℕ
-line_numbers none = 46 ∷ []
-line_numbers (some l) = 0 ∷ l.start ∷ l.end ∷ l.name
+line_numbers None = 46 ∷ []
+line_numbers (Some l) = 0 ∷ l.start ∷ l.end ∷ l.name
 
 abbrev pub said : List ℕ → List ℕ
 said s = line_numbers (line_of s)
@@ -95,9 +94,9 @@ rows =
     -- 30: more checkpoints than the line's range has boundaries
     ∷ example (rowed (saved three) 1000 1200) (30 ∷ [])
     -- 45, before 1; 65,536 bytes are not too many
-    ∷ example (number_of (file_row none 1 0) ∷ number_of (file_row (some (replicate 65537 0)) 0 0) ∷ number_of (file_row (some (replicate 65536 0)) 0 0) ∷ []) (45 ∷ 45 ∷ 21 ∷ [])
+    ∷ example (number_of (file_row None 1 0) ∷ number_of (file_row (Some (replicate 65537 0)) 0 0) ∷ number_of (file_row (Some (replicate 65536 0)) 0 0) ∷ []) (45 ∷ 45 ∷ 21 ∷ [])
     -- 46, before 45
-    ∷ example (number_of (line_row none none) ∷ number_of (line_row none (some (saved two))) ∷ []) (46 ∷ 46 ∷ [])
+    ∷ example (number_of (line_row None None) ∷ number_of (line_row None (Some (saved two))) ∷ []) (46 ∷ 46 ∷ [])
     -- refused rows add nothing; the coverage of the sums
     ∷ example (row_numbers (totals (Accepted (row 2 3 7) ∷ Refused 22 ∷ Accepted (row 3 3 1) ∷ [])) ++ row_numbers (totals (Refused 45 ∷ []))) (5 ∷ 6 ∷ 8 ∷ 8333 ∷ 0 ∷ 0 ∷ 0 ∷ 10000 ∷ []) ∷ []
 

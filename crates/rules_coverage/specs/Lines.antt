@@ -1,6 +1,5 @@
 -- Change request 2: the lines of the input, and what a line says.
-use Rattle.std.specs.Prelude.{ℕ, ◌+◌, ◌-◌, ◌*◌, Bool, ◌&&◌, not, cond, List, [], ◌∷◌, eqb, leb, length, get_or, take}
-use Rattle.std.proofs.Math.Option.{Option, none, some}
+use Rattle.std.specs.Prelude.{ℕ, ◌+◌, ◌-◌, ◌*◌, Bool, ◌&&◌, not, cond, List, [], ◌∷◌, eqb, leb, length, get_or, take, Option, None, Some}
 use Rattle.rules.specs.Tests.{all, each}
 
 -- ---- lines
@@ -62,7 +61,7 @@ word ws i = get_or ws i []
 unfoldable pub line_from : List (List ℕ) → Option Line
 line_from ws =
     cond (all (eqb (length ws) 3 ∷ is_name (word ws 0) ∷ is_number (word ws 1) ∷ is_number (word ws 2) ∷ []))
-    (some (record { name = word ws 0; start = value_from 0 (word ws 1); end = value_from 0 (word ws 2) })) none
+    (Some (record { name = word ws 0; start = value_from 0 (word ws 1); end = value_from 0 (word ws 2) })) None
 
 unfoldable pub line_of : List ℕ → Option Line
 line_of s = line_from (words_of s)

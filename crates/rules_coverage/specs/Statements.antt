@@ -1,6 +1,5 @@
 -- The statements of change request 2.
-use Rattle.std.specs.Prelude.{ℕ, ◌+◌, ◌*◌, ◌≤◌, ◌<◌, ◌≡◌, true, List, [], ◌∷◌, ◌++◌, length, take}
-use Rattle.std.proofs.Math.Option.{none, some}
+use Rattle.std.specs.Prelude.{ℕ, ◌+◌, ◌*◌, ◌≤◌, ◌<◌, ◌≡◌, true, List, [], ◌∷◌, ◌++◌, length, take, None, Some}
 use Rattle.rules.specs.Tests.{Answer, Refused, Accepted}
 use Rattle.rules_coverage.specs.declared.Row.{Row}
 use Rattle.rules_coverage.specs.Lines.{Line, is_name, is_number, value_from, line_of}
@@ -44,9 +43,9 @@ pub record Written (s : List ℕ) (l : Line) : Type 0 where
 
 -- the printed name is the line's
 abbrev pub NameBack : Type 0
-NameBack = (s : List ℕ) (l : Line) → line_of s ≡ some l → Written s l
+NameBack = (s : List ℕ) (l : Line) → line_of s ≡ Some l → Written s l
 
 -- the longest right line has 277 bytes, so that one that is cut at 278 says what the whole one says
 pub record LongLines : Type 0 where
-  pub broken : (s : List ℕ) → 277 < length s → line_of s ≡ none
+  pub broken : (s : List ℕ) → 277 < length s → line_of s ≡ None
   pub cut : (s : List ℕ) → line_of (take 278 s) ≡ line_of s

@@ -1,6 +1,5 @@
 -- Change request 14: one file for both areas.
-use Rattle.std.specs.Prelude.{ℕ, ◌+◌, ◌*◌, Bool, true, ◌&&◌, cond, List, [], ◌∷◌, ◌++◌, eqb, leb, ltb, length, take, drop}
-use Rattle.std.proofs.Math.Option.{Option, none, some}
+use Rattle.std.specs.Prelude.{ℕ, ◌+◌, ◌*◌, Bool, true, ◌&&◌, cond, List, [], ◌∷◌, ◌++◌, eqb, leb, ltb, length, take, drop, Option, None, Some}
 use Rattle.field.specs.Number.{encode, number_at}
 use Rattle.field.specs.Records.{records, bytes_of}
 use Rattle.rules_disc.specs.declared.Entry.{Entry}
@@ -47,13 +46,13 @@ contents_ok b =
 
 -- the entry of slot s, where the table lists it
 unfoldable pub entry_of : ℕ → List Entry → Option Entry
-entry_of s [] = none
-entry_of s (e ∷ es) = cond (eqb e.slot s) (some e) (entry_of s es)
+entry_of s [] = None
+entry_of s (e ∷ es) = cond (eqb e.slot s) (Some e) (entry_of s es)
 
 -- "each an ordinary list file": the body that an entry names
 unfoldable pub body_at : List ℕ → Option Entry → Option (List ℕ)
-body_at b none = none
-body_at b (some e) = some (take e.len (drop e.offset b))
+body_at b None = None
+body_at b (Some e) = Some (take e.len (drop e.offset b))
 
 -- ---- loading
 -- the lists of a disc, by slot
@@ -67,8 +66,8 @@ slot_area s a = area_ok a && eqb a.key.slot s
 
 -- the list of a body, where there is one
 unfoldable pub load_body : Lengths → Area → ℕ → Option (List ℕ) → Answer (Option Index)
-load_body l a limit none = Accepted none
-load_body l a limit (some b) = bind (load l a b limit) (λ x. Accepted (some x))
+load_body l a limit None = Accepted None
+load_body l a limit (Some b) = bind (load l a b limit) (λ x. Accepted (Some x))
 
 -- "gives all lists or none"; "after it the first failing body's own number is given", its 3 included
 unfoldable pub load_bodies : Lengths → Lengths → Area → Area → List ℕ → ℕ → Answer Disc

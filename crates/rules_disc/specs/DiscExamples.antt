@@ -1,6 +1,5 @@
 -- Examples of change request 14.
-use Rattle.std.specs.Prelude.{ℕ, ◌+◌, cond, List, [], ◌∷◌, ◌++◌, length, set, take}
-use Rattle.std.proofs.Math.Option.{Option, none, some}
+use Rattle.std.specs.Prelude.{ℕ, ◌+◌, cond, List, [], ◌∷◌, ◌++◌, length, set, take, Option, None, Some}
 use Rattle.field.specs.Number.{encode}
 use Rattle.rules.specs.declared.Area.{Area}
 use Rattle.rules.specs.declared.Fingerprint.TheVariants.{Unknown}
@@ -17,7 +16,7 @@ area1 = record { key = record { slot = 1; start = 2000; end = 2100; channels = 5
 
 -- its list: one checkpoint
 abbrev pub multi : Index
-multi = index_of area1 100 (checkpoint 0 0 0 ∷ []) none Unknown 2048 [] []
+multi = index_of area1 100 (checkpoint 0 0 0 ∷ []) None Unknown 2048 [] []
 
 -- an empty list of version 4
 abbrev pub long : Index
@@ -30,8 +29,8 @@ pair = disc_bytes (three ∷ multi ∷ [])
 -- ---- answers as numbers
 -- how many checkpoints a list has, and one more; 0 where there is no list
 unfoldable pub count_of : Option Index → ℕ
-count_of none = 0
-count_of (some x) = 1 + length x.scan.checkpoints
+count_of None = 0
+count_of (Some x) = 1 + length x.scan.checkpoints
 
 unfoldable pub disc_numbers : Disc → List ℕ
 disc_numbers d = count_of d.slot0 ∷ count_of d.slot1 ∷ []

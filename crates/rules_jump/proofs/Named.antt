@@ -1,7 +1,7 @@
 -- Equal densities give one upper end. Assumes nothing.
+use Rattle.std.specs.Prelude.{None, Some}
 use mathlib.Core.Path.{◌≡◌, refl, sym, ap, ap₂, ◌∙◌}
 use mathlib.Core.Bool.{Bool, true, false, cond, true≢false}
-use mathlib.Core.Option.{none, some}
 use Prim.Native.Nat.{ℕ, ◌*◌, ◌/◌, ◌<◌}
 use native.Mathlib.Nat.{mul-div-mul_right, mul_assoc, mul_comm}
 use native.Mathlib.Omega.{arith}
@@ -62,8 +62,8 @@ local_named r end whole d h h' n =
 
 pub average_named : AverageNamed
 unfolding denser density_rule
-average_named r end whole none n = refl
-average_named r end whole (some d) n =
+average_named r end whole None n = refl
+average_named r end whole (Some d) n =
     let a = whole.sectors * d.frames in
     let b = d.sectors * whole.frames in
     test (leb a b) (λ u. absurd (not_average (leb a b) u n)) (λ u. rw (le-ltb a b (omega (arith, leb-false a b u))))

@@ -1,8 +1,8 @@
 -- Which plan and which hint a rule names. Assumes nothing.
+use Rattle.std.specs.Prelude.{Option, None, Some}
 use mathlib.Core.Path.{◌≡◌, refl, sym, ap, ◌∙◌}
 use mathlib.Core.Bool.{Bool, true, false, cond, true≢false}
 use mathlib.Core.List.{List, [], ◌∷◌}
-use mathlib.Core.Option.{Option, none, some}
 use Prim.Native.Nat.{ℕ, ◌*◌}
 use borrow.Author.Tests.{eqb-true, eq-eqb}
 use lib.Dec.{eqb, leb}
@@ -34,13 +34,13 @@ held_named fs (p ∷ ps) j = test (eqb p.at j) (λ t. rw t refl) (λ t. rw t (he
 
 from_named : (x : Scan) (o : Option ℕ) → plan_rule (plan_from x o) ≡ rule_from x.parts o
 unfolding plan_rule plan_from rule_from
-from_named x none = refl
-from_named x (some j) = held_named x.frames x.parts j
+from_named x None = refl
+from_named x (Some j) = held_named x.frames x.parts j
 
 or_named : (t : ℕ) (o : Option EndState) (p : Plan) → plan_rule (plan_or t o p) ≡ cond (ends t o) rule.Ending (plan_rule p)
 unfolding plan_rule plan_or ends
-or_named t none p = refl
-or_named t (some e) p = test (leb e.threshold t) (λ y. rw y refl) (λ y. rw y refl)
+or_named t None p = refl
+or_named t (Some e) p = test (leb e.threshold t) (λ y. rw y refl) (λ y. rw y refl)
 
 pub plan_named : PlanNamed
 unfolding planned
@@ -57,16 +57,16 @@ nearest_not : Nearest ≡ Confirmed → ⊥
 unfolding is_confirmed
 nearest_not e = true≢false (sym (ap is_confirmed e))
 
-named_some : (o : Option ℕ) → chosen_by o ≡ Confirmed → (i : ℕ) × (o ≡ some i)
+named_some : (o : Option ℕ) → chosen_by o ≡ Confirmed → (i : ℕ) × (o ≡ Some i)
 unfolding chosen_by
-named_some none e = absurd (nearest_not e)
-named_some (some i) e = (i, refl)
+named_some None e = absurd (nearest_not e)
+named_some (Some i) e = (i, refl)
 
-some_named : (o : Option ℕ) (i : ℕ) → o ≡ some i → chosen_by o ≡ Confirmed
+some_named : (o : Option ℕ) (i : ℕ) → o ≡ Some i → chosen_by o ≡ Confirmed
 unfolding chosen_by
 some_named o i e = rw e refl
 
-first_of : (o o' : Option ℕ) (i : ℕ) → o ≡ some i → or_else o o' ≡ some i
+first_of : (o o' : Option ℕ) (i : ℕ) → o ≡ Some i → or_else o o' ≡ Some i
 unfolding or_else
 first_of o o' i e = rw e refl
 
@@ -103,8 +103,8 @@ of_densities false = refl
 
 density_not : (whole : Density) (o : Option Density) → is_end (density_rule whole o) ≡ false
 unfolding is_end density_rule
-density_not whole none = refl
-density_not whole (some d) = of_densities (leb (whole.sectors * d.frames) (d.sectors * whole.frames))
+density_not whole None = refl
+density_not whole (Some d) = of_densities (leb (whole.sectors * d.frames) (d.sectors * whole.frames))
 
 later_not : (b : Bool) (r : HintEnd) → is_end r ≡ false → is_end (cond b by.Later r) ≡ false
 unfolding is_end

@@ -1,6 +1,5 @@
 -- Examples of change request 7: the rules that plan and hint name.
-use Rattle.std.specs.Prelude.{ℕ, List, [], ◌∷◌, ◌++◌, pos}
-use Rattle.std.proofs.Math.Option.{Option, none, some}
+use Rattle.std.specs.Prelude.{ℕ, List, [], ◌∷◌, ◌++◌, pos, Option, None, Some}
 use Rattle.rules.specs.declared.Confirmation.{Confirmation}
 use Rattle.rules.specs.declared.Fingerprint.{Fingerprint}
 use Rattle.rules.specs.declared.Fingerprint.TheVariants.{Unknown, Checked}
@@ -28,12 +27,12 @@ empty_part =
             checkpoints = checkpoint 0 0 0 ∷ checkpoint 0 33 0 ∷ [];
             frames = record { start = 1067; bytes = [] } ∷ [];
             parts = record { at = 1; frame = 0; len = 0; number = 5; kind = Dst; remaining = pos 0 } ∷ [];
-            ending = none;
+            ending = None;
             malformed = [];
           };
       hinting = record { spacing = 8; most = 2048; hints = []; confirmed = [] };
       fingerprint = Unknown;
-      image = none;
+      image = None;
     }
 
 -- ---- answers as numbers
@@ -46,8 +45,8 @@ planning l x t = numbers_of ruled_numbers (plan l x t)
 
 -- hint's answer, how it was chosen and where its upper end came from
 unfoldable pub named_numbers : Option NamedHint → List ℕ
-named_numbers none = []
-named_numbers (some h) = hinted_numbers (some h.hinted) ++ start_rule_number h.start ∷ end_rule_number h.end ∷ []
+named_numbers None = []
+named_numbers (Some h) = hinted_numbers (Some h.hinted) ++ start_rule_number h.start ∷ end_rule_number h.end ∷ []
 
 -- for frames 45 to 75 at a playtime of 500, 2 sectors for a frame on average, with an unknown fingerprint
 abbrev pub naming : List Hint → List ℕ
@@ -63,10 +62,10 @@ confirming f c =
 unfoldable pub plans : List Example
 plans =
     -- no checkpoint at or before the frame
-    example (planning ample (index_of (area 1000 1250) 100 (checkpoint 5 0 0 ∷ []) none Unknown 2048 [] []) 4)
+    example (planning ample (index_of (area 1000 1250) 100 (checkpoint 5 0 0 ∷ []) None Unknown 2048 [] []) 4)
     (0 ∷ 0 ∷ 1 ∷ [])
     -- checkpoint 0 lies at the area's start
-    ∷ example (planning ample (index_of (area 1000 1250) 100 (checkpoint 5 0 0 ∷ []) none Unknown 2048 [] []) 5)
+    ∷ example (planning ample (index_of (area 1000 1250) 100 (checkpoint 5 0 0 ∷ []) None Unknown 2048 [] []) 5)
     (0 ∷ 1 ∷ 0 ∷ 2 ∷ [])
     ∷ example (planning ample three 75) (0 ∷ 1 ∷ 2 ∷ 2 ∷ [])
     ∷ example (planning ample (holding 33) 75) (0 ∷ 1 ∷ 1 ∷ 3 ∷ [])
@@ -94,7 +93,7 @@ named_hints =
     -- not above it: a saturated one is named by its density
     ∷ example
     (numbers_of named_numbers
-    (named_hint ample (index_of (area 0 4294967295) 65536 [] none Unknown 2048 (hint_at 200 40 ∷ []) []) 45 4294967295 0))
+    (named_hint ample (index_of (area 0 4294967295) 65536 [] None Unknown 2048 (hint_at 200 40 ∷ []) []) 45 4294967295 0))
     (0 ∷ 200 ∷ 40 ∷ 18446744073709551615 ∷ 0 ∷ 2 ∷ 3 ∷ [])
     -- confirmed, where it is not the nearest, and where it is
     ∷ example (confirming (Checked 9) (confirmed_at 100 45 1)) (0 ∷ 100 ∷ 30 ∷ 426 ∷ 0 ∷ 1 ∷ 2 ∷ [])

@@ -1,9 +1,7 @@
 -- Change request 7: the rule by which plan, or the source's hint, gets its answer.
-use Rattle.std.specs.Prelude.{ℕ, suc, ◌*◌, Bool, cond, ◌&&◌, List, [], ◌∷◌, eqb, leb, length, get_or, drop}
-use Rattle.std.proofs.Math.Option.{Option, none, some}
+use Rattle.rules.specs.declared.HeldPart.{HeldPart}
+use Rattle.std.specs.Prelude.{ℕ, suc, ◌*◌, Bool, cond, ◌&&◌, List, [], ◌∷◌, eqb, leb, length, get_or, drop, Option, None, Some}
 use Rattle.rules.specs.declared.Area.{Area}
-use Rattle.rules.specs.declared.Assembly.{Assembly}
-use Rattle.rules.specs.declared.Assembly.TheVariants.{Replayed, Stored}
 use Rattle.rules.specs.declared.Confirmation.{Confirmation}
 use Rattle.rules.specs.declared.Hint.{Hint}
 use Rattle.rules.specs.declared.Plan.{Plan}
@@ -21,9 +19,9 @@ use Rattle.rules_jump.specs.declared.HintEnd.{HintEnd}
 use Rattle.rules_jump.specs.declared.HintEnd.TheVariants as by
 
 -- ---- "Each plan also names its rule: area start, checkpoint, checkpoint with held part, or end state"
-unfoldable pub held_rule : Assembly → PlanRule
-held_rule Replayed = rule.Checkpoint
-held_rule (Stored p) = rule.HeldPart
+unfoldable pub held_rule : Option HeldPart → PlanRule
+held_rule None = rule.Checkpoint
+held_rule (Some p) = rule.HeldPart
 
 unfoldable pub plan_rule : Plan → PlanRule
 plan_rule Start = rule.AreaStart
@@ -32,8 +30,8 @@ plan_rule (End e) = rule.Ending
 
 -- ---- "A hint names confirmed or nearest"
 unfoldable pub chosen_by : Option ℕ → HintStart
-chosen_by none = Nearest
-chosen_by (some i) = Confirmed
+chosen_by None = Nearest
+chosen_by (Some i) = Confirmed
 
 -- is the hint at i near, and confirmed for first?
 abbrev pub near_confirmed : Bool → List Hint → List Confirmation → ℕ → ℕ → Bool
@@ -48,8 +46,8 @@ start_rule checked hs cs first = chosen_by (largest_of (near_confirmed checked h
 -- ---- "and whether its upper end came from a later hint, from local spacing or from the area's average"
 -- of two densities that are equal the local one: "the first listed here of equal ones it compares"
 unfoldable pub density_rule : Density → Option Density → HintEnd
-density_rule whole none = by.Average
-density_rule whole (some d) = cond (leb (whole.sectors * d.frames) (d.sectors * whole.frames)) by.Local by.Average
+density_rule whole None = by.Average
+density_rule whole (Some d) = cond (leb (whole.sectors * d.frames) (d.sectors * whole.frames)) by.Local by.Average
 
 -- "an upper end at the area's end is named so instead"
 unfoldable pub named_end : Area → ℕ → HintEnd → HintEnd
@@ -58,7 +56,7 @@ named_end a upper r = cond (eqb upper a.end) by.AreaEnd r
 -- by which density, for the hint at i
 unfoldable pub local_rule : Area → List Hint → ℕ → ℕ → ℕ → HintEnd
 local_rule a hs i end playtime =
-    density_rule (average a playtime) (local hs i (run_from (get_or hs i no_hint).number end none (drop (suc i) hs)))
+    density_rule (average a playtime) (local hs i (run_from (get_or hs i no_hint).number end None (drop (suc i) hs)))
 
 unfoldable pub end_rule : Area → List Hint → ℕ → ℕ → ℕ → Hinted → HintEnd
 end_rule a hs i end playtime h = named_end a h.upper (cond h.later by.Later (local_rule a hs i end playtime))
@@ -73,9 +71,9 @@ unfoldable pub named : Area → List Hint → ℕ → ℕ → HintStart → ℕ 
 named a hs end playtime s i h = record { hinted = h; start = s; end = end_rule a hs i end playtime h }
 
 unfoldable pub named_at : Area → List Hint → ℕ → ℕ → HintStart → Option ℕ → Option NamedHint
-named_at a hs end playtime s none = none
-named_at a hs end playtime s (some i) =
-    some (named a hs end playtime s i (hinted_later (first_from end (drop (suc i) hs)) end (get_or hs i no_hint)
+named_at a hs end playtime s None = None
+named_at a hs end playtime s (Some i) =
+    Some (named a hs end playtime s i (hinted_later (first_from end (drop (suc i) hs)) end (get_or hs i no_hint)
     (hinted_locally a hs i end playtime)))
 
 -- hint, with its names

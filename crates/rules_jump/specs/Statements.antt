@@ -1,6 +1,5 @@
 -- Change request 7: the rule named is the one by which plan, or the source's hint, gets its answer.
-use Rattle.std.specs.Prelude.{◌≡◌, ◌↔◌, Bool, true, false, cond, ◌||◌, List, [], ◌∷◌, ℕ, ◌<◌, eqb, leb, length}
-use Rattle.std.proofs.Math.Option.{Option, none, some}
+use Rattle.std.specs.Prelude.{◌≡◌, ◌↔◌, Bool, true, false, cond, ◌||◌, List, [], ◌∷◌, ℕ, ◌<◌, eqb, leb, length, Option, None, Some}
 use Rattle.rules.specs.declared.Area.{Area}
 use Rattle.rules.specs.declared.Confirmation.{Confirmation}
 use Rattle.rules.specs.declared.EndState.{EndState}
@@ -19,8 +18,8 @@ use Rattle.rules_jump.specs.declared.HintEnd.TheVariants as by
 -- ---- plan
 -- is the list complete, and frame t at or past the end threshold?
 unfoldable pub ends : ℕ → Option EndState → Bool
-ends t none = false
-ends t (some e) = leb e.threshold t
+ends t None = false
+ends t (Some e) = leb e.threshold t
 
 -- is a part held for checkpoint number j?
 unfoldable pub held_at : List Held → ℕ → Bool
@@ -28,8 +27,8 @@ held_at [] j = false
 held_at (p ∷ ps) j = eqb p.at j || held_at ps j
 
 unfoldable pub rule_from : List Held → Option ℕ → PlanRule
-rule_from ps none = rule.AreaStart
-rule_from ps (some j) = cond (held_at ps j) rule.HeldPart rule.Checkpoint
+rule_from ps None = rule.AreaStart
+rule_from ps (Some j) = cond (held_at ps j) rule.HeldPart rule.Checkpoint
 
 -- each rule is named exactly where plan's own tests give its answer
 abbrev pub PlanNamed : Type 0
@@ -44,7 +43,7 @@ pub record Confirming (checked : Bool) (hs : List Hint) (cs : List Confirmation)
   pub named : (start_rule checked hs cs first ≡ Confirmed) ↔
       ((i : ℕ) × (i < length hs) × (near_confirmed checked hs cs first i ≡ true))
   pub chosen : start_rule checked hs cs first ≡ Confirmed
-      → (i : ℕ) × (hint_place checked hs cs first ≡ some i) × (near_confirmed checked hs cs first i ≡ true)
+      → (i : ℕ) × (hint_place checked hs cs first ≡ Some i) × (near_confirmed checked hs cs first i ≡ true)
 
 abbrev pub ConfirmedNamed : Type 0
 ConfirmedNamed = (checked : Bool) (hs : List Hint) (cs : List Confirmation) (first : ℕ) → Confirming checked hs cs first
@@ -54,8 +53,8 @@ ConfirmedNamed = (checked : Bool) (hs : List Hint) (cs : List Confirmation) (fir
 -- average
 abbrev pub LocalNamed : Type 0
 LocalNamed =
-    (r : Hint) (end : ℕ) (whole d : Density) → 0 < whole.frames → 0 < d.frames → density_rule whole (some d) ≡ by.Local
-    → upper_end r end (denser whole (some d)) ≡ upper_end r end d
+    (r : Hint) (end : ℕ) (whole d : Density) → 0 < whole.frames → 0 < d.frames → density_rule whole (Some d) ≡ by.Local
+    → upper_end r end (denser whole (Some d)) ≡ upper_end r end d
 
 -- where the area's average is named, it is that by the average
 abbrev pub AverageNamed : Type 0
@@ -73,8 +72,8 @@ EndNamed =
 -- without its names a hint is the hint of document 01
 unfoldable pub unnamed : Answer (Option NamedHint) → Answer (Option Hinted)
 unnamed (Refused n) = Refused n
-unnamed (Accepted none) = Accepted none
-unnamed (Accepted (some h)) = Accepted (some h.hinted)
+unnamed (Accepted None) = Accepted None
+unnamed (Accepted (Some h)) = Accepted (Some h.hinted)
 
 abbrev pub ValuesStay : Type 0
 ValuesStay =

@@ -4,7 +4,7 @@
 ghost use Rattle.std.specs.Prelude.{◌≡◌};
 ghost use Rattle.rules_jump.specs.Names.{held_rule, plan_rule, plan_rule_number, start_rule_number, end_rule_number};
 
-use rules::{Assembly, Hinted, Plan};
+use rules::{HeldPart, Hinted, Plan};
 
 // Where a plan starts: the area's start, a checkpoint, a checkpoint with its held part, the end state.
 #[derive(Clone, Copy)]
@@ -32,12 +32,12 @@ pub enum HintEnd {
 }
 
 // The rule of a plan that starts at a checkpoint.
-fn held_rule(a: Assembly) -> PlanRule
+fn held_rule(a: Option<HeldPart>) -> PlanRule
     ensures { result ≡ held_rule a }
 {
     match a {
-        Assembly::Replayed => PlanRule::Checkpoint,
-        Assembly::Stored(_) => PlanRule::HeldPart,
+        None => PlanRule::Checkpoint,
+        Some(_) => PlanRule::HeldPart,
     }
 }
 

@@ -1,6 +1,5 @@
 -- Examples of what a list lacks, one for each kind of thing.
-use Rattle.std.specs.Prelude.{ℕ, List, [], ◌∷◌}
-use Rattle.std.proofs.Math.Option.{none}
+use Rattle.std.specs.Prelude.{ℕ, List, [], ◌∷◌, None}
 use Rattle.rules.specs.declared.Fingerprint.TheVariants.{Unknown, Checked}
 use Rattle.rules.specs.declared.Fingerprint.TheVariants as fingerprint
 use Rattle.rules.specs.declared.Held.{Held}
@@ -28,12 +27,12 @@ held_with fs ps ms =
             checkpoints = with_parts.scan.checkpoints;
             frames = fs;
             parts = ps;
-            ending = none;
+            ending = None;
             malformed = ms;
           };
       hinting = record { spacing = 8; most = 2048; hints = hint_at 1010 3 ∷ hint_at 1020 9 ∷ []; confirmed = [] };
       fingerprint = Unknown;
-      image = none;
+      image = None;
     }
 
 abbrev pub bytes_from : List ℕ → List Frame
@@ -63,12 +62,12 @@ malformed_at lsn =
             checkpoints = checkpoint 0 0 0 ∷ checkpoint 0 0 1 ∷ [];
             frames = [];
             parts = [];
-            ending = none;
+            ending = None;
             malformed = lsn ∷ [];
           };
       hinting = record { spacing = 8; most = 2048; hints = []; confirmed = [] };
       fingerprint = Unknown;
-      image = none;
+      image = None;
     }
 
 -- ---- answers as numbers

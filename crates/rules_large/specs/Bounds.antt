@@ -1,6 +1,5 @@
 -- Examples with lists and frames of 65,536, one less and one more.
-use Rattle.std.specs.Prelude.{ℕ, cond, List, [], ◌∷◌, ◌++◌, length, replicate}
-use Rattle.std.proofs.Math.Option.{some}
+use Rattle.std.specs.Prelude.{ℕ, cond, List, [], ◌∷◌, ◌++◌, length, replicate, Some}
 use Rattle.rules.specs.Tests.{number_of}
 use Rattle.rules.specs.Values.{HintRecorder, Recorder}
 use Rattle.rules.specs.Hints.{SeenSector, see, flush, question13}
@@ -12,7 +11,7 @@ use Rattle.rules.specs.examples.Recorders.{frame_of, sector}
 -- ---- values
 -- a hint recorder with n hints listed, and a tail
 abbrev pub filled_to : ℕ → HintRecorder
-filled_to n = seeing (some 100) (some (hint_at 1001 174)) (replicate n (hint_at 1000 100))
+filled_to n = seeing (Some 100) (Some (hint_at 1001 174)) (replicate n (hint_at 1000 100))
 
 -- a budget of 100,000
 abbrev pub roomier : Recorder → Recorder

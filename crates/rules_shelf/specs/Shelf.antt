@@ -1,6 +1,5 @@
 -- Change request 9: a shelf of saved lists, on values. A shelf is its numbers and its table of records.
-use Rattle.std.specs.Prelude.{ℕ, zero, suc, ◌+◌, ◌-◌, Bool, true, ◌&&◌, not, cond, List, [], ◌∷◌, ◌++◌, leb, ltb, length, get_or, take, drop, set}
-use Rattle.std.proofs.Math.Option.{Option, none, some}
+use Rattle.std.specs.Prelude.{ℕ, zero, suc, ◌+◌, ◌-◌, Bool, true, ◌&&◌, not, cond, List, [], ◌∷◌, ◌++◌, leb, ltb, length, get_or, take, drop, set, Option, None, Some}
 use Rattle.rules.specs.declared.Area.{Area}
 use Rattle.rules.specs.Questions.{area_ok}
 use Rattle.rules.specs.Tests.{all, Ask, ask, first_no, Answer, Accepted, after, bind}
@@ -125,7 +124,7 @@ entering x room rs a len = after (first_no (questions x room rs a (ask (leb len 
 
 -- none where the area is not present
 unfoldable pub jumped_in : Shelf → List ShelfRecord → Area → Option (List ShelfRecord)
-jumped_in x rs a = cond (among a rs) (some (jumped x rs a)) none
+jumped_in x rs a = cond (among a rs) (Some (jumped x rs a)) None
 
 unfoldable pub jumping : Shelf → ℕ → List ShelfRecord → Area → Answer (Option (List ShelfRecord))
 jumping x room rs a = after (first_no (questions x room rs a [])) (Accepted (jumped_in x rs a))
@@ -149,8 +148,8 @@ unfoldable pub enter : Shelf → List ShelfRecord → Area → ℕ → Answer Af
 enter x t a len = bind (entering x (length t) (present_records x t) a len) (λ new. Accepted (holding x t new))
 
 unfoldable pub held_by : Shelf → List ShelfRecord → Option (List ShelfRecord) → Option After
-held_by x t none = none
-held_by x t (some new) = some (holding x t new)
+held_by x t None = None
+held_by x t (Some new) = Some (holding x t new)
 
 -- none where the area is not present
 unfoldable pub jump : Shelf → List ShelfRecord → Area → Answer (Option After)

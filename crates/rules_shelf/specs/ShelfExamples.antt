@@ -1,6 +1,5 @@
 -- Examples of change request 9: what entering a list and a jump answer, and the records present afterwards.
-use Rattle.std.specs.Prelude.{ℕ, zero, suc, ◌+◌, List, [], ◌∷◌, ◌++◌, replicate, take}
-use Rattle.std.proofs.Math.Option.{Option, none, some}
+use Rattle.std.specs.Prelude.{ℕ, zero, suc, ◌+◌, List, [], ◌∷◌, ◌++◌, replicate, take, Option, None, Some}
 use Rattle.rules.specs.declared.Area.{Area}
 use Rattle.rules.specs.examples.Starred.{area, numbers_of, Example, example}
 use Rattle.rules_shelf.specs.declared.ShelfRecord.{ShelfRecord}
@@ -44,8 +43,8 @@ table_numbers y = list_numbers (take 4 y.table)
 
 -- 0 where the area is absent, else 1 and the numbers
 unfoldable pub jump_numbers : Option After → List ℕ
-jump_numbers none = 0 ∷ []
-jump_numbers (some y) = 1 ∷ shelf_numbers y
+jump_numbers None = 0 ∷ []
+jump_numbers (Some y) = 1 ∷ shelf_numbers y
 
 abbrev pub entry : Shelf → List ShelfRecord → ℕ → ℕ → List ℕ
 entry x t d len = numbers_of shelf_numbers (enter x t (disc d) len)

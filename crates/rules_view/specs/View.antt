@@ -1,6 +1,5 @@
 -- Change request 10: the views of a list.
-use Rattle.std.specs.Prelude.{ℕ, suc, ◌+◌, ◌*◌, Bool, ◌||◌, cond, List, [], ◌∷◌, ◌++◌, eqb, leb, length, get_or, drop}
-use Rattle.std.proofs.Math.Option.{Option, none, some}
+use Rattle.std.specs.Prelude.{ℕ, suc, ◌+◌, ◌*◌, Bool, ◌||◌, cond, List, [], ◌∷◌, ◌++◌, eqb, leb, length, get_or, drop, Option, None, Some}
 use Rattle.field.specs.Number.{encode, number_at}
 use Rattle.field.specs.Records.{records, bytes_of}
 use Rattle.rules.specs.declared.Area.{Area}
@@ -235,7 +234,7 @@ seen_in b = listener_from (read_head b) (drop 88 b)
 
 -- none where the role is another, or the length is not that of the counts
 unfoldable pub read_listener : List ℕ → Option Listener
-read_listener b = cond (all (eqb (read_head b).role listener ∷ eqb (length b) (88 + (read_head b).count * 8) ∷ [])) (some (seen_in b)) none
+read_listener b = cond (all (eqb (read_head b).role listener ∷ eqb (length b) (88 + (read_head b).count * 8) ∷ [])) (Some (seen_in b)) None
 
 -- hints with their marks, a byte each
 unfoldable pub with_marks : List Hint → List ℕ → List Hint
@@ -256,7 +255,7 @@ workshop_from v n c b =
       malformed = records 4 decode_lsn c.malformed s1;
       parts = records 8 decode_held_length c.parts s2;
       hints = with_marks (records 8 decode_hint c.hints s3) s4;
-      fingerprint = cond (eqb c.known 1) (some c.fingerprint) none;
+      fingerprint = cond (eqb c.known 1) (Some c.fingerprint) None;
       confirmed = records 16 decode_confirmation c.confirmed s5;
     }
 
@@ -270,7 +269,7 @@ behind_seen b = drop (88 + (read_head b).count * 8) b
 unfoldable pub read_workshop : List ℕ → Option Workshop
 read_workshop b =
     cond (all (eqb (read_head b).role workshop ∷ eqb (length b) (workshop_size (read_head b).count (read_totals (behind_seen b))) ∷ []))
-    (some (workshop_from (seen_in b) (read_head b).count (read_totals (behind_seen b)) (drop 48 (behind_seen b)))) none
+    (Some (workshop_from (seen_in b) (read_head b).count (read_totals (behind_seen b)) (drop 48 (behind_seen b)))) None
 
 -- ---- the call
 -- 52 of a view: is the role 1 or 2? ("52 when the role is neither 1 (listener) nor 2 (workshop)")

@@ -1,6 +1,5 @@
 -- Examples of change request 10.
-use Rattle.std.specs.Prelude.{ℕ, cond, List, [], ◌∷◌, ◌++◌, length, take, drop}
-use Rattle.std.proofs.Math.Option.{Option, none, some}
+use Rattle.std.specs.Prelude.{ℕ, cond, List, [], ◌∷◌, ◌++◌, length, take, drop, Option, None, Some}
 use Rattle.field.specs.Records.{bytes_of}
 use Rattle.rules.specs.declared.Fingerprint.{Fingerprint}
 use Rattle.rules.specs.declared.Fingerprint.TheVariants.{Unknown, Checked}
@@ -16,15 +15,15 @@ use Rattle.rules_view.specs.Roles.{load_as, save_as, merge_as, merge_all_as, loa
 -- ---- values
 -- complete, with a fingerprint, a kept hint and a confirmation
 abbrev pub marked : Fingerprint → Index
-marked f = index_of (area 0 100) 100 (checkpoint 0 0 0 ∷ []) (some (record { threshold = 80; malformed = 0 })) f 2048 (record { lsn = 10; number = 5; mark = 1 } ∷ []) (confirmed_at 20 6 7 ∷ [])
+marked f = index_of (area 0 100) 100 (checkpoint 0 0 0 ∷ []) (Some (record { threshold = 80; malformed = 0 })) f 2048 (record { lsn = 10; number = 5; mark = 1 } ∷ []) (confirmed_at 20 6 7 ∷ [])
 
 -- only a fingerprint
 abbrev pub stamped : Fingerprint → Index
-stamped f = index_of (area 0 100) 100 [] none f 2048 [] []
+stamped f = index_of (area 0 100) 100 [] None f 2048 [] []
 
 -- fails 1
 abbrev pub backwards : Index
-backwards = index_of (area 1250 1000) 100 [] none Unknown 2048 [] []
+backwards = index_of (area 1250 1000) 100 [] None Unknown 2048 [] []
 
 -- ---- answers as numbers
 unfoldable pub seen_numbers : List Seen → List ℕ
@@ -58,8 +57,8 @@ workshop_numbers w =
 
 -- 1 and what was read, or 0
 unfoldable pub read_numbers : {A : Type 0} → (A → List ℕ) → Option A → List ℕ
-read_numbers f none = 0 ∷ []
-read_numbers f (some a) = 1 ∷ f a
+read_numbers f None = 0 ∷ []
+read_numbers f (Some a) = 1 ∷ f a
 
 abbrev pub told : List ℕ → List ℕ
 told b = read_numbers listener_numbers (read_listener b)
@@ -111,7 +110,7 @@ views =
     ∷ example (numbers_of (λ n. n ∷ []) (view_size 1 ample three) ++ (numbers_of (λ n. n ∷ []) (view_size 2 ample three) ++ numbers_of (λ n. n ∷ []) (view_size 0 ample backwards)))
     (0 ∷ 112 ∷ 0 ∷ 196 ∷ 52 ∷ [])
     -- what the view omits does not show
-    ∷ example (seen (marked (Checked 9))) (seen (index_of (area 0 100) 100 (checkpoint 0 0 0 ∷ []) (some (record { threshold = 99; malformed = 0 })) Unknown 9 [] []))
+    ∷ example (seen (marked (Checked 9))) (seen (index_of (area 0 100) 100 (checkpoint 0 0 0 ∷ []) (Some (record { threshold = 99; malformed = 0 })) Unknown 9 [] []))
     ∷ []
 
 -- ---- roles 0, 1, 2 and 3 at each operation

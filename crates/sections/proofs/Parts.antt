@@ -1,8 +1,8 @@
 -- A part by the header of its frame. Assumes nothing.
+use Rattle.std.specs.Prelude.{Option}
 use mathlib.Core.Path.{◌≡◌, sym, ◌∙◌}
 use mathlib.Core.Bool.{◌&&◌}
 use mathlib.Core.List.{List, []}
-use mathlib.Core.Option.{Option}
 use Prim.Native.Nat.{ℕ}
 use Rattle.field.proofs.Records.{records_length}
 use Rattle.rules.specs.declared.Area.{Area}

@@ -11,12 +11,11 @@ ghost use Rattle.rules.specs.Sections.{counts_ok, end_ok, ending_ok, malformed_o
 ghost use Rattle.rules.specs.Questions.{area_ok, held_ok};
 ghost use Rattle.rules.specs.declared.Checkpoint.{Checkpoint};
 ghost use Rattle.tables.specs.Tables.{checkpoints_in, frames_in, parts_in, lsns_in};
-ghost use Rattle.tables.specs.Index.{end_in};
 ghost use Rattle.sections.specs.Sections.{asked, stretch};
 
 use crate::part_records::check_parts;
 use crate::records::{check_frames, check_lsns};
-use rules::{Area, Checkpoint, End, EndState, MAX_MALFORMED_WARNINGS, MAX_NEXT_ACCEPTABLE};
+use rules::{Area, Checkpoint, EndState, MAX_MALFORMED_WARNINGS, MAX_NEXT_ACCEPTABLE};
 use tables::get_checkpoint;
 
 // ---- questions
@@ -86,11 +85,11 @@ pub fn held_ok(
 }
 
 // ---- the end
-#[tactic(auto, unfolding(rules::specs::Tests::is_some, tables::specs::Index::end_in))]
-pub fn is_complete_end(ending: End) -> bool
-    ensures { result ≡ is_some (end_in ending) }
+#[tactic(auto, unfolding(rules::specs::Tests::is_some))]
+pub fn is_complete_end(ending: Option<EndState>) -> bool
+    ensures { result ≡ is_some ending }
 {
-    matches!(ending, End::Closed(_))
+    matches!(ending, Some(_))
 }
 
 // The LSN of checkpoint number j.
@@ -101,14 +100,14 @@ pub fn lsn_at(area: Area, interval: u32, j: u32) -> u64
     area.start + j as u64 * interval as u64
 }
 
-#[tactic(auto, using(rules::proofs::Frontier::frontier_open), unfolding(rules::specs::Values::frontier_of, tables::specs::Index::end_in))]
-pub fn frontier_of(area: Area, interval: u32, n: u32, ending: End) -> u64
+#[tactic(auto, using(rules::proofs::Frontier::frontier_open), unfolding(rules::specs::Values::frontier_of))]
+pub fn frontier_of(area: Area, interval: u32, n: u32, ending: Option<EndState>) -> u64
     requires { area.start ≤ 4294967295 }
-    ensures { result ≡ frontier_of area interval n (end_in ending) }
+    ensures { result ≡ frontier_of area interval n ending }
 {
     match ending {
-        End::Open => lsn_at(area, interval, n.saturating_sub(1)),
-        End::Closed(_) => area.end,
+        None => lsn_at(area, interval, n.saturating_sub(1)),
+        Some(_) => area.end,
     }
 }
 
@@ -120,13 +119,13 @@ pub fn last_checkpoint(t: &[u8], n: usize) -> Checkpoint
     get_checkpoint(t, n, n.saturating_sub(1))
 }
 
-#[tactic(auto, unfolding(rules::specs::Values::counted, tables::specs::Index::end_in))]
-pub fn counted(c: Checkpoint, ending: End) -> u64
-    ensures { (cs : List Checkpoint) → c ≡ last_checkpoint cs → result ≡ counted cs (end_in ending) }
+#[tactic(auto, unfolding(rules::specs::Values::counted))]
+pub fn counted(c: Checkpoint, ending: Option<EndState>) -> u64
+    ensures { (cs : List Checkpoint) → c ≡ last_checkpoint cs → result ≡ counted cs ending }
 {
     match ending {
-        End::Open => c.malformed,
-        End::Closed(e) => e.malformed,
+        None => c.malformed,
+        Some(e) => e.malformed,
     }
 }
 
@@ -141,14 +140,14 @@ fn end_ok(area: Area, c: Checkpoint, e: EndState) -> bool
         && e.malformed <= area.end - area.start
 }
 
-#[tactic(auto, unfolding(rules::specs::Sections::ending_ok, tables::specs::Index::end_in))]
-pub fn ending_ok(area: Area, c: Checkpoint, ending: End) -> bool
+#[tactic(auto, unfolding(rules::specs::Sections::ending_ok))]
+pub fn ending_ok(area: Area, c: Checkpoint, ending: Option<EndState>) -> bool
     requires { area.start ≤ area.end }
-    ensures { (cs : List Checkpoint) → c ≡ last_checkpoint cs → result ≡ ending_ok area cs (end_in ending) }
+    ensures { (cs : List Checkpoint) → c ≡ last_checkpoint cs → result ≡ ending_ok area cs ending }
 {
     match ending {
-        End::Open => true,
-        End::Closed(e) => end_ok(area, c, e),
+        None => true,
+        Some(e) => end_ok(area, c, e),
     }
 }
 
@@ -164,14 +163,14 @@ fn malformed_ok(area: Area, front: u64, counted: u64, malformed: &[u8], m: usize
 pub fn ends_ok(
     area: Area,
     interval: u32,
-    ending: End,
+    ending: Option<EndState>,
     checkpoints: &[u8],
     n: u32,
     malformed: &[u8],
     m: usize,
 ) -> bool
     requires { (area.start ≤ area.end) × (area.end ≤ 4294967295) × (n * 24 ≤ length checkpoints.now) × (m * 4 ≤ length malformed.now) }
-    ensures { result ≡ (ending_ok area (checkpoints_in n checkpoints.now) (end_in ending) && malformed_ok area (frontier_of area interval n (end_in ending)) (counted (checkpoints_in n checkpoints.now) (end_in ending)) (lsns_in m malformed.now)) }
+    ensures { result ≡ (ending_ok area (checkpoints_in n checkpoints.now) ending && malformed_ok area (frontier_of area interval n ending) (counted (checkpoints_in n checkpoints.now) ending) (lsns_in m malformed.now)) }
 {
     let last = last_checkpoint(checkpoints, n as usize);
     let front = frontier_of(area, interval, n, ending);

@@ -1,6 +1,5 @@
 // The check of the held parts of a list, by its checkpoints and its frames.
-ghost use Rattle.std.specs.Prelude.{◌≡◌, List, [], ℕ, ◌+◌, ◌-◌, ◌*◌, ◌≤◌, length};
-ghost use Rattle.std.proofs.Math.Option.{none};
+ghost use Rattle.std.specs.Prelude.{◌≡◌, List, [], ℕ, ◌+◌, ◌-◌, ◌*◌, ◌≤◌, length, None};
 ghost use Rattle.rules.specs.Values.{no_held, same_kind};
 ghost use Rattle.rules.specs.Tests.{walk};
 ghost use Rattle.rules.specs.Sections.{follows, belongs, part_ok, parts_ok, reached};
@@ -136,7 +135,7 @@ fn walk_parts(
     f: usize,
 ) -> bool
     requires { (h * 24 ≤ length parts.now) × (n * 24 ≤ length checkpoints.now) × (f * 8 ≤ length headers.now) × (first + n ≤ 4294967296) × (area.start ≤ 4294967295) }
-    ensures { result ≡ walk (part_ok area interval first (checkpoints_in n checkpoints.now) (frames_in f headers.now [])) part_next none (parts_in h parts.now) }
+    ensures { result ≡ walk (part_ok area interval first (checkpoints_in n checkpoints.now) (frames_in f headers.now [])) part_next None (parts_in h parts.now) }
 {
     let mut q = no_part();
     for j in 0..h {

@@ -1,9 +1,9 @@
 -- Words, names and numbers of a line, from a place on, and what a line of so many words says. Assumes nothing.
+use Rattle.std.specs.Prelude.{None, Some}
 use Prim.Native.Nat.{ℕ, suc, ◌+◌, ◌-◌, ◌*◌, ◌^◌, ◌≤◌, ◌<◌}
 use mathlib.Core.Path.{◌≡◌, refl, sym, ap, ◌∙◌}
 use mathlib.Core.Bool.{Bool, true, false, ◌&&◌, not, cond}
 use mathlib.Core.List.{List, [], ◌∷◌}
-use mathlib.Core.Option.{none, some}
 use native.Mathlib.Nat.{pow-suc}
 use native.Mathlib.Numerals.{add-one}
 use native.Mathlib.Omega.{arith}
@@ -142,7 +142,7 @@ words_last s i w e h =
 
 -- ---- what is said
 by_tests : (p q r : Bool) (s n : List ℕ) (k a e : ℕ) → take k s ≡ n
-    → line_in s (cond (p && (q && r)) (parsed.Line k a e) parsed.Broken) ≡ cond (all (true ∷ p ∷ q ∷ r ∷ [])) (some (record { name = n; start = a; end = e })) none
+    → line_in s (cond (p && (q && r)) (parsed.Line k a e) parsed.Broken) ≡ cond (all (true ∷ p ∷ q ∷ r ∷ [])) (Some (record { name = n; start = a; end = e })) None
 unfolding line_in all
 by_tests true true true s n k a e t = rw t
 by_tests true true false s n k a e t = refl

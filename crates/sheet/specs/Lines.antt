@@ -1,6 +1,5 @@
 -- What parsing a line answers.
-use Rattle.std.specs.Prelude.{ℕ, suc, cond, ◌&&◌, List, [], ◌∷◌, eqb, length, take}
-use Rattle.std.proofs.Math.Option.{Option, none, some}
+use Rattle.std.specs.Prelude.{ℕ, suc, cond, ◌&&◌, List, [], ◌∷◌, eqb, length, take, Option, None, Some}
 use Rattle.rules_coverage.specs.Lines.{Line, is_name, is_number, value_from}
 use Rattle.sheet.specs.declared.line.Parsed.{Parsed}
 use Rattle.sheet.specs.declared.line.Parsed.TheVariants as parsed
@@ -9,8 +8,8 @@ use Rattle.sheet.specs.declared.line.Number.TheVariants.{Nothing, Value}
 
 -- the line that was parsed in the bytes s
 unfoldable pub line_in : List ℕ → Parsed → Option Line
-line_in s parsed.Broken = none
-line_in s (parsed.Line k a e) = some (record { name = take k s; start = a; end = e })
+line_in s parsed.Broken = None
+line_in s (parsed.Line k a e) = Some (record { name = take k s; start = a; end = e })
 
 unfoldable pub name_length : Parsed → ℕ
 name_length parsed.Broken = 0

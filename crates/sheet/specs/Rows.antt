@@ -1,6 +1,5 @@
 -- What the row of a file answers, and the table of rows.
-use Rattle.std.specs.Prelude.{ℕ, min, Bool, cond, List, eqb, leb, ltb, length, get_or}
-use Rattle.std.proofs.Math.Option.{Option, none, some}
+use Rattle.std.specs.Prelude.{ℕ, min, Bool, cond, List, eqb, leb, ltb, length, get_or, Option, None, Some}
 use Rattle.field.specs.Records.{records}
 use Rattle.rules.specs.declared.AreaKey.{AreaKey}
 use Rattle.rules.specs.Tests.{Answer, Refused, Accepted}
@@ -18,7 +17,7 @@ answer_in (answer.Accepted n b h) = Accepted (row n b h)
 
 -- the bytes of a file, where they could be read
 unfoldable pub file_in : Bool → List ℕ → Option (List ℕ)
-file_in whole b = cond whole (some b) none
+file_in whole b = cond whole (Some b) None
 
 -- ---- the table: four numbers of 32 bits for each row, 1 and those of an accepted one, or 0, the refusal number and two that do not count
 unfoldable pub words_row : List ℕ → Answer Row

@@ -1,9 +1,9 @@
 -- The calls over a table: what is taken, changed and written is what the definitions say. Assumes nothing.
+use Rattle.std.specs.Prelude.{Option, None, Some}
 use mathlib.Core.Path.{◌≡◌, refl, sym, ap, ap₂, ◌∙◌}
 use mathlib.Core.Bool.{true, false}
 use mathlib.Core.List.{List, [], ◌∷◌, ◌++◌}
 use mathlib.Core.Logic.{◌⊎◌, inl, inr, ⊎_elim}
-use mathlib.Core.Option.{Option, none, some}
 use Prim.Native.Nat.{ℕ, zero, suc, ◌+◌, ◌<◌, ◌≤◌, min}
 use native.Mathlib.Omega.{arith}
 use borrow.Author.Tests.{leb-true, ne_eqb}
@@ -180,8 +180,8 @@ told_jump : (x : Shelf) (ys : List ShelfRecord) (y : Answer (Option (List ShelfR
     → shelf_out (told x y) (records_over (new_of y) ys) ≡ shelf_out_of x ys (bind y (λ o. Accepted (held_by x ys o)))
 unfolding told new_of shelf_out_of bind held_by
 told_jump x ys (Refused n) = refl
-told_jump x ys (Accepted none) = refl
-told_jump x ys (Accepted (some new)) = refl
+told_jump x ys (Accepted None) = refl
+told_jump x ys (Accepted (Some new)) = refl
 
 -- a call whose change answers answer_of of the records that were taken, and which is to give called
 pub record Answered (x : Shelf) (ys : List ShelfRecord) (answer_of : List ShelfRecord

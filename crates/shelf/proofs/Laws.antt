@@ -1,7 +1,7 @@
 -- Laws of records by value and of a table of them. Assumes nothing.
+use Rattle.std.specs.Prelude.{Option, None, Some}
 use mathlib.Core.Path.{◌≡◌, refl, sym, ap, ap₂, ◌∙◌}
 use mathlib.Core.Bool.{Bool, true, false, ◌&&◌, not, and-true}
-use mathlib.Core.Option.{Option, none, some}
 use mathlib.Core.List.{List, [], ◌∷◌, ◌++◌}
 use Prim.Native.Nat.{ℕ, suc, ◌+◌, ◌-◌, ◌<◌, ◌≤◌}
 use native.Mathlib.Omega.{arith}
@@ -340,14 +340,14 @@ module _ {c : Change} {k : Kept} (x : Shelf) (r : Answer (Option (List ShelfReco
       record { answers = rw d e.2; few = omega arith; wide = ap length e.0 ∙ h.wide; new = rw (d, n) }
 
   pub changes_absent : Sound k → (c.all ≡ k.all) × (c.n ≡ 0) × (c.answer ≡ answer 0 1 x.present x.count)
-      → r ≡ Accepted none → Changes c x r
+      → r ≡ Accepted None → Changes c x r
   unfolding told new_of
   changes_absent h e d =
       let n : c.n ≡ 0 = e.1 in
       record { answers = rw d e.2; few = omega arith; wide = ap length e.0 ∙ h.wide; new = rw (d, n) }
 
   pub changes_done : (new : List ShelfRecord) → Stands k new
-      → (c.all ≡ k.all) × (c.n ≡ k.n) × (c.answer ≡ answer 0 0 k.n (x.count + 1)) → r ≡ Accepted (some new)
+      → (c.all ≡ k.all) × (c.n ≡ k.n) × (c.answer ≡ answer 0 0 k.n (x.count + 1)) → r ≡ Accepted (Some new)
       → Changes c x r
   unfolding told new_of
   changes_done new h e d =
@@ -384,7 +384,7 @@ module _ (x : Shelf) (room : ℕ) (rs : List ShelfRecord) (a : Area) (len : ℕ)
       let y = asked-yes (questions x room rs a (ask (leb len x.limit) 50 ∷ [])) refl (sym e ∙ h) in
       (ltb-true x.count max64 y.1.1.1.0, leb-true len x.limit y.1.1.1.1.0)
 
-  pub enter_done : n ≡ 0 → some_of (entering x room rs a len) ≡ Accepted (some (entered x rs a len))
+  pub enter_done : n ≡ 0 → some_of (entering x room rs a len) ≡ Accepted (Some (entered x rs a len))
   unfolding entering some_of
   enter_done h = ap some_of (after_done (questions x room rs a (ask (leb len x.limit) 50 ∷ []))
       (Accepted (entered x rs a len)) e h)
@@ -402,7 +402,7 @@ module _ (x : Shelf) (room : ℕ) (k : Kept) (a : Area) {n : ℕ} (e : n ≡ fir
   jump_fits h = ltb-true x.count max64 (asked-yes (questions x room (list_of k) a []) refl (sym e ∙ h)).1.1.1.0
 
   pub jump_absent : n ≡ 0 → Sound k → {i : ℕ} → i ≡ area_place a (list_of k) → i ≡ k.n
-      → jumping x room (list_of k) a ≡ Accepted none
+      → jumping x room (list_of k) a ≡ Accepted None
   unfolding jumped_in among
   jump_absent h s {i} d m =
       let z = list_length k s in
@@ -410,7 +410,7 @@ module _ (x : Shelf) (room : ℕ) (k : Kept) (a : Area) {n : ℕ} (e : n ≡ fir
       jump_is h ∙ rw (le-ltb (area_place a (list_of k)) (length (list_of k)) o)
 
   pub jump_done : n ≡ 0 → Sound k → {i : ℕ} → i ≡ area_place a (list_of k) → i < k.n
-      → jumping x room (list_of k) a ≡ Accepted (some (restamped (list_of k) i (x.count + 1)))
+      → jumping x room (list_of k) a ≡ Accepted (Some (restamped (list_of k) i (x.count + 1)))
   unfolding jumped_in among jumped
   jump_done h s {i} d m =
       let z = list_length k s in

@@ -1,6 +1,5 @@
 -- What the functions of a shelf need of each other.
-use Rattle.std.specs.Prelude.{◌≡◌, List, [], ◌≤◌, ℕ, zero, suc, ◌+◌, length, take, get_or, set}
-use Rattle.std.proofs.Math.Option.{Option, none, some}
+use Rattle.std.specs.Prelude.{◌≡◌, List, [], ◌≤◌, ℕ, zero, suc, ◌+◌, length, take, get_or, set, Option, None, Some}
 use Rattle.rules_shelf.specs.declared.ShelfRecord.{ShelfRecord}
 use Rattle.rules_shelf.specs.declared.Shelf.{Shelf}
 use Rattle.rules_shelf.specs.Shelf.{no_record}
@@ -30,14 +29,14 @@ written (suc n) l t = set (written n l t) n (get_or l n no_record)
 -- the answer where r are the records present afterwards: a refusal and an absent area leave the shelf's numbers
 unfoldable pub told : Shelf → Answer (Option (List ShelfRecord)) → ShelfAnswer
 told x (Refused n) = answer n 0 x.present x.count
-told x (Accepted none) = answer 0 1 x.present x.count
-told x (Accepted (some new)) = answer 0 0 (length new) (x.count + 1)
+told x (Accepted None) = answer 0 1 x.present x.count
+told x (Accepted (Some new)) = answer 0 0 (length new) (x.count + 1)
 
 -- the records that are written: none for a refusal or an absent area
 unfoldable pub new_of : Answer (Option (List ShelfRecord)) → List ShelfRecord
 new_of (Refused n) = []
-new_of (Accepted none) = []
-new_of (Accepted (some new)) = new
+new_of (Accepted None) = []
+new_of (Accepted (Some new)) = new
 
 -- c is what a call brings that answers r
 pub record Changes (c : Change) (x : Shelf) (r : Answer (Option (List ShelfRecord))) : Type 0 where

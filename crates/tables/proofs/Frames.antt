@@ -1,8 +1,8 @@
 -- Frames count in the rules by start and length alone, and a table's headers say both. Assumes nothing.
+use Rattle.std.specs.Prelude.{Option, None, Some}
 use mathlib.Core.Path.{◌≡◌, refl, sym, ap, subst, ◌∙◌}
 use mathlib.Core.Bool.{Bool, true, false, ◌&&◌, and-true}
 use mathlib.Core.List.{List, [], ◌∷◌, ◌++◌}
-use mathlib.Core.Option.{Option, none, some}
 use Prim.Native.Nat.{ℕ, zero, suc, ◌+◌, ◌-◌, ◌<◌, ◌≤◌}
 use native.Mathlib.Nat.{add-zero}
 use native.Mathlib.Omega.{arith}
@@ -108,7 +108,7 @@ module _ (a : Area) (k first : ℕ) (cs : List Checkpoint) {fs gs : List Frame} 
   -- parts ask of frames their starts and lengths alone
   pub parts_shape : (ps : List Held) → parts_ok a k first cs fs ps ≡ parts_ok a k first cs gs ps
   unfolding parts_ok
-  parts_shape ps = rw (walk_same _ _ (λ o p. some p) part_shape none ps, same.count)
+  parts_shape ps = rw (walk_same _ _ (λ o p. Some p) part_shape None ps, same.count)
 
 apart : (a b c d e f : Bool) → ((c && e) && (a && (b && (d && f)))) ≡ (a && (b && (c && (d && (e && f)))))
 apart a b true d true f = refl
@@ -166,13 +166,13 @@ module _ (a : Area) (budget : ℕ) (hs : List FrameHeader) (store : List ℕ) wh
   checked_yes e g = record { answer = e ∙ any_store; bytes_are = λ z. g ∙ frames_used hs [] store }
 
 -- behind a part
-pub before_next : (j : ℕ) (p : Held) → before (eqb (j + 1) 0) p ≡ some p
+pub before_next : (j : ℕ) (p : Held) → before (eqb (j + 1) 0) p ≡ Some p
 unfolding before
 before_next j p = rw (ne_eqb (j + 1) 0 (λ e. omega arith))
 
 -- the walk and how far it came
 pub parts_are : (a : Area) (k first n f h : ℕ) (cps headers parts store : List ℕ)
-    → (walk (part_ok a k first (checkpoints_in n cps) (frames_in f headers [])) part_next none (parts_in h parts) && eqb (reached (parts_in h parts)) f)
+    → (walk (part_ok a k first (checkpoints_in n cps) (frames_in f headers [])) part_next None (parts_in h parts) && eqb (reached (parts_in h parts)) f)
     ≡ parts_ok a k first (checkpoints_in n cps) (frames_in f headers store) (parts_in h parts)
 unfolding parts_ok all
 parts_are a k first n f h cps headers parts store =

@@ -1,12 +1,7 @@
 -- How the numbers of an index and its seven lent tables stand for its value.
-use Rattle.std.specs.Prelude.{ℕ, ◌/◌, ◌-◌, ◌*◌, min, Bool, ◌&&◌, cond, List, [], ◌∷◌, ◌++◌, length, replicate, leb, ltb, eqb}
-use Rattle.std.proofs.Math.Option.{Option, none, some}
+use Rattle.std.specs.Prelude.{ℕ, ◌/◌, ◌-◌, ◌*◌, min, Bool, ◌&&◌, cond, List, [], ◌∷◌, ◌++◌, length, replicate, leb, ltb, eqb, Option, None, Some}
 use Rattle.rules.specs.declared.AreaIndex.{AreaIndex}
-use Rattle.rules.specs.declared.End.{End}
-use Rattle.rules.specs.declared.End.TheVariants.{Open, Closed}
 use Rattle.rules.specs.declared.EndState.{EndState}
-use Rattle.rules.specs.declared.ImageId.{ImageId}
-use Rattle.rules.specs.declared.ImageId.TheVariants.{Anonymous, Id}
 use Rattle.field.specs.Number.{number_at}
 use Rattle.field.specs.Records.{records, bytes_of}
 use Rattle.rules.specs.declared.FrontierLsn.{FrontierLsn}
@@ -49,23 +44,7 @@ room_of t =
 unfoldable pub hint_room : ℕ → List ℕ → List ℕ → Bool
 hint_room most s c = hinting_room (room_of (tables [] [] [] [] [] s c)) most
 
-unfoldable pub end_in : End → Option EndState
-end_in Open = none
-end_in (Closed e) = some e
-
-unfoldable pub id_in : ImageId → Option ℕ
-id_in Anonymous = none
-id_in (Id v) = some v
-
 -- ---- the numbers of a value
-unfoldable pub end_from : Option EndState → End
-end_from none = Open
-end_from (some e) = Closed e
-
-unfoldable pub id_from : Option ℕ → ImageId
-id_from none = Anonymous
-id_from (some v) = Id v
-
 abbrev pub numbers_from : Index → AreaIndex
 numbers_from x =
     record {
@@ -80,9 +59,9 @@ numbers_from x =
       malformed = length x.scan.malformed;
       hints = length x.hinting.hints;
       confirmed = length x.hinting.confirmed;
-      ending = end_from x.scan.ending;
+      ending = x.scan.ending;
       fingerprint = x.fingerprint;
-      image = id_from x.image;
+      image = x.image;
     }
 
 -- is the kind of each of the first h parts 0 or 1, as loading asks?
@@ -101,7 +80,7 @@ index_in x t =
             checkpoints = checkpoints_in x.checkpoints t.checkpoints;
             frames = frames_in x.frames t.frames t.store;
             parts = parts_in x.parts t.parts;
-            ending = end_in x.ending;
+            ending = x.ending;
             malformed = lsns_in x.malformed t.malformed;
           };
       hinting =
@@ -112,7 +91,7 @@ index_in x t =
             confirmed = confirmations_in x.confirmed t.confirmed;
           };
       fingerprint = x.fingerprint;
-      image = id_in x.image;
+      image = x.image;
     }
 
 -- ---- kind bytes, which a value cannot hold
@@ -190,7 +169,7 @@ made_out_of put t (Accepted x) = made_out (made.Index (numbers_from x)) (put x)
 -- the frontier; 1
 unfoldable pub frontier_in : AreaIndex → Answer ℕ
 frontier_in x =
-    after (first_no (ask (area_ok x.area) 1 ∷ [])) (Accepted (frontier_of x.area x.interval x.checkpoints (end_in x.ending)))
+    after (first_no (ask (area_ok x.area) 1 ∷ [])) (Accepted (frontier_of x.area x.interval x.checkpoints x.ending))
 
 unfoldable pub frontier_answer : FrontierLsn → Answer ℕ
 frontier_answer (front.Refused n) = Refused n

@@ -1,16 +1,14 @@
 -- How the numbers of a recorder and its four lent tables stand for its value.
-use Rattle.std.specs.Prelude.{ℕ, ◌/◌, Bool, List, [], length}
-use Rattle.std.proofs.Math.Option.{Option, none, some}
+use Rattle.std.specs.Prelude.{ℕ, ◌/◌, Bool, List, [], length, Option, None, Some}
 use Rattle.field.specs.Records.{bytes_of}
 use Rattle.rules.specs.declared.Recorder.{Recorder}
-use Rattle.rules.specs.declared.UnderAssembly.{UnderAssembly}
-use Rattle.rules.specs.declared.UnderAssembly.TheVariants.{Nothing, Frame}
 use Rattle.rules.specs.Tests.{first_no}
 use Rattle.rules.specs.Values.{Lengths}
 use Rattle.rules.specs.Values as values
 use Rattle.rules.specs.Questions.{recorder_four}
 use Rattle.rules.specs.File.{encode_checkpoint, encode_frame_header, encode_held, over}
 use Rattle.rules.specs.Record.{Assembling}
+use Rattle.rules.specs.declared.Assembling as under
 use Rattle.tables.specs.Tables.{checkpoints_in, frames_in, parts_in}
 use Rattle.tables.specs.Index.{kinds_ok, kinded_number, store_of}
 
@@ -85,6 +83,6 @@ recorder_over r t =
     }
 
 -- a frame under assembly with its bytes
-unfoldable pub assembling_in : UnderAssembly → List ℕ → Option Assembling
-assembling_in Nothing b = none
-assembling_in (Frame a) b = some (record { start = a.start; number = a.number; kind = a.kind; remaining = a.remaining; bytes = b })
+unfoldable pub assembling_in : Option under.Assembling → List ℕ → Option Assembling
+assembling_in None b = None
+assembling_in (Some a) b = Some (record { start = a.start; number = a.number; kind = a.kind; remaining = a.remaining; bytes = b })

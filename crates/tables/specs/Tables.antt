@@ -1,6 +1,5 @@
 -- How the bytes of tables stand for the lists of an index. The tables are in the file's layout; the frames' bytes lie end to end in a store.
-use Rattle.std.specs.Prelude.{◌≡◌, ℕ, ◌+◌, ◌-◌, ◌*◌, ◌%◌, ◌/◌, Bool, true, false, ◌&&◌, leb, ltb, List, [], ◌∷◌, ◌++◌, take, drop, get_or, replicate, length}
-use Rattle.std.proofs.Math.Option.{Option, none, some}
+use Rattle.std.specs.Prelude.{◌≡◌, ℕ, ◌+◌, ◌-◌, ◌*◌, ◌%◌, ◌/◌, Bool, true, false, ◌&&◌, leb, ltb, List, [], ◌∷◌, ◌++◌, take, drop, get_or, replicate, length, Option, None, Some}
 use Rattle.field.specs.Number.{encode, number_at}
 use Rattle.field.specs.Records.{records}
 use Rattle.rules.specs.declared.Area.{Area}
@@ -89,8 +88,8 @@ passed_at j b = record { number = j; threshold = b.threshold; malformed = b.malf
 
 -- the part before the next one, none at first
 unfoldable pub before : Bool → Held → Option Held
-before true q = none
-before false q = some q
+before true q = None
+before false q = Some q
 
 -- the rule of parts in two: by the part before it and the count of frames, and by its checkpoint and its frame
 abbrev pub part_near : ℕ → Option Held → Held → Bool
@@ -101,7 +100,7 @@ part_here a k first n cs p h =
     leb first p.at && (ltb p.at (first + n) && (belongs a k p (checkpoint_at cs (p.at - first)) (frame_of h []) && ltb p.number lim))
 
 abbrev pub part_next : Option Held → Held → Option Held
-part_next o p = some p
+part_next o p = Some p
 
 -- what a check of frames ensures: the answer of p, and the bytes of the frames where it is yes
 pub record Checked (p : List Frame → Bool) (fs : List Frame) (ok : Bool) (bytes : ℕ) : Type 0 where

@@ -1,14 +1,13 @@
 -- What absorbing a recorder leaves in the tables. Assumes nothing.
+use Rattle.std.specs.Prelude.{None, Some, Option, ℕ}
 use mathlib.Core.Path.{◌≡◌, refl, ap}
 use mathlib.Core.Bool.{Bool, true, false, ◌&&◌}
 use mathlib.Core.List.{List, []}
-use mathlib.Core.Option.{none, some}
 use Prim.Native.Nat.{ℕ, ◌-◌, ◌≤◌}
 use native.Mathlib.Omega.{arith}
 use lib.Dec.{eqb}
 use Rattle.rules.specs.declared.AreaIndex.{AreaIndex}
 use Rattle.rules.specs.declared.EndState.{EndState}
-use Rattle.rules.specs.declared.ImageId.{ImageId}
 use Rattle.rules.specs.declared.Mode.TheVariants.{Stopped}
 use Rattle.rules.specs.declared.Recorder.{Recorder}
 use Rattle.rules.specs.Tests.{is_some}
@@ -20,7 +19,7 @@ use Rattle.rules.specs.Merge.{further, merged_scan}
 use Rattle.rules.proofs.Tests.{choose, all→, →all, and_right, each_append, each_drop}
 use Rattle.laws.specs.Statements.{Savable}
 use Rattle.laws.proofs.scans.Sizes.{merged_sized}
-use Rattle.tables.specs.Index.{Tables, room_of, index_in, kinds_in, or_four, id_in}
+use Rattle.tables.specs.Index.{Tables, room_of, index_in, kinds_in, or_four}
 use Rattle.index.proofs.Lent.{sized_in}
 use Rattle.index.proofs.Standing.{stands, kinds_from}
 use Rattle.tables.specs.Recorder.{RecorderTables, recorder_room, recorder_in, recorder_kinds, recorder_from}
@@ -45,7 +44,7 @@ opened x =
       checkpoints = x.checkpoints;
       frames = x.frames;
       parts = x.parts;
-      ending = none;
+      ending = None;
       malformed = x.malformed;
     }
 
@@ -58,7 +57,7 @@ closed x r e =
       checkpoints = r.checkpoints;
       frames = r.frames;
       parts = r.parts;
-      ending = some e;
+      ending = Some e;
       malformed = [];
     }
 
@@ -87,7 +86,7 @@ unfolding kinded_both
 kinded_yes ok x r a e = rw e
 
 -- ---- the call
-module _ (x : AreaIndex) (t : Tables) (image : ImageId) (given : List ℕ) (r : Recorder) (u : RecorderTables) where
+module _ (x : AreaIndex) (t : Tables) (image : Option ℕ) (given : List ℕ) (r : Recorder) (u : RecorderTables) where
   abbrev own : Index
   own = index_in x t
 
@@ -95,7 +94,7 @@ module _ (x : AreaIndex) (t : Tables) (image : ImageId) (given : List ℕ) (r : 
   read = recorder_in r u
 
   abbrev answer : Absorbed
-  answer = absorb (room_of t) own (recorder_room u) read (id_in image) (given_in given)
+  answer = absorb (room_of t) own (recorder_room u) read image (given_in given)
 
   abbrev left : absorbing.AbsorbedOut
   left = absorb_in x t image given r u
@@ -109,10 +108,10 @@ module _ (x : AreaIndex) (t : Tables) (image : ImageId) (given : List ℕ) (r : 
       in (k.0, k.1, ap (absorbed_out_of t) (kinded_yes (kinds_in x t && recorder_kinds r u) own read answer k.0))
 
   -- the recorder that it leaves stands in the recorder's tables
-  recorder_left : recorder_kinds r u ≡ true → (n : ℕ) → let a = absorbed_by n own read (id_in image) (given_in given) in
+  recorder_left : recorder_kinds r u ≡ true → (n : ℕ) → let a = absorbed_by n own read image (given_in given) in
       (recorder_in (recorder_from a.recorder) u ≡ a.recorder) × (recorder_kinds (recorder_from a.recorder) u ≡ true)
   recorder_left k n =
-      of_each (room_of t) own (recorder_room u) read (id_in image) (given_in given)
+      of_each (room_of t) own (recorder_room u) read image (given_in given)
       (λ a. (recorder_in (recorder_from a.recorder) u ≡ a.recorder)
       × (recorder_kinds (recorder_from a.recorder) u ≡ true)) n
       (λ e. (mode_back r u r.mode, mode_kinds r u r.mode k)) (λ e. (emptied_back read u, emptied_kinds read u))
@@ -127,14 +126,14 @@ module _ (x : AreaIndex) (t : Tables) (image : ImageId) (given : List ℕ) (r : 
   recorder_of_lemma n h e v =
       let k = rules_answer n h e in
       let l = recorder_left (and_right (kinds_in x t) (recorder_kinds r u) k.0)
-      (absorb_number (room_of t) own (recorder_room u) read (id_in image) (given_in given)) in
+      (absorb_number (room_of t) own (recorder_room u) read image (given_in given)) in
       rw k.2 (stands_as answer.recorder (recorder_from answer.recorder) u (v.one, v.two, v.four) l.0
       l.1)
 
   pub stopped_left : left.answer.number ≡ 8 → StandsRecorder left.answer.recorder u
   stopped_left e =
       let h : 1 ≤ 8 → 8 ≤ 4 → ⊥ = λ a b. omega arith in
-      recorder_of_lemma 8 h e (closure.stopped (room_of t) own (recorder_room u) read (id_in image) (given_in given)
+      recorder_of_lemma 8 h e (closure.stopped (room_of t) own (recorder_room u) read image (given_in given)
       (rules_answer 8 h e).1)
 
   -- the list that an accepted call leaves, and the recorder
@@ -153,8 +152,8 @@ module _ (x : AreaIndex) (t : Tables) (image : ImageId) (given : List ℕ) (r : 
     unfolding absorb sized
     absorbed_sized =
         let s = all→ _ own_sized in
-        of_each (room_of t) own (recorder_room u) read (id_in image) (given_in given) (λ y. sized y.index ≡ true)
-        (absorb_number (room_of t) own (recorder_room u) read (id_in image) (given_in given))
+        of_each (room_of t) own (recorder_room u) read image (given_in given) (λ y. sized y.index ≡ true)
+        (absorb_number (room_of t) own (recorder_room u) read image (given_in given))
         (λ e. own_sized) (λ e. →all _ (
           joined_sized own.scan read
               (taken_malformed own.scan read (given_in given)) s.0 (recorder_sized r u b),
@@ -167,7 +166,7 @@ module _ (x : AreaIndex) (t : Tables) (image : ImageId) (given : List ℕ) (r : 
         let h : 1 ≤ 0 → 0 ≤ 4 → ⊥ = λ c d. omega arith in
         let k = rules_answer 0 h e in
         let z = k.1 in
-        let c = closure.absorbed (room_of t) own (recorder_room u) read (id_in image) (given_in given) z in
+        let c = closure.absorbed (room_of t) own (recorder_room u) read image (given_in given) z in
         let v : Savable answer.index = record
         { one = c.0.one; two = c.0.two; four = c.0.four; sizes = absorbed_sized } in
         record {

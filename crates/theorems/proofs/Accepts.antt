@@ -1,8 +1,8 @@
 -- Each call is accepted where its questions are answered yes. Assumes nothing.
+use Rattle.std.specs.Prelude.{Some}
 use mathlib.Core.Path.{◌≡◌, refl}
 use mathlib.Core.Bool.{true, ◌&&◌}
 use mathlib.Core.List.{List, [], ◌∷◌}
-use mathlib.Core.Option.{some}
 use Prim.Native.Nat.{ℕ}
 use lib.Dec.{eqb, leb}
 use borrow.Author.Tests.{eq-eqb, ne_eqb, le-leb}
@@ -59,7 +59,7 @@ refuses_nothing =
       made = λ l a k budget spacing most q1 q2 q3. let x = empty_index a k budget spacing most in →asked
           (ask (question1 x) 1 ∷ ask (question2 x) 2 ∷ ask (question3 l x) 3 ∷ []) (q1, (q2, (q3, tt))) refl;
       fingerprints = λ l x v w q. →asked _ (index_asked l x
-          (ask (agree eqb (stated x.fingerprint) (some v)) 15 ∷ []) w (q, tt)) refl;
+          (ask (agree eqb (stated x.fingerprint) (Some v)) 15 ∷ []) w (q, tt)) refl;
       recorders = λ l x from w. →asked _ (index_asked l x [] w tt) refl;
       records = λ l r lsn threshold malformed f sector w q5 q6 q7. →asked _
           (recorder_asked l r (ask (question5 r lsn sector) 5 ∷ ask (question6 r threshold malformed) 6

@@ -1,4 +1,5 @@
 -- Each call over lent tables is accepted where its questions are answered yes. Assumes nothing.
+use Rattle.std.specs.Prelude.{Option, ℕ}
 use mathlib.Core.Path.{◌≡◌, refl, sym, ap, ◌∙◌}
 use mathlib.Core.Bool.{true, false, ◌&&◌}
 use mathlib.Core.List.{List, [], ◌∷◌}
@@ -11,10 +12,8 @@ use lib.ListN.{length}
 use Rattle.rules.specs.declared.AreaIndex.{AreaIndex}
 use Rattle.rules.specs.declared.EndState.{EndState}
 use Rattle.rules.specs.declared.HintRecorder.{HintRecorder}
-use Rattle.rules.specs.declared.ImageId.{ImageId}
 use Rattle.rules.specs.declared.Mode.TheVariants.{Finished}
 use Rattle.rules.specs.declared.Recorder.{Recorder}
-use Rattle.rules.specs.declared.UnderAssembly.{UnderAssembly}
 use Rattle.rules.specs.Tests.{Answer, Refused, Accepted, after, ask, first_no, number_of}
 use Rattle.rules.specs.Values.{max32, boundaries, last_checkpoint}
 use Rattle.rules.specs.Sections.{end_ok}
@@ -35,7 +34,7 @@ use Rattle.field.proofs.Records.{records_length}
 use Rattle.rules.proofs.Tests.{never, both, asks, →asked, →bind, number_of_accepted}
 use Rattle.rules_disc.specs.Disc.{slot_area, contents_ok, bodies_length, disc_length, by_slot}
 use Rattle.laws.proofs.Length.{saved_length_is}
-use Rattle.tables.specs.Index.{Tables, room_of, index_in, kinds_in, kinded_number, refusal, id_in, numbers_from, tables_from, frontier_in, made_out_of, lowest}
+use Rattle.tables.specs.Index.{Tables, room_of, index_in, kinds_in, kinded_number, refusal, numbers_from, tables_from, frontier_in, made_out_of, lowest}
 use Rattle.tables.specs.Lent.{TableBytes}
 use Rattle.index.specs.Index.{numbers_of, new_in, bound_in}
 use Rattle.index.proofs.Back.{numbers_back}
@@ -49,9 +48,10 @@ use Rattle.absorb.specs.Absorb.{absorbed, kinded_both, absorb_in}
 use Rattle.absorb.specs.Absorb as absorbing
 use Rattle.tables.specs.Tables.{given_in, hints_of}
 use Rattle.rules.specs.declared.Saw.TheVariants as sawAs
+use Rattle.rules.specs.declared.Assembling as under
 use Rattle.hint_recorder.specs.HintRecorder.{created_in, see_in, flush_in, take_in}
 use Rattle.hint_recorder.specs.HintRecorder as hinting
-use Rattle.tables.specs.HintRecorder.{hint_recorder_in, last_from, tail_from}
+use Rattle.tables.specs.HintRecorder.{hint_recorder_in}
 use Rattle.add_hints.specs.AddHints.{add_hints_in}
 use Rattle.keep_hint.specs.KeepHint.{keep_hint_in}
 use Rattle.confirmations.specs.Confirmations.{keep_in}
@@ -126,7 +126,7 @@ both_accepted x y t u v w p q f g =
     )
 
 -- ---- recorders
-record_accepted : (r : Recorder) (u : RecorderTables) (lsn threshold malformed : ℕ) (f : UnderAssembly)
+record_accepted : (r : Recorder) (u : RecorderTables) (lsn threshold malformed : ℕ) (f : Option under.Assembling)
     (b sector : List ℕ) → ValidRecorderIn r u
     → let v = recorder_in r u in let a = assembling_in f b in
     question5 v lsn sector ≡ true → question6 v threshold malformed ≡ true → question7 v lsn a ≡ true
@@ -154,7 +154,7 @@ finish_accepted r u e v m n q =
     ) refl
 
 -- ---- absorb
-module _ (x : AreaIndex) (t : Tables) (image : ImageId) (given : List ℕ) (r : Recorder) (u : RecorderTables)
+module _ (x : AreaIndex) (t : Tables) (image : Option ℕ) (given : List ℕ) (r : Recorder) (u : RecorderTables)
     (v : ValidIn x t) (w : ValidRecorderIn r u) where
   both_kinds : (kinds_in x t && recorder_kinds r u) ≡ true
   both_kinds = rw (v.kinds, w.kinds) refl
@@ -171,7 +171,7 @@ module _ (x : AreaIndex) (t : Tables) (image : ImageId) (given : List ℕ) (r : 
       rw (
         both_kinds,
         refuses_nothing.absorbs (room_of t) (index_in x t) (recorder_room u) (recorder_in r u)
-            (id_in image) (given_in given) v.valid w.valid m q8 q9 q10 q11 q12,
+            image (given_in given) v.valid w.valid m q8 q9 q10 q11 q12,
       ) refl
 
   absorb_stopped : TableBytes t → is_stopped r.mode ≡ true → absorb_in x t image given r u
@@ -180,7 +180,7 @@ module _ (x : AreaIndex) (t : Tables) (image : ImageId) (given : List ℕ) (r : 
   absorb_stopped b m =
       rw (
         both_kinds,
-        refuses_nothing.stopped (room_of t) (index_in x t) (recorder_room u) (recorder_in r u) (id_in image)
+        refuses_nothing.stopped (room_of t) (index_in x t) (recorder_room u) (recorder_in r u) image
             (given_in given) v.valid w.valid m,
         numbers_back x t,
         recorder_back r u,
@@ -189,7 +189,7 @@ module _ (x : AreaIndex) (t : Tables) (image : ImageId) (given : List ℕ) (r : 
 
 -- ---- each call
 pub refuses_nothing_in : RefusesNothingIn
-unfolding new_in bound_in keep_in keeping.kept_out_of see_in flush_in take_in hinting.seen_out_of hinting.saw_out_of hinting.taken_from frontier_in boundary_at new_sizes file_sizes file_area fold contents_in contents_from disc_sizes both_sizes after first_no numbers_of started_in recorder_of created_in hinting.created_from last_from tail_from add_hints_in keep_hint_in hint_in plan_in save_in save_out made_out_of is_accepted lists_of line_row file_row
+unfolding new_in bound_in keep_in keeping.kept_out_of see_in flush_in take_in hinting.seen_out_of hinting.saw_out_of hinting.taken_from frontier_in boundary_at new_sizes file_sizes file_area fold contents_in contents_from disc_sizes both_sizes after first_no numbers_of started_in recorder_of created_in hinting.created_from add_hints_in keep_hint_in hint_in plan_in save_in save_out made_out_of is_accepted lists_of line_row file_row
 refuses_nothing_in =
     record {
       made = λ t a k budget spacing most q1 q2 q3. rw

@@ -1,9 +1,9 @@
 -- Each accepted call leaves values that pass questions 1 to 4. Assumes nothing.
+use Rattle.std.specs.Prelude.{Option, None, Some}
 use Prim.Native.Nat.{ℕ, ◌≤◌}
 use mathlib.Core.Path.{◌≡◌, refl, sym, ap, subst, ◌∙◌}
 use mathlib.Core.Bool.{Bool, true, ◌&&◌, ◌||◌, cond}
 use mathlib.Core.List.{List, [], ◌∷◌, ◌++◌}
-use mathlib.Core.Option.{Option, none, some}
 use native.Mathlib.Omega.{arith}
 use lib.Dec.{eqb, ltb, leb-zero}
 use lib.ListN.{length}
@@ -78,18 +78,18 @@ marked_valid l x y lsn e =
 bound_valid : (l : Lengths) (x y : Index) (v : ℕ) → bind_fingerprint l x v ≡ Accepted y → Valid l y
 unfolding bind_fingerprint
 bound_valid l x y v e =
-    let t = four→ l x (agree eqb (stated x.fingerprint) (some v)) 15 _ y (omega arith) e in
+    let t = four→ l x (agree eqb (stated x.fingerprint) (Some v)) 15 _ y (omega arith) e in
     with_scan l x y (ap (λ (z : Index). z.scan) t.is) (ap (λ (z : Index). z.hinting.most) t.is)
     (asked_valid l x _ _ y t) (bind_holds l x y v e)
 
-confirmed_valid : (l : Lengths) (x y : Index) (c : Confirmation) → keep_confirmation l x c ≡ Accepted (some y)
+confirmed_valid : (l : Lengths) (x y : Index) (c : Confirmation) → keep_confirmation l x c ≡ Accepted (Some y)
     → Valid l y
 unfolding keep_confirmation
 confirmed_valid l x y c e =
-    let t = four→ l x (question14 x.scan.area c) 14 _ (some y) (omega arith) e in
+    let t = four→ l x (question14 x.scan.area c) 14 _ (Some y) (omega arith) e in
     let g = given (keeps_nothing (is_checked x.fingerprint) x.hinting.most) _ y t.is in
     with_scan l x y (ap (λ (z : Index). z.scan) g) (ap (λ (z : Index). z.hinting.most) g)
-    (asked_valid l x _ _ (some y) t) (keep_holds l x y c e)
+    (asked_valid l x _ _ (Some y) t) (keep_holds l x y c e)
 
 -- ---- new
 -- an empty list holds what loading would accept
@@ -263,12 +263,12 @@ module _ (l : Lengths) (x : Index) (m : Lengths) (r : Recorder) (image : Option 
       (with_three m (with_mode r Stopped) (stopped_sound r (v.one, v.two, v.four)) v.three)
 
 -- ---- hint recorders
-hint_recorder_valid : (l : Lengths) (x : Index) (r : HintRecorder) → hint_recorder l x ≡ Accepted (some r)
+hint_recorder_valid : (l : Lengths) (x : Index) (r : HintRecorder) → hint_recorder l x ≡ Accepted (Some r)
     → ValidHintRecorder max_list r
 unfolding hint_recorder
 hint_recorder_valid l x r e =
     let g = given (eqb x.hinting.spacing 0 || eqb x.hinting.most 0) _ r
-    (accepted→ _ (empty_hint_recorder x.hinting) (some r) e).1 in
+    (accepted→ _ (empty_hint_recorder x.hinting) (Some r) e).1 in
     record { three = omega arith; four = omega (arith, ap (λ (s : HintRecorder). length s.list) g) }
 
 -- 3 and 4 were asked of a hint recorder r, and s is what its call gives
@@ -301,8 +301,8 @@ module _ (n : ℕ) (r : HintRecorder) where
 
   flushed_few : (o : Option Hint) → length r.list ≤ max_list → length (flushed_list o r.list) ≤ max_list
   unfolding flushed_list
-  flushed_few none l = l
-  flushed_few (some h) l =
+  flushed_few None l = l
+  flushed_few (Some h) l =
       choose (λ (hs : List Hint). length hs ≤ max_list) (ltb (length r.list) max_list) (r.list ++ (h ∷ [])) r.list
       (λ d. let w = ltb-true (length r.list) max_list d in omega (arith, length_snoc r.list h)) (λ d. l)
 

@@ -1,8 +1,8 @@
 -- What accepted calls leave in tables: the statements of specs/ClosureInTables.antt. Assumes nothing.
+use Rattle.std.specs.Prelude.{Option, None, Some}
 use mathlib.Core.Path.{◌≡◌, refl, sym, ap, subst, ◌∙◌}
 use mathlib.Core.Bool.{Bool, true, false, cond}
 use mathlib.Core.List.{List, [], ◌∷◌}
-use mathlib.Core.Option.{Option, none, some}
 use Prim.Native.Nat.{ℕ, ◌/◌, ◌≤◌}
 use native.Mathlib.Omega.{arith}
 use lib.Dec.{eqb}
@@ -24,7 +24,7 @@ use Rattle.rules.proofs.Tests.{all→, →all, accepted→}
 use Rattle.laws.specs.Statements.{Savable}
 use Rattle.laws.proofs.hint_lists.Closure.{kept_hinting, add_hints_sized, keep_hinting_sized}
 use Rattle.tables.specs.Tables.{frames_of, hints_of}
-use Rattle.tables.specs.Index.{kinds_ok, Tables, room_of, index_in, kinds_in, kinded, end_in, end_from, id_in, id_from, numbers_from, tables_from, tables_cleared, MadeOut, made_out, made_out_of}
+use Rattle.tables.specs.Index.{kinds_ok, Tables, room_of, index_in, kinds_in, kinded, numbers_from, tables_from, tables_cleared, MadeOut, made_out, made_out_of}
 use Rattle.rules.specs.declared.Made.TheVariants as made
 use Rattle.index.specs.Index.{numbers_of, new_in, bound_in}
 use Rattle.index.proofs.Back.{with_print, numbers_with}
@@ -81,20 +81,20 @@ put→ put t (Accepted v) y t' h = (
 
 kept→ : (t : Tables) (r : Answer (Option Index)) (y : AreaIndex) (t' : Tables) → keeping.kept_out_of t r
     ≡ keeping.kept_out (kept.Index y) t'
-    → (v : Index) × (r ≡ Accepted (some v)) × (numbers_from v ≡ y) × (tables_from v t ≡ t')
+    → (v : Index) × (r ≡ Accepted (Some v)) × (numbers_from v ≡ y) × (tables_from v t ≡ t')
 unfolding keeping.kept_out_of
 kept→ t (Refused n) y t' h = let a = ap (λ (o : keeping.KeptOut). o.answer) h in let z : ◌≡◌ {A = ℕ} 0 1 = cc
     in let f : ⊥ = omega arith in absurd f
-kept→ t (Accepted none) y t' h = let a = ap (λ (o : keeping.KeptOut). o.answer) h in let z : ◌≡◌ {A = ℕ} 0 1 = cc
+kept→ t (Accepted None) y t' h = let a = ap (λ (o : keeping.KeptOut). o.answer) h in let z : ◌≡◌ {A = ℕ} 0 1 = cc
     in let f : ⊥ = omega arith in absurd f
-kept→ t (Accepted (some v)) y t' h =
+kept→ t (Accepted (Some v)) y t' h =
     let a : kept.Index (numbers_from v) ≡ kept.Index y = ap (λ (o : keeping.KeptOut). o.answer) h
     in (v, refl, cc, ap (λ (o : keeping.KeptOut). o.tables) h)
 
 -- ---- new: no list lies in the tables
 made_in : (t : Tables) (a : Area) (k budget spacing most : ℕ) (x : AreaIndex) → new_in t a k budget spacing most
     ≡ Accepted x → Stands x t
-unfolding new_in new records frames_of end_in end_from id_in id_from kinds_ok each
+unfolding new_in new records frames_of kinds_ok each
 made_in t a k budget spacing most x e =
     let n = numbers→ (new (room_of t) a k budget spacing most) x e in
     let i = empty_index a k budget spacing most in
@@ -114,7 +114,7 @@ bound_in_lemma x t v y e =
     let d = kinded→ (kinds_in x t) (bind_fingerprint (room_of t) j v) n.0 n.1 in
     let i = bound j v in
     let q : i ≡ n.0 = (accepted→ (first_no (four (room_of t) j
-    (ask (agree eqb (stated j.fingerprint) (some v)) 15 ∷ []))) i n.0 d.1).1 in
+    (ask (agree eqb (stated j.fingerprint) (Some v)) 15 ∷ []))) i n.0 d.1).1 in
     let w : Valid (room_of t) i = subst (λ (z : Index). Valid (room_of t) z) (sym q)
     (closure.fingerprinted (room_of t) j n.0 v d.1) in
     subst (λ (z : AreaIndex). Stands z t) (sym (numbers_with x t (Checked v)) ∙ ap (λ (z : Index). numbers_from z) q
@@ -177,7 +177,7 @@ marked_in x t lsn y t' a e =
     put_stands (room_of t) p.0 y t t' v z p.2 p.3
 
 -- ---- confirmations
-kept_is : (b : Bool) (i v : Index) → cond b none (some i) ≡ some v → i ≡ v
+kept_is : (b : Bool) (i v : Index) → cond b None (Some i) ≡ Some v → i ≡ v
 kept_is true i v e = let z : ◌≡◌ {A = ℕ} 0 1 = cc in let f : ⊥ = omega arith in absurd f
 kept_is false i v e = cc
 
@@ -188,10 +188,10 @@ unfolding keep_in keep_confirmation sized
 confirmed_in x t c y t' a l e =
     let j = index_in x t in
     let p = kept→ t (kinded (kinds_in x t) (keep_confirmation (room_of t) j c)) y t' e in
-    let d = kinded→ (kinds_in x t) (keep_confirmation (room_of t) j c) (some p.0) p.1 in
+    let d = kinded→ (kinds_in x t) (keep_confirmation (room_of t) j c) (Some p.0) p.1 in
     let i = with_hinting j (kept_hinting j.fingerprint j.hinting c) in
     let r = (accepted→ (first_no (four (room_of t) j (ask (question14 j.scan.area c) 14 ∷ [])))
-    (cond (keeps_nothing (is_checked j.fingerprint) j.hinting.most) none (some i)) (some p.0) d.1).1 in
+    (cond (keeps_nothing (is_checked j.fingerprint) j.hinting.most) None (Some i)) (Some p.0) d.1).1 in
     let q : i ≡ p.0 = kept_is (keeps_nothing (is_checked j.fingerprint) j.hinting.most) i p.0 r in
     let v = closure.confirmed (room_of t) j p.0 c d.1 in
     let h = all→ _ (sized_in x t a.typed a.bytes) in

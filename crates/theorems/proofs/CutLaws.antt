@@ -1,9 +1,9 @@
 -- Lists cut from one reading: merging and loading leave such lists, and their level says what they have read. Assumes nothing.
+use Rattle.std.specs.Prelude.{None, Some}
 use mathlib.Core.Path.{◌≡◌, refl, sym, ap, ◌∙◌, subst}
 use mathlib.Core.Bool.{Bool, true, false}
 use mathlib.Core.Logic.{⊎_elim, ◌⊎◌}
 use mathlib.Core.List.{List}
-use mathlib.Core.Option.{none, some}
 use Prim.Native.Nat.{ℕ, ◌+◌, ◌≤◌}
 use native.Mathlib.Omega.{arith}
 use lib.ListN.{take}
@@ -29,7 +29,7 @@ pub record Read (R : Reading) (x : Scan) : Type 0 where
   pub area : x.area ≡ R.area
   pub interval : x.interval ≡ R.interval
   pub checkpoints : x.checkpoints ≡ take (count x) (checkpoints_of R)
-  pub ending : (x.ending ≡ none) ⊎ ((x.ending ≡ some (end_state_of R)) × (count x ≡ boundaries R.area R.interval))
+  pub ending : (x.ending ≡ None) ⊎ ((x.ending ≡ Some (end_state_of R)) × (count x ≡ boundaries R.area R.interval))
   pub malformed : x.malformed ≡ take max_malformed (below (frontier x) R.malformed)
 
 levels : (b n m : ℕ) (w v : Bool) → n ≤ b → (w ≡ true → n ≡ b) → m ≤ b → (v ≡ true → m ≡ b) → n + one w ≡ m + one v

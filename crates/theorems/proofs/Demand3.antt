@@ -1,10 +1,10 @@
 -- Demand 3: the statements of specs/Demand3.antt. Assumes nothing.
+use Rattle.std.specs.Prelude.{Option, None, Some}
 use mathlib.Core.Path.{◌≡◌, refl, sym, ap, ap₂, ◌∙◌}
 use mathlib.Core.Bool.{Bool, true, false, cond}
 use mathlib.Core.Logic.{⊎_elim, ◌⊎◌, inl, inr}
 use mathlib.Core.List.Memᴰ
 use mathlib.Core.List.{List, [], ◌∷◌, ◌++◌, Memᴰ}
-use mathlib.Core.Option.{Option, none, some}
 use Prim.Native.Nat.{ℕ, ◌+◌, ◌≤◌}
 use native.Mathlib.Omega.{arith}
 use lib.Dec.{eqb, leb}
@@ -105,8 +105,8 @@ module _ (R : Reading) (p : ℕ → Place) (cut : AllCut R p) where
   -- ---- the invariant of a state
   -- what was just saved is what its place holds, in tables that are long enough
   abbrev pub JustOk : (ℕ → Place) → Option Saved → Type 0
-  JustOk now none = Unit {0}
-  JustOk now (some b) = (b.bytes ≡ saved (now b.place).list)
+  JustOk now None = Unit {0}
+  JustOk now (Some b) = (b.bytes ≡ saved (now b.place).list)
       × (question3 (now b.place).room (now b.place).list ≡ true)
 
   pub record Good (s : State) : Type 0 where
@@ -116,8 +116,8 @@ module _ (R : Reading) (p : ℕ → Place) (cut : AllCut R p) where
   load_good : (limit : ℕ) (s : State) (o : Option Saved) → Good s → JustOk s.now o
       → Good (load_into R.area limit s o)
   unfolding load_into
-  load_good limit s none g j = g
-  load_good limit s (some b) g j =
+  load_good limit s None g j = g
+  load_good limit s (Some b) g j =
       let i = g.places b.place in let e = loaded limit (s.now b.place) i.from_r j.1 in
       record {
         places = λ k.
@@ -245,8 +245,8 @@ module _ (R : Reading) (p : ℕ → Place) (cut : AllCut R p) where
   load_left : (limit : ℕ) (s : State) (o : Option Saved) → Good s → JustOk s.now o
       → JustLeaves limit s (load_into R.area limit s o) o
   unfolding JustLeaves load_into limited
-  load_left limit s none g j = λ k. refl
-  load_left limit s (some b) g j =
+  load_left limit s None g j = λ k. refl
+  load_left limit s (Some b) g j =
       let e = loaded limit (s.now b.place) (g.places b.place).from_r j.1 in
       record {
         loaded = rw (eqb_self b.place, j.0, e) (record { frames = refl; parts = refl });
@@ -268,12 +268,12 @@ module _ (R : Reading) (p : ℕ → Place) (cut : AllCut R p) where
   -- ---- tables stay long enough, and no id or fingerprint comes from nowhere
   -- o is unknown, or what one of the first lists has
   abbrev From : (Index → Option ℕ) → Option ℕ → Type 0
-  From f o = (o ≡ none) ⊎ ((w : ℕ) × (o ≡ f (p w).list))
+  From f o = (o ≡ None) ⊎ ((w : ℕ) × (o ≡ f (p w).list))
 
   from_either : (f : Index → Option ℕ) (a b : Option ℕ) → From f a → From f b → From f (or_else a b)
   unfolding or_else
-  from_either f none b h k = k
-  from_either f (some a) b h k = h
+  from_either f None b h k = k
+  from_either f (Some a) b h k = h
 
   from_agree : (f : Index → Option ℕ) (a b : Option ℕ)
       → ((w v : ℕ) → agree eqb (f (p w).list) (f (p v).list) ≡ true) → From f a → From f b → agree eqb a b ≡ true
@@ -321,8 +321,8 @@ module _ (R : Reading) (p : ℕ → Place) (cut : AllCut R p) where
   load_ready : (limit : ℕ) (s : State) (o : Option Saved) → Good s → JustOk s.now o → AllReady s
       → AllReady (load_into R.area limit s o)
   unfolding load_into AllReady
-  load_ready limit s none g j r k = r k
-  load_ready limit s (some b) g j r k =
+  load_ready limit s None g j r k = r k
+  load_ready limit s (Some b) g j r k =
       let e = loaded limit (s.now b.place) (g.places b.place).from_r j.1 in
       test (eqb k b.place) (λ t. rw t (rw (j.0, e) (ready_limited limit (s.now b.place) (r b.place))))
       (λ t. rw t (r k))

@@ -1,4 +1,5 @@
 -- Demand 3 about tables: the statements of specs/Demand3InTables.antt. Assumes nothing.
+use Rattle.std.specs.Prelude.{Option, None, Some}
 use mathlib.Core.Path.{◌≡◌, refl, sym, ap, ap₂, subst, ◌∙◌}
 use mathlib.Core.List.{List, [], ◌∷◌, ◌++◌}
 use mathlib.Core.Bool.{true}
@@ -9,8 +10,6 @@ use lib.ListN.{length, get_or, take, drop, replicate, length-drop}
 use lib.Seq.{take-take, take-append-le, drop-drop}
 use borrow.Author.Tests.{eqb-true, eq-eqb, le-leb}
 use Rattle.rules.specs.declared.Area.{Area}
-use Rattle.rules.specs.declared.Assembly.{Assembly}
-use Rattle.rules.specs.declared.Assembly.TheVariants.{Replayed, Stored}
 use Rattle.rules.specs.declared.Held.{Held}
 use Rattle.rules.specs.declared.HeldPart.{HeldPart}
 use Rattle.rules.specs.declared.Plan.TheVariants.{At}
@@ -106,15 +105,15 @@ named fs p = record {
   len = p.len;
 }
 
-held_of : HeldPart → Assembly → HeldPart
-held_of d Replayed = d
-held_of d (Stored h) = h
+held_of : HeldPart → Option HeldPart → HeldPart
+held_of d None = d
+held_of d (Some h) = h
 
-is_stored : Assembly → ℕ
-is_stored Replayed = 0
-is_stored (Stored h) = 1
+is_stored : Option HeldPart → ℕ
+is_stored None = 0
+is_stored (Some h) = 1
 
-found : (fs : List Frame) (ps : List Held) (j : ℕ) (h : HeldPart) → assembly_of fs ps j ≡ Stored h
+found : (fs : List Frame) (ps : List Held) (j : ℕ) (h : HeldPart) → assembly_of fs ps j ≡ Some h
     → (i : ℕ) × (i < length ps) × ((get_or ps i no_held).at ≡ j) × (named fs (get_or ps i no_held) ≡ h)
 unfolding assembly_of named is_stored held_of
 found fs [] j h e = let z : ◌≡◌ {A = ℕ} 0 1 = ap is_stored e in let f : ⊥ = omega arith in absurd f
@@ -201,7 +200,7 @@ plans_held_part p t r h e s =
     let a = accepted→ (first_no (four (room_of u) v [])) (planned v.scan t) (At r) k.1 in
     let q = asked _ refl a.0 in
     let fs = v.scan.frames in
-    let w : assembly_of fs v.scan.parts r.number ≡ Stored h =
+    let w : assembly_of fs v.scan.parts r.number ≡ Some h =
     sym (planned_part v.scan t r a.1) ∙ s in
     let f = found fs v.scan.parts r.number h w in
     let d = get_or v.scan.parts f.0 no_held in

@@ -1,10 +1,10 @@
 -- Lists cut from a reading exist, on values and in tables: one of 1000..1250 by 100, a list with one checkpoint and a complete one. So do three lists whose hints
 -- and confirmations do not depend on the order of merging (change request 13).
+use Rattle.std.specs.Prelude.{Option, None, Some}
 use mathlib.Core.Path.{◌≡◌, refl, sym, ap, subst, ◌∙◌}
 use mathlib.Core.Bool.{true, false, cond}
 use mathlib.Core.Logic.{inl, inr}
 use mathlib.Core.List.{List, [], ◌∷◌, ◌++◌, Memᴰ}
-use mathlib.Core.Option.{Option, none, some}
 use Prim.Native.Nat.{ℕ, zero, suc, ◌-◌, ◌/◌, ◌<◌, ◌≤◌}
 use native.Mathlib.Omega.{arith}
 use lib.Dec.{eqb}
@@ -15,7 +15,6 @@ use Rattle.field.specs.Records.{bytes_of, Bytes}
 use Rattle.field.proofs.Bytes.{bytes_append, bytes_drop}
 use Rattle.field.proofs.Format.{bytes_of_bytes}
 use Rattle.rules.specs.declared.Area.{Area}
-use Rattle.rules.specs.declared.Assembly.TheVariants.{Stored}
 use Rattle.rules.specs.declared.Confirmation.{Confirmation}
 use Rattle.rules.specs.declared.Fingerprint.TheVariants.{Unknown, Checked}
 use Rattle.rules.specs.declared.FrameKind.TheVariants.{Dst, Dsd}
@@ -88,10 +87,10 @@ short =
       checkpoints = record { threshold = 0; back = 0; malformed = 0; digest = 11 } ∷ [];
       frames = [];
       parts = [];
-      ending = none;
+      ending = None;
       malformed = [];
     })
-    none
+    None
 
 abbrev whole : Index
 whole =
@@ -108,10 +107,10 @@ whole =
       parts =
           record { at = 1; frame = 0; len = 3; number = 7; kind = Dst; remaining = pos 5 }
           ∷ record { at = 2; frame = 1; len = 2; number = 8; kind = Dsd; remaining = negsuc 4 } ∷ [];
-      ending = some (record { threshold = 80; malformed = 1 });
+      ending = Some (record { threshold = 80; malformed = 1 });
       malformed = 1160 ∷ [];
     })
-    (some 1)
+    (Some 1)
 
 short_cut : Cut reading short
 unfolding all each walk last_or is_some boundaries frontier_of counted stated counts_ok checkpoint_ok checkpoints_ok frames_ok reached parts_ok ending_ok rising malformed_ok hints_ok is_kept kept_count marks_ok confirmations_ok area_ok numbers_ok held_ok scan_ok hinting_ok question1 question2 question4 below key_sized scan_sized known_sized hinting_sized sized counted_from
@@ -325,7 +324,7 @@ holds_part =
       inside = subst (λ (q : Place). 3 ≤ q.room.store) (sym (table_place 1)) (omega arith);
       part =
           subst (λ (q : Place). assembly_of q.list.scan.frames q.list.scan.parts 1
-          ≡ Stored (record { kind = Dst; number = 7; remaining = pos 5; offset = 0; len = 3 }))
+          ≡ Some (record { kind = Dst; number = 7; remaining = pos 5; offset = 0; len = 3 }))
           (sym (table_place 1)) refl;
     }
 
@@ -357,13 +356,13 @@ abbrev from : ℕ → ℕ → Confirmation
 from n t = record { lsn = n; threshold = t; digest = n }
 
 abbrev one : Place
-one = agreeing short.scan (at 1010 ∷ at 1020 ∷ []) (from 1010 5 ∷ from 1020 7 ∷ []) (some 1)
+one = agreeing short.scan (at 1010 ∷ at 1020 ∷ []) (from 1010 5 ∷ from 1020 7 ∷ []) (Some 1)
 
 abbrev two : Place
-two = agreeing whole.scan (at 1020 ∷ at 1130 ∷ []) (from 1010 4 ∷ from 1130 6 ∷ []) none
+two = agreeing whole.scan (at 1020 ∷ at 1130 ∷ []) (from 1010 4 ∷ from 1130 6 ∷ []) None
 
 abbrev other : Place
-other = agreeing short.scan (at 1130 ∷ at 1240 ∷ []) (from 1010 6 ∷ from 1240 2 ∷ []) (some 1)
+other = agreeing short.scan (at 1130 ∷ at 1240 ∷ []) (from 1010 6 ∷ from 1240 2 ∷ []) (Some 1)
 
 -- places 0 and 1 have the first two, every other place the third
 abbrev agreed : ℕ → Place

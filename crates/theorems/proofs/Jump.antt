@@ -1,9 +1,9 @@
 -- No accepted merge moves a jump's start backwards. Assumes nothing.
+use Rattle.std.specs.Prelude.{Option, None, Some}
 use mathlib.Core.Path.{◌≡◌, refl, ap, subst, ◌∙◌}
 use mathlib.Core.Bool.{true, false, not, ◌||◌}
 use mathlib.Core.Logic.{⊎_elim}
 use mathlib.Core.List.{List, ◌++◌}
-use mathlib.Core.Option.{Option, none, some}
 use Prim.Native.Nat.{ℕ, zero, suc, ◌<◌, ◌≤◌}
 use native.Mathlib.Nat.{eq-or-lt_of_le}
 use native.Mathlib.Omega.{arith}
@@ -40,8 +40,8 @@ pub record Joinable (own other : Scan) : Type 0 where
 -- ---- where the last checkpoint not above t lies
 module _ (a : Area) (k t : ℕ) where
   abbrev pub place : Option ℕ → ℕ
-  place none = a.start
-  place (some j) = lsn_of a k j
+  place None = a.start
+  place (Some j) = lsn_of a k j
 
   last_most : (cs : List Checkpoint) (n : ℕ) → place (last_not_above t cs n) ≤ lsn_of a k n
   unfolding last_not_above
@@ -76,21 +76,21 @@ last_same t cs ds (suc n) h = rw (h n (omega arith), last_same t cs ds n (λ i l
 -- ---- the plan starts there, or at the end
 pub plan_at : (x : Scan) (o : Option ℕ) → start_of x.area (plan_from x o) ≡ place x.area x.interval 0 o
 unfolding plan_from start_of
-plan_at x none = refl
-plan_at x (some j) = refl
+plan_at x None = refl
+plan_at x (Some j) = refl
 
 plan_least : (a : Area) (t n : ℕ) (e : Option EndState) (q : Plan) → n ≤ start_of a q → n ≤ a.end
     → n ≤ start_of a (plan_or t e q)
 unfolding plan_or start_of
-plan_least a t n none q h s = h
-plan_least a t n (some e) q h s = test (leb e.threshold t) (λ w. rw w s) (λ w. rw w h)
+plan_least a t n None q h s = h
+plan_least a t n (Some e) q h s = test (leb e.threshold t) (λ w. rw w s) (λ w. rw w h)
 
-none_of : {A : Type 0} (o : Option A) → is_some o ≡ false → o ≡ none
+none_of : {A : Type 0} (o : Option A) → is_some o ≡ false → o ≡ None
 unfolding is_some
-none_of none e = refl
-none_of (some x) e = never {b = true} refl e
+none_of None e = refl
+none_of (Some x) e = never {b = true} refl e
 
-incomplete : (own other : Scan) → further own other ≡ true → own.ending ≡ none
+incomplete : (own other : Scan) → further own other ≡ true → own.ending ≡ None
 unfolding further
 incomplete own other f = none_of own.ending (not-true (complete own)
     (and_left (not (complete own)) (complete other || ltb (count own) (count other)) f))

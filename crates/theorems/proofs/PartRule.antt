@@ -1,9 +1,9 @@
 -- What the part rule keeps: the statements of specs/PartRule.antt. Assumes nothing.
+use Rattle.std.specs.Prelude.{Option, None, Some}
 use mathlib.Core.Path.{◌≡◌, refl, sym, ap, ◌∙◌}
 use mathlib.Core.Bool.{true, false}
 use mathlib.Core.Logic.{◌≢◌}
 use mathlib.Core.List.{List, [], ◌∷◌, ◌++◌}
-use mathlib.Core.Option.{Option, none, some}
 use Prim.Native.Nat.{ℕ, suc, ◌+◌, ◌<◌, ◌≤◌}
 use native.Mathlib.Omega.{arith}
 use lib.ListN.{length, get_or, length-append, get_or-append}
@@ -108,13 +108,13 @@ module _ (a : Area) (k budget budget' first first' : ℕ) (cs ds : List Checkpoi
 
     -- where it stands among the others
     abbrev earlier : Option Held
-    earlier = arrived keep none xs
+    earlier = arrived keep None xs
 
-    whole : walk (part_ok a k first' ds gs) keep none (xs ++ (q ∷ ys)) ≡ true
+    whole : walk (part_ok a k first' ds gs) keep None (xs ++ (q ∷ ys)) ≡ true
     whole = rw e at ok'.parts
 
     from_q : walk (part_ok a k first' ds gs) keep earlier (q ∷ ys) ≡ true
-    from_q = walk_right (part_ok a k first' ds gs) keep none xs (q ∷ ys) whole
+    from_q = walk_right (part_ok a k first' ds gs) keep None xs (q ∷ ys) whole
 
     in_turn : part_ok a k first' ds gs earlier q ≡ true
     in_turn = walk_head (part_ok a k first' ds gs) keep earlier q ys from_q
@@ -130,14 +130,14 @@ module _ (a : Area) (k budget budget' first first' : ℕ) (cs ds : List Checkpoi
     admitted_after : stores budget before (piece gs q) ≡ true
         → Holds (add_parts budget gs n qs h) q.at (content_of gs q)
     admitted_after s =
-        let x = add_parts_on Any a k budget budget' first first' cs ds gs qs h ok ok' joins h none xs h
-        (walk_left (part_ok a k first' ds gs) keep none xs (q ∷ ys) whole) (λ i l m. tt)
+        let x = add_parts_on Any a k budget budget' first first' cs ds gs qs h ok ok' joins h None xs h
+        (walk_left (part_ok a k first' ds gs) keep None xs (q ∷ ys) whole) (λ i l m. tt)
         (add_parts_start Any a k budget budget' first first' cs ds gs qs h ok ok' joins (λ i l. tt)) in
         let t = add_part_added budget before (piece gs q) x.held.reached s in
         let y = take_add Any a k budget first cs' n h gs earlier q before in_order late
         (onward_piece Any a k budget budget' first first' cs ds gs qs h ok ok' joins q
         (part→ a k first' ds gs earlier q in_turn).0 late) tt x in
-        let z = add_parts_on Any a k budget budget' first first' cs ds gs qs h ok ok' joins behind (some q) ys behind
+        let z = add_parts_on Any a k budget budget' first first' cs ds gs qs h ok ok' joins behind (Some q) ys behind
         (walk_tail (part_ok a k first' ds gs) keep earlier q ys from_q) (λ i l m. tt)
         (record { keeps = keeps_self behind; held = y.held; says = λ i l. tt; next = y.next }) in
         let i = length before.parts in
@@ -178,18 +178,18 @@ module _ (a : Area) (k budget budget' first first' : ℕ) (cs ds : List Checkpoi
     passed_after : stores budget before (piece gs q) ≡ false
         → Says Other (add_parts budget gs n qs h).frames (add_parts budget gs n qs h).parts
     passed_after s =
-        let x = add_parts_on Other a k budget budget' first first' cs ds gs qs h ok ok' joins h none xs h
-        (walk_left (part_ok a k first' ds gs) keep none xs (q ∷ ys) whole)
+        let x = add_parts_on Other a k budget budget' first first' cs ds gs qs h ok ok' joins h None xs h
+        (walk_left (part_ok a k first' ds gs) keep None xs (q ∷ ys) whole)
         (λ i l m w. let v = before_q i l in omega arith)
         (add_parts_start Other a k budget budget' first first' cs ds gs qs h ok ok' joins
         (λ i l w. let f = (part_at a k budget first cs h.frames h.parts i ok l).high in omega arith)) in
-        let y : On Other h (some q) before = record {
+        let y : On Other h (Some q) before = record {
           keeps = x.keeps;
           held = x.held;
           says = x.says;
           next = λ j m m'. let o = in_order in x.next j m (omega arith);
         } in
-        let z = add_parts_on Other a k budget budget' first first' cs ds gs qs h ok ok' joins h (some q) ys before
+        let z = add_parts_on Other a k budget budget' first first' cs ds gs qs h ok ok' joins h (Some q) ys before
         (walk_tail (part_ok a k first' ds gs) keep earlier q ys from_q)
         (λ i l m w. let v = behind_q i l in omega arith) y in
         rw (result, add_part_passed budget before (piece gs q) s) z.says

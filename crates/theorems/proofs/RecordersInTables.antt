@@ -1,8 +1,8 @@
 -- A recorder in its tables: its numbers fit their types, and put into the tables it stands there. Assumes nothing.
+use Rattle.std.specs.Prelude.{Option, None, Some}
 use mathlib.Core.Path.{◌≡◌, refl, sym, ap, subst, ◌∙◌}
 use mathlib.Core.Bool.{true}
 use mathlib.Core.List.{List, []}
-use mathlib.Core.Option.{Option, none, some}
 use Prim.Native.Nat.{ℕ, ◌-◌, ◌/◌, ◌≤◌}
 use native.Mathlib.Omega.{arith}
 use borrow.Author.Tests.{le-leb, lt-ltb, ltb-true}
@@ -15,16 +15,12 @@ use Rattle.fnv.specs.Fnv.{fnv64, basis64}
 use Rattle.short_sum.proofs.Facts.{at_both}
 use Rattle.rules.specs.declared.Area.{Area}
 use Rattle.rules.specs.declared.AreaIndex.{AreaIndex}
-use Rattle.rules.specs.declared.End.TheVariants.{Open}
 use Rattle.rules.specs.declared.EndState.{EndState}
 use Rattle.rules.specs.declared.Fingerprint.TheVariants.{Unknown}
 use Rattle.rules.specs.declared.HintRecorder.{HintRecorder}
-use Rattle.rules.specs.declared.ImageId.TheVariants.{Anonymous}
 use Rattle.rules.specs.declared.Mode.{Mode}
 use Rattle.rules.specs.declared.Mode.TheVariants.{Finished}
 use Rattle.rules.specs.declared.Recorder.{Recorder}
-use Rattle.rules.specs.declared.UnderAssembly.{UnderAssembly}
-use Rattle.rules.specs.declared.UnderAssembly.TheVariants.{Nothing, Frame}
 use Rattle.rules.specs.Tests.{each, Answer, Refused, Accepted, first_no}
 use Rattle.rules.specs.Values as values
 use Rattle.rules.specs.Values.{max64, max_frame, max_list, no_frame, replay_sectors, frame_at, stated}
@@ -61,6 +57,7 @@ use Rattle.rules.specs.declared.Seen.TheVariants as seenAs
 use Rattle.rules.specs.declared.SeenSector.{SeenSector}
 use Rattle.rules.specs.declared.Taken.TheVariants as takenAs
 use Rattle.rules.specs.declared.TakenList.{TakenList}
+use Rattle.rules.specs.declared.Assembling as under
 use Rattle.hint_recorder.specs.HintRecorder.{created_in, see_in, flush_in, take_in}
 use Rattle.hint_recorder.specs.HintRecorder as hinting
 use Rattle.tables.specs.HintRecorder.{hint_recorder_from, hint_recorder_in}
@@ -92,9 +89,9 @@ as_index r =
       malformed = 0;
       hints = 0;
       confirmed = 0;
-      ending = Open;
+      ending = None;
       fingerprint = Unknown;
-      image = Anonymous;
+      image = None;
     }
 
 abbrev as_tables : RecorderTables → Tables
@@ -140,16 +137,16 @@ recorder_sized r u b =
 sum_small : (s : List ℕ) → fnv64 s ≤ max64
 sum_small s = let b = at_both.at64.below basis64 s (omega arith) in omega arith
 
-assembled_sized : (r : values.Recorder) (lsn : ℕ) (f : UnderAssembly) (b : List ℕ) → SignedIn f → Bytes b
+assembled_sized : (r : values.Recorder) (lsn : ℕ) (f : Option under.Assembling) (b : List ℕ) → SignedIn f → Bytes b
     → HeldSized (stored_of r) → HeldSized (assembled r lsn (assembling_in f b))
 unfolding assembled assembling_in
-assembled_sized r lsn Nothing b s g h = h
-assembled_sized r lsn (Frame a) b s g h =
+assembled_sized r lsn None b s g h = h
+assembled_sized r lsn (Some a) b s g h =
     choose HeldSized (ltb replay_sectors (lsn - a.start)) _ (stored_of r)
     (λ e. add_part_sized r.budget (stored_of r) _ h (each_of (λ v. ltb v 256) 0 b (λ i l. lt-ltb _ 256 (g i)))
     (lt-ltb _ 2147483648 s)) (λ e. h)
 
-pub recorded_sized : (r : values.Recorder) (lsn threshold malformed : ℕ) (f : UnderAssembly) (b sector : List ℕ)
+pub recorded_sized : (r : values.Recorder) (lsn threshold malformed : ℕ) (f : Option under.Assembling) (b sector : List ℕ)
     → SignedIn f → Bytes b → RecorderSized r
     → RecorderSized (recorded r lsn threshold malformed (assembling_in f b) sector)
 recorded_sized r lsn threshold malformed f b sector s g z =
@@ -199,7 +196,7 @@ module _ (r : values.Recorder) (s : Sound r) (z : RecorderSized r) where
       let l : length (frame_at r.frames p.frame).bytes ≤ max_frame = each_at
       {P = λ f. length f.bytes ≤ max_frame} p.frame no_frame (each_map (λ f g. g.size) frames_in) (omega arith)
       in
-      omega arith) none r.parts is.held.parts) (each→ _ _ z.held.1)
+      omega arith) None r.parts is.held.parts) (each→ _ _ z.held.1)
 
   -- it stands there, and its kinds are 0 or 1
   pub recorder_stands : (u : RecorderTables) → recorder_in (recorder_from r) (recorder_over r u) ≡ r
@@ -275,7 +272,7 @@ started_stands x t from r u e =
     subst (λ (w : Recorder). StandsRecorder w u) (ap (λ (w : values.Recorder). recorder_from w) q ∙ n.2)
     (stands_as v (recorder_from v) u s refl refl)
 
-pub recorded_stands : (r : Recorder) (u : RecorderTables) (lsn threshold malformed : ℕ) (f : UnderAssembly)
+pub recorded_stands : (r : Recorder) (u : RecorderTables) (lsn threshold malformed : ℕ) (f : Option under.Assembling)
     (b sector : List ℕ) (s : Recorder) (u' : RecorderTables)
     → RecorderBytes u → SignedIn f → Bytes b → record_in r u lsn threshold malformed f b sector
     ≡ recorder_out (recordedAs.Recorder s) u' → StandsRecorder s u'
@@ -353,18 +350,18 @@ flushed_stands r t s t' e =
     (closure.flushed (length t / 8) (hint_recorder_in r t) n.0 n.1).four n.2
 
 created→ : (a : Answer (Option values.HintRecorder)) (r : HintRecorder) → hinting.created_from a ≡ createdAs.Recorder r
-    → (v : values.HintRecorder) × (a ≡ Accepted (some v)) × (hint_recorder_from v ≡ r)
+    → (v : values.HintRecorder) × (a ≡ Accepted (Some v)) × (hint_recorder_from v ≡ r)
 unfolding hinting.created_from
 created→ (Refused n) r e = let z : ◌≡◌ {A = ℕ} 0 1 = cc in let f : ⊥ = omega arith in absurd f
-created→ (Accepted none) r e = let z : ◌≡◌ {A = ℕ} 0 1 = cc in let f : ⊥ = omega arith in absurd f
-created→ (Accepted (some v)) r e = (v, refl, cc)
+created→ (Accepted None) r e = let z : ◌≡◌ {A = ℕ} 0 1 = cc in let f : ⊥ = omega arith in absurd f
+created→ (Accepted (Some v)) r e = (v, refl, cc)
 
 pub created_stands : (x : AreaIndex) (t : Tables) (r : HintRecorder) (t' : List ℕ) → created_in x t
     ≡ createdAs.Recorder r → StandsHintRecorder r t'
 unfolding created_in
 created_stands x t r t' e =
     let n = created→ (kinded (kinds_in x t) (hint_recorder (room_of t) (index_in x t))) r e in
-    let d = kinded→ (kinds_in x t) (hint_recorder (room_of t) (index_in x t)) (some n.0) n.1 in
+    let d = kinded→ (kinds_in x t) (hint_recorder (room_of t) (index_in x t)) (Some n.0) n.1 in
     hints_stand n.0 r t' (closure.hint_recording (room_of t) (index_in x t) n.0 d.1).four n.2
 
 taken→ : (a : Answer rules.TakenHints) (k : TakenList) → hinting.taken_from a ≡ takenAs.List k

@@ -1,16 +1,15 @@
 -- What shuts out programs that do nothing useful: the statements of specs/Useful.antt, but for RefusesNothing. Assumes nothing.
+use Rattle.std.specs.Prelude.{Option, None, Some}
 use mathlib.Core.Path.{◌≡◌, refl, sym, ap, ap₂, subst, ◌∙◌}
 use mathlib.Core.Bool.{Bool, true, false}
 use mathlib.Core.Logic.{◌≢◌, ⊎_elim}
 use mathlib.Core.List.{List, [], ◌∷◌, ◌++◌}
-use mathlib.Core.Option.{Option, none, some}
 use Prim.Native.Nat.{ℕ, zero, suc, ◌+◌, ◌-◌, ◌<◌, ◌≤◌}
 use native.Mathlib.Nat.{eq-or-lt_of_le, zero-add}
 use native.Mathlib.Omega.{arith}
 use lib.Dec.{eqb, leb, ltb}
 use lib.ListN.{length, get_or, take, drop, length-append, length-drop}
 use borrow.Author.Tests.{eqb-true, eq-eqb, leb-true, leb-false, le-leb, lt-ltb, ltb-true}
-use Rattle.rules.specs.declared.Assembly.TheVariants.{Replayed, Stored}
 use Rattle.rules.specs.declared.Checkpoint.{Checkpoint}
 use Rattle.rules.specs.declared.EndState.{EndState}
 use Rattle.rules.specs.declared.Held.{Held}
@@ -150,12 +149,12 @@ module _ (t : ℕ) (cs : List Checkpoint) where
       ⊎_elim (λ (q : k ≡ n). rw q (leb-false (checkpoint_at cs n).threshold t h)) (λ (q : k < n). f k a q)
       (eq-or-lt_of_le (let l : k ≤ n = omega arith in l))
 
-  none_above : (n : ℕ) → last_not_above t cs n ≡ none → Above 0 n
+  none_above : (n : ℕ) → last_not_above t cs n ≡ None → Above 0 n
   unfolding last_not_above
   none_above zero e = λ k a b. let z : ⊥ = omega arith in absurd z
   none_above (suc n) e =
       test (leb (checkpoint_at cs n).threshold t)
-      (λ h. let q : some n ≡ none = rw h at e in let z : ◌≡◌ {A = ℕ} 0 1 = cc in let f : ⊥ = omega arith in absurd f)
+      (λ h. let q : Some n ≡ None = rw h at e in let z : ◌≡◌ {A = ℕ} 0 1 = cc in let f : ⊥ = omega arith in absurd f)
       (λ h. above_more 0 n h (none_above n (rw h at e)))
 
   record Found (n j : ℕ) : Type 0 where
@@ -163,12 +162,12 @@ module _ (t : ℕ) (cs : List Checkpoint) where
     not_above : (checkpoint_at cs j).threshold ≤ t
     last : Above (j + 1) n
 
-  last_found : (n j : ℕ) → last_not_above t cs n ≡ some j → Found n j
+  last_found : (n j : ℕ) → last_not_above t cs n ≡ Some j → Found n j
   unfolding last_not_above
   last_found zero j e = let z : ◌≡◌ {A = ℕ} 0 1 = cc in let f : ⊥ = omega arith in absurd f
   last_found (suc n) j e =
       test (leb (checkpoint_at cs n).threshold t)
-      (λ h. let q : some n ≡ some j = rw h at e in let i : n ≡ j = cc in
+      (λ h. let q : Some n ≡ Some j = rw h at e in let i : n ≡ j = cc in
       subst (λ (m : ℕ). Found (suc n) m) i
       (record {
         inside = omega arith;
@@ -179,12 +178,12 @@ module _ (t : ℕ) (cs : List Checkpoint) where
       let r = last_found n j (rw h at e) in
       record { inside = omega (arith, r.inside); not_above = r.not_above; last = above_more (j + 1) n h r.last })
 
-stored_not : (p : HeldPart) → Stored p ≢ Replayed
+stored_not : (p : HeldPart) → Some p ≢ None
 stored_not p e = let z : ◌≡◌ {A = ℕ} 0 1 = cc in omega arith
 
 -- a part that is held is answered
 part_there : (fs : List Frame) (ps : List Held) (j i : ℕ) → i < length ps → (get_or ps i no_held).at ≡ j
-    → assembly_of fs ps j ≢ Replayed
+    → assembly_of fs ps j ≢ None
 unfolding assembly_of
 part_there fs [] j i l e q = let z : ⊥ = omega arith in absurd z
 part_there fs (p ∷ ps) j zero l e q = stored_not _ (rw (eq-eqb p.at j e) at q)
@@ -196,8 +195,8 @@ module _ (t : ℕ) (x : Scan) where
   looked_from : (o : Option ℕ) → last_not_above t x.checkpoints (length x.checkpoints) ≡ o
       → Looked x t (plan_from x o)
   unfolding plan_from Looked
-  looked_from none e = none_above t x.checkpoints (length x.checkpoints) e
-  looked_from (some j) e =
+  looked_from None e = none_above t x.checkpoints (length x.checkpoints) e
+  looked_from (Some j) e =
       let f = last_found t x.checkpoints (length x.checkpoints) j e in
       record {
         inside = f.inside;
@@ -210,8 +209,8 @@ module _ (t : ℕ) (x : Scan) where
 
   looked_or : (e : Option EndState) → x.ending ≡ e → (p : Plan) → Looked x t p → Looked x t (plan_or t e p)
   unfolding plan_or Looked
-  looked_or none q p h = h
-  looked_or (some s) q p h = choose (Looked x t) (leb s.threshold t) (End s) p
+  looked_or None q p h = h
+  looked_or (Some s) q p h = choose (Looked x t) (leb s.threshold t) (End s) p
       (λ b. (q, leb-true s.threshold t b)) (λ b. h)
 
 pub plan_looks : PlanLooks
@@ -237,21 +236,21 @@ largest_found p hs (suc n) i l e =
 
 either_found : {A : Type 0} (a b : Option A) → is_some b ≡ true → is_some (or_else a b) ≡ true
 unfolding or_else is_some
-either_found none b e = e
-either_found (some a) b e = refl
+either_found None b e = e
+either_found (Some a) b e = refl
 
 hinted_none : (x : Index) (end playtime : ℕ) (o : Option ℕ)
-    → hinted_at x.scan.area x.hinting.hints end playtime o ≡ none → is_some o ≡ false
+    → hinted_at x.scan.area x.hinting.hints end playtime o ≡ None → is_some o ≡ false
 unfolding hinted_at is_some
-hinted_none x end playtime none e = refl
-hinted_none x end playtime (some i) e = let z : ◌≡◌ {A = ℕ} 0 1 = cc in let f : ⊥ = omega arith in absurd f
+hinted_none x end playtime None e = refl
+hinted_none x end playtime (Some i) e = let z : ◌≡◌ {A = ℕ} 0 1 = cc in let f : ⊥ = omega arith in absurd f
 
 pub hint_looks : HintLooks
 unfolding hint hint_place
 hint_looks l x first end playtime i e w =
     let hs = x.hinting.hints in let cs = x.hinting.confirmed in let ch = is_checked x.fingerprint in
     let n = hinted_none x end playtime (hint_place ch hs cs first)
-    (accepted→ (first_no (four l x (ask (leb first end) 16 ∷ []))) _ none e).1 in
+    (accepted→ (first_no (four l x (ask (leb first end) 16 ∷ []))) _ None e).1 in
     test (near first (get_or hs i no_hint))
     (λ f. never (either_found _ (largest_of (λ i. near first (get_or hs i no_hint)) hs (length hs))
     (largest_found (λ i. near first (get_or hs i no_hint)) hs (length hs) i w f)) n)

@@ -1,7 +1,7 @@
 -- What shuts out programs that do nothing useful, about tables: the statements of specs/UsefulInTables.antt. Assumes nothing.
+use Rattle.std.specs.Prelude.{None}
 use mathlib.Core.Path.{◌≡◌, refl, sym, ap, subst, ◌∙◌}
 use mathlib.Core.List.{List}
-use mathlib.Core.Option.{none}
 use Prim.Native.Nat.{ℕ, ◌<◌}
 use native.Mathlib.Omega.{arith}
 use lib.ListN.{length}
@@ -17,7 +17,7 @@ use Rattle.rules.proofs.Tests.{accepted→}
 use Rattle.laws.proofs.Facts.{sized→}
 use Rattle.laws.proofs.Length.{saved_length_is}
 use Rattle.laws.proofs.Question4.{saved_bytes}
-use Rattle.tables.specs.Index.{room_of, index_in, kinds_in, kinded, end_in, id_in, numbers_from, made_out_of}
+use Rattle.tables.specs.Index.{room_of, index_in, kinds_in, kinded, numbers_from, made_out_of}
 use Rattle.index.proofs.Lent.{sized_in}
 use Rattle.index.proofs.Standing.{stands}
 use Rattle.plan.specs.Plan.{plan_in}
@@ -63,8 +63,8 @@ merge_takes_in x t y u z t' a b e =
 pub absorb_takes_in : AbsorbTakesIn
 absorb_takes_in x t image given r u a b e m =
     let l = absorb_left x t image given r u a b e in
-    subst (λ (y : Index). AbsorbedOf (index_in x t) (recorder_in r u) (id_in image) (given_in given) y) (sym l.list)
-    (absorb_takes (room_of t) (index_in x t) (recorder_room u) (recorder_in r u) (id_in image) (given_in given)
+    subst (λ (y : Index). AbsorbedOf (index_in x t) (recorder_in r u) image (given_in given) y) (sym l.list)
+    (absorb_takes (room_of t) (index_in x t) (recorder_room u) (recorder_in r u) image (given_in given)
     l.accepted m)
 
 -- ---- save
@@ -92,7 +92,7 @@ save_tells_in x t old n new e = told_of (kinded (kinds_in x t) (save (room_of t)
 
 -- ---- plan, hint
 pub plan_looks_in : PlanLooksIn
-unfolding plan_in end_in
+unfolding plan_in
 plan_looks_in =
     record {
       answers = λ x t f p e. plan_looks.answers (room_of t) (index_in x t) f p
@@ -108,4 +108,4 @@ hint_looks_in x t first end playtime i e l =
     let n : i < length (index_in x t).hinting.hints = rw (records_length 8 decode_kept x.hints t.hints) l in
     hint_looks (room_of t) (index_in x t) first end playtime i
     (named_none (room_of t) (index_in x t) first end playtime
-    (kinded→ (kinds_in x t) (named_hint (room_of t) (index_in x t) first end playtime) none e).1) n
+    (kinded→ (kinds_in x t) (named_hint (room_of t) (index_in x t) first end playtime) None e).1) n

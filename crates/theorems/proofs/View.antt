@@ -1,9 +1,9 @@
 -- The views of a list. Assumes nothing.
+use Rattle.std.specs.Prelude.{Option, None, Some}
 use Prim.Native.Nat.{ℕ, suc, ◌+◌, ◌*◌, ◌%◌, ◌≤◌, ◌<◌}
 use mathlib.Core.Path.{◌≡◌, refl, sym, ap, ap₂, ◌∙◌}
 use mathlib.Core.Bool.{Bool, true, false, cond}
 use mathlib.Core.List.{List, [], ◌∷◌, ◌++◌, append-nil, append_assoc}
-use mathlib.Core.Option.{Option, none, some}
 use native.Mathlib.Omega.{arith}
 use lib.Dec.{eqb, leb}
 use lib.ListN.{length, take, drop, get_or}
@@ -129,7 +129,7 @@ head_count : (role : ℕ) (v : Listener) → (head_of role v).count ≡ length v
 unfolding head_of
 head_count role v = refl
 
-listener_told : (v : Listener) → ListenerFits v → read_listener (listener_bytes v) ≡ some v
+listener_told : (v : Listener) → ListenerFits v → read_listener (listener_bytes v) ≡ Some v
 unfolding read_listener listener_bytes
 listener_told v f =
     let h : read_head (seen_bytes listener v) ≡ head_of listener v = rw append-nil at
@@ -281,10 +281,10 @@ pub record WorkshopFits (w : Workshop) : Type 0 where
   pub hints : Each HintShown w.hints
   pub confirmed : Each ConfirmationFits w.confirmed
 
-known_back : (o : Option ℕ) → cond (eqb (bit (is_some o)) 1) (some (or_zero o)) none ≡ o
+known_back : (o : Option ℕ) → cond (eqb (bit (is_some o)) 1) (Some (or_zero o)) None ≡ o
 unfolding bit is_some or_zero
-known_back none = refl
-known_back (some v) = refl
+known_back None = refl
+known_back (Some v) = refl
 
 -- the bytes behind a section
 behind_section : {A : Type 0} {w : ℕ} {d : List ℕ → A} {e : A → List ℕ} {F : A → Type 0} (l : Layout w d e F)
@@ -365,7 +365,7 @@ module _ (w : Workshop) where
     seen_is : seen_in all_bytes ≡ w.seen
     seen_is = ap seen_in workshop_split ∙ seen_told workshop w.seen s0 f.seen.head' f.seen.seen
 
-    workshop_told : read_workshop (workshop_bytes w) ≡ some w
+    workshop_told : read_workshop (workshop_bytes w) ≡ Some w
     unfolding read_workshop
     workshop_told =
         let n = count_is ∙ sym f.same in

@@ -1,6 +1,5 @@
 -- Each accepted call leaves values that pass questions 1 to 4, in the tables of the call.
-use Rattle.std.specs.Prelude.{ℕ, ◌≡◌, true, List}
-use Rattle.std.proofs.Math.Option.{Option, some}
+use Rattle.std.specs.Prelude.{ℕ, ◌≡◌, true, List, Option, Some}
 use Rattle.field.specs.Records.{Bytes}
 use Rattle.rules.specs.declared.Area.{Area}
 use Rattle.rules.specs.declared.Confirmation.{Confirmation}
@@ -39,7 +38,7 @@ pub record Closure : Type 0 where
       (l : Lengths) (x : Index) (m : Lengths) (r : Recorder) (image : Option ℕ) (ms : List ℕ)
       → (absorb l x m r image ms).number ≡ 8
       → ValidRecorder m (absorb l x m r image ms).recorder
-  pub hint_recording : (l : Lengths) (x : Index) (r : HintRecorder) → hint_recorder l x ≡ Accepted (some r)
+  pub hint_recording : (l : Lengths) (x : Index) (r : HintRecorder) → hint_recorder l x ≡ Accepted (Some r)
       → ValidHintRecorder max_list r
   pub seen : (n : ℕ) (r : HintRecorder) (lsn : ℕ) (sector : List ℕ) (s : SeenSector) → see n r lsn sector
       ≡ Accepted s → ValidHintRecorder n s.recorder
@@ -50,7 +49,7 @@ pub record Closure : Type 0 where
   pub hinted : (l : Lengths) (x y : Index) (list : List Hint) → unkept list ≡ list → add_hints l x list ≡ Accepted y
       → Valid l y
   pub marked : (l : Lengths) (x y : Index) (lsn : ℕ) → keep_hint l x lsn ≡ Accepted y → Valid l y
-  pub confirmed : (l : Lengths) (x y : Index) (c : Confirmation) → keep_confirmation l x c ≡ Accepted (some y)
+  pub confirmed : (l : Lengths) (x y : Index) (c : Confirmation) → keep_confirmation l x c ≡ Accepted (Some y)
       → Valid l y
   pub loaded : (l : Lengths) (a : Area) (b : List ℕ) (limit : ℕ) (y : Index) → Bytes b → load l a b limit
       ≡ Accepted y → Valid l y

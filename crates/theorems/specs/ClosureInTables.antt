@@ -1,14 +1,12 @@
 -- Each accepted call leaves numbers and tables that no next call refuses with 1, 2 or 4, kinds included.
-use Rattle.std.specs.Prelude.{ℕ, ◌≤◌, ◌≡◌, true, List}
+use Rattle.std.specs.Prelude.{ℕ, ◌≤◌, ◌≡◌, true, List, Option}
 use Rattle.field.specs.Records.{Bytes}
 use Rattle.rules.specs.declared.Area.{Area}
 use Rattle.rules.specs.declared.AreaIndex.{AreaIndex}
 use Rattle.rules.specs.declared.Confirmation.{Confirmation}
 use Rattle.rules.specs.declared.EndState.{EndState}
 use Rattle.rules.specs.declared.HintRecorder.{HintRecorder}
-use Rattle.rules.specs.declared.ImageId.{ImageId}
 use Rattle.rules.specs.declared.Recorder.{Recorder}
-use Rattle.rules.specs.declared.UnderAssembly.{UnderAssembly}
 use Rattle.rules.specs.Tests.{Accepted}
 use Rattle.rules.specs.Values.{max64}
 use Rattle.rules.specs.Questions.{question1, question2, question4}
@@ -32,6 +30,7 @@ use Rattle.rules.specs.declared.Seen.TheVariants as seenAs
 use Rattle.rules.specs.declared.SeenSector.{SeenSector}
 use Rattle.rules.specs.declared.Taken.TheVariants as takenAs
 use Rattle.rules.specs.declared.TakenList.{TakenList}
+use Rattle.rules.specs.declared.Assembling as under
 use Rattle.hint_recorder.specs.HintRecorder.{created_in, see_in, flush_in, take_in}
 use Rattle.hint_recorder.specs.HintRecorder as hinting
 use Rattle.theorems.specs.TableRun.{LentIn}
@@ -63,18 +62,18 @@ pub record ClosureInTables : Type 0 where
   -- recorders: a new one holds nothing, whatever tables u it is given
   pub recording : (x : AreaIndex) (t : Tables) (from : ℕ) (r : Recorder) (u : RecorderTables) → started_in x t from
       ≡ recordedAs.Recorder r → StandsRecorder r u
-  pub recorded : (r : Recorder) (u : RecorderTables) (lsn threshold malformed : ℕ) (f : UnderAssembly)
+  pub recorded : (r : Recorder) (u : RecorderTables) (lsn threshold malformed : ℕ) (f : Option under.Assembling)
       (b sector : List ℕ) (s : Recorder) (u' : RecorderTables)
       → RecorderBytes u → SignedIn f → Bytes b → record_in r u lsn threshold malformed f b sector
       ≡ recorder_out (recordedAs.Recorder s) u' → StandsRecorder s u'
   pub finished : (r : Recorder) (u : RecorderTables) (e : EndState) (s : Recorder) → finished_in r u e
       ≡ recordedAs.Recorder s → StandsRecorder s u
-  pub absorbed : (x : AreaIndex) (t : Tables) (image : ImageId) (given : List ℕ) (r : Recorder) (u : RecorderTables)
+  pub absorbed : (x : AreaIndex) (t : Tables) (image : Option ℕ) (given : List ℕ) (r : Recorder) (u : RecorderTables)
       → LentIn x t → RecorderBytes u
       → let o = absorb_in x t image given r u in
       o.answer.number ≡ 0 → Stands o.answer.index o.tables × StandsRecorder o.answer.recorder u
   -- a refusal with 8 changes the recorder
-  pub stopped : (x : AreaIndex) (t : Tables) (image : ImageId) (given : List ℕ) (r : Recorder) (u : RecorderTables)
+  pub stopped : (x : AreaIndex) (t : Tables) (image : Option ℕ) (given : List ℕ) (r : Recorder) (u : RecorderTables)
       → let o = absorb_in x t image given r u in
       o.answer.number ≡ 8 → StandsRecorder o.answer.recorder u
   -- hint recorders: a new one lists nothing, whatever table t' it is given

@@ -1,7 +1,6 @@
 -- Demand 3, about whole runs.
-use Rattle.std.specs.Prelude.{ℕ, min, ◌<◌, ◌≤◌, ◌≡◌, true, false, ◌≢◌, eqb, length, get_or}
+use Rattle.std.specs.Prelude.{ℕ, min, ◌<◌, ◌≤◌, ◌≡◌, true, false, ◌≢◌, eqb, length, get_or, Option, None, Some}
 use mathlib.Core.List.{List, Memᴰ}
-use Rattle.std.proofs.Math.Option.{Option, none, some}
 use Rattle.rules.specs.Values.{Scan, no_held, count}
 use Rattle.rules.specs.Questions.{question3}
 use Rattle.rules.specs.Merge.{question42, further}
@@ -63,8 +62,8 @@ pub record LoadLeaves (limit : ℕ) (s s' : State) (b : Saved) : Type 0 where
   pub others : (k : ℕ) → eqb k b.place ≡ false → KeepsParts s s' k
 
 unfoldable pub JustLeaves : ℕ → State → State → Option Saved → Type 0
-JustLeaves limit s s' none = (k : ℕ) → KeepsParts s s' k
-JustLeaves limit s s' (some b) = LoadLeaves limit s s' b
+JustLeaves limit s s' None = (k : ℕ) → KeepsParts s s' k
+JustLeaves limit s s' (Some b) = LoadLeaves limit s s' b
 
 -- s' is the state after a call in s
 unfoldable pub PartsLeft : State → Call → State → Type 0

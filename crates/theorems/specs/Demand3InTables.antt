@@ -1,7 +1,6 @@
 -- Demand 3 about the tables that players hold, as merge, to_bytes, from_bytes and plan leave and answer them.
-use Rattle.std.specs.Prelude.{ℕ, ◌+◌, ◌≤◌, ◌≡◌, true, List, length}
+use Rattle.std.specs.Prelude.{ℕ, ◌+◌, ◌≤◌, ◌≡◌, true, List, length, Some}
 use Rattle.rules.specs.declared.AreaIndex.{AreaIndex}
-use Rattle.rules.specs.declared.Assembly.TheVariants.{Stored}
 use Rattle.rules.specs.declared.HeldPart.{HeldPart}
 use Rattle.rules.specs.declared.Plan.{Plan}
 use Rattle.rules.specs.declared.Plan.TheVariants.{At}
@@ -35,7 +34,7 @@ PartsByRuleInTables =
 -- a place, in whose store its bytes lie, holds the part h for checkpoint number j
 pub record HoldsPart (p : TablePlace) (j : ℕ) (h : HeldPart) : Type 0 where
   pub inside : h.offset + h.len ≤ length p.tables.store
-  pub part : assembly_of (place_in p).list.scan.frames (place_in p).list.scan.parts j ≡ Stored h
+  pub part : assembly_of (place_in p).list.scan.frames (place_in p).list.scan.parts j ≡ Some h
 
 -- its bytes, as the second call returns them
 abbrev pub part_in : TablePlace → HeldPart → List ℕ
@@ -60,7 +59,7 @@ PartsAgreeInTables =
 abbrev pub PlansHeldPart : Type 0
 PlansHeldPart =
     (p : TablePlace) (t : ℕ) (r : Resume) (h : HeldPart) → plan_in p.numbers p.tables t ≡ Accepted (At r)
-    → r.assembly ≡ Stored h
+    → r.assembly ≡ Some h
     → HoldsPart p r.number h
 
 -- ---- merges that are accepted

@@ -1,6 +1,5 @@
 -- Change request 14, "After it the bodies, each an ordinary list file": about the calls over lent tables, and about those that players make in C.
-use Rattle.std.specs.Prelude.{◌≡◌, ◌≢◌, List, ℕ, ◌≤◌, length, take}
-use Rattle.std.proofs.Math.Option.{Option, none, some}
+use Rattle.std.specs.Prelude.{◌≡◌, ◌≢◌, List, ℕ, ◌≤◌, length, take, Option, None, Some}
 use Rattle.rules.specs.declared.Area.{Area}
 use Rattle.rules.specs.declared.AreaIndex.{AreaIndex}
 use Rattle.rules.specs.File.{over, saved}
@@ -23,7 +22,7 @@ use Rattle.theorems.specs.DiscFile.{body_in}
 -- ---- what is saved
 -- o is the body of a list's slot: the file that saving that list alone writes, into any output that is long enough
 pub record ListFileIn (x : AreaIndex) (t : Tables) (o : Option (List ℕ)) : Type 0 where
-  pub file : o ≡ some (saved (index_in x t))
+  pub file : o ≡ Some (saved (index_in x t))
   pub saves : (old : List ℕ) → let b = saved (index_in x t) in
       length b ≤ length old → saving.save_in x t old ≡ saving.made (Length (length b)) (over b old)
 
@@ -38,11 +37,11 @@ pub record SavedBodiesIn : Type 0 where
       → ListFileIn x t (body_in (take k new) x.area.key.slot)
   pub other : (x : AreaIndex) (t : Tables) (old : List ℕ) (k : ℕ) (new : List ℕ) (s : ℕ) → save_one_in x t old
       ≡ saving.made (Length k) new → s ≢ x.area.key.slot
-      → body_in (take k new) s ≡ none
+      → body_in (take k new) s ≡ None
 
 -- the same in C
 pub record ListFileInC (head : List ℕ) (t : Tables) (o : Option (List ℕ)) : Type 0 where
-  pub file : o ≡ some (saved (index_in (head_index head) t))
+  pub file : o ≡ Some (saved (index_in (head_index head) t))
   pub saves : (old : List ℕ) → let b = saved (index_in (head_index head) t) in
       length b ≤ length old → save_call head t old ≡ called (length b) (over b old)
 
@@ -56,7 +55,7 @@ pub record SavedBodiesInC : Type 0 where
       → ListFileInC head t (body_in (take k new) (head_index head).area.key.slot)
   pub other : (head : List ℕ) (t : Tables) (old : List ℕ) (k : ℕ) (new : List ℕ) (s : ℕ) → disc_save_call head t old
       ≡ called k new → 88 ≤ k
-      → s ≢ (head_index head).area.key.slot → body_in (take k new) s ≡ none
+      → s ≢ (head_index head).area.key.slot → body_in (take k new) s ≡ None
 
 -- ---- what is loaded
 -- loading the body c alone gives the list p of its slot, in the tables t as the disc file leaves them, t'
@@ -67,17 +66,17 @@ pub record LoadsAlone (a : Area) (c : List ℕ) (limit : ℕ) (t : Tables) (p : 
 
 pub record BodiesLoadIn : Type 0 where
   pub first : (a0 a1 : Area) (b : List ℕ) (limit : ℕ) (t u : Tables) (p q : Listed) (t' u' : Tables) (c : List ℕ)
-      → load_disc_in a0 a1 b limit t u ≡ disc_out (loaded.Lists p q) t' u' → body_in b 0 ≡ some c
+      → load_disc_in a0 a1 b limit t u ≡ disc_out (loaded.Lists p q) t' u' → body_in b 0 ≡ Some c
       → LoadsAlone a0 c limit t p t'
   pub second : (a0 a1 : Area) (b : List ℕ) (limit : ℕ) (t u : Tables) (p q : Listed) (t' u' : Tables) (d : List ℕ)
-      → load_disc_in a0 a1 b limit t u ≡ disc_out (loaded.Lists p q) t' u' → body_in b 1 ≡ some d
+      → load_disc_in a0 a1 b limit t u ≡ disc_out (loaded.Lists p q) t' u' → body_in b 1 ≡ Some d
       → LoadsAlone a1 d limit u q u'
   -- a slot without a body has no list, and its tables stay
   pub no_first : (a0 a1 : Area) (b : List ℕ) (limit : ℕ) (t u : Tables) (p q : Listed) (t' u' : Tables)
-      → load_disc_in a0 a1 b limit t u ≡ disc_out (loaded.Lists p q) t' u' → body_in b 0 ≡ none → (p ≡ listed.Absent)
+      → load_disc_in a0 a1 b limit t u ≡ disc_out (loaded.Lists p q) t' u' → body_in b 0 ≡ None → (p ≡ listed.Absent)
       × (t' ≡ t)
   pub no_second : (a0 a1 : Area) (b : List ℕ) (limit : ℕ) (t u : Tables) (p q : Listed) (t' u' : Tables)
-      → load_disc_in a0 a1 b limit t u ≡ disc_out (loaded.Lists p q) t' u' → body_in b 1 ≡ none → (q ≡ listed.Absent)
+      → load_disc_in a0 a1 b limit t u ≡ disc_out (loaded.Lists p q) t' u' → body_in b 1 ≡ None → (q ≡ listed.Absent)
       × (u' ≡ u)
 
 -- in C: seek_raw_load of a body answers 0 too, and leaves that slot's head and tables alike
@@ -85,19 +84,19 @@ pub record BodiesLoadInC : Type 0 where
   pub first : (head other answer : List ℕ) (a0 a1 : Area) (b : List ℕ) (limit : ℕ) (t u : Tables)
       (head' other' answer' : List ℕ) (t' u' : Tables) (c : List ℕ)
       → disc_load_call head other a0 a1 b limit answer t u ≡ called_disc (called_lists 0 head' other' answer') t' u'
-      → body_in b 0 ≡ some c
+      → body_in b 0 ≡ Some c
       → load_call head a0 c limit t ≡ called_over 0 head' t'
   pub second : (head other answer : List ℕ) (a0 a1 : Area) (b : List ℕ) (limit : ℕ) (t u : Tables)
       (head' other' answer' : List ℕ) (t' u' : Tables) (d : List ℕ)
       → disc_load_call head other a0 a1 b limit answer t u ≡ called_disc (called_lists 0 head' other' answer') t' u'
-      → body_in b 1 ≡ some d
+      → body_in b 1 ≡ Some d
       → load_call other a1 d limit u ≡ called_over 0 other' u'
   -- a slot without a body keeps its head and its tables
   pub no_first : (head other answer : List ℕ) (a0 a1 : Area) (b : List ℕ) (limit : ℕ) (t u : Tables)
       (head' other' answer' : List ℕ) (t' u' : Tables)
       → disc_load_call head other a0 a1 b limit answer t u ≡ called_disc (called_lists 0 head' other' answer') t' u'
-      → body_in b 0 ≡ none → (head' ≡ head) × (t' ≡ t)
+      → body_in b 0 ≡ None → (head' ≡ head) × (t' ≡ t)
   pub no_second : (head other answer : List ℕ) (a0 a1 : Area) (b : List ℕ) (limit : ℕ) (t u : Tables)
       (head' other' answer' : List ℕ) (t' u' : Tables)
       → disc_load_call head other a0 a1 b limit answer t u ≡ called_disc (called_lists 0 head' other' answer') t' u'
-      → body_in b 1 ≡ none → (other' ≡ other) × (u' ≡ u)
+      → body_in b 1 ≡ None → (other' ≡ other) × (u' ≡ u)

@@ -1,6 +1,5 @@
 -- Change request 14 about the calls that players make: seek_raw_disc_save, seek_raw_disc_save_both and seek_raw_disc_load.
-use Rattle.std.specs.Prelude.{◌≡◌, true, List, [], ◌∷◌, ℕ, ◌+◌, ◌≤◌, length}
-use Rattle.std.proofs.Math.Option.{none, some}
+use Rattle.std.specs.Prelude.{◌≡◌, true, List, [], ◌∷◌, ℕ, ◌+◌, ◌≤◌, length, None, Some}
 use Rattle.field.specs.Records.{Bytes}
 use Rattle.rules.specs.declared.Area.{Area}
 use Rattle.rules.specs.Tests.{Accepted}
@@ -58,16 +57,16 @@ pub record DiscLoadAcceptsInC : Type 0 where
   pub both : (head other answer : List ℕ) (a0 a1 : Area) (b : List ℕ) (limit : ℕ) (t u : Tables) (c d : List ℕ)
       (x y : Index) → long (head ∷ other ∷ answer ∷ []) ≡ true
       → Bytes b → slot_area 0 a0 ≡ true → slot_area 1 a1 ≡ true → contents_ok b ≡ true
-      → body_in b 0 ≡ some c → load (room_of t) a0 c limit ≡ Accepted x → body_in b 1 ≡ some d
+      → body_in b 0 ≡ Some c → load (room_of t) a0 c limit ≡ Accepted x → body_in b 1 ≡ Some d
       → load (room_of u) a1 d limit ≡ Accepted y
       → HoldsBothInC answer (disc_load_call head other a0 a1 b limit answer t u) x y
   pub first : (head other answer : List ℕ) (a0 a1 : Area) (b : List ℕ) (limit : ℕ) (t u : Tables) (c : List ℕ)
       (x : Index) → long (head ∷ other ∷ answer ∷ []) ≡ true
       → Bytes b → slot_area 0 a0 ≡ true → slot_area 1 a1 ≡ true → contents_ok b ≡ true
-      → body_in b 0 ≡ some c → load (room_of t) a0 c limit ≡ Accepted x → body_in b 1 ≡ none
+      → body_in b 0 ≡ Some c → load (room_of t) a0 c limit ≡ Accepted x → body_in b 1 ≡ None
       → HoldsFirstInC answer other u (disc_load_call head other a0 a1 b limit answer t u) x
   pub second : (head other answer : List ℕ) (a0 a1 : Area) (b : List ℕ) (limit : ℕ) (t u : Tables) (d : List ℕ)
       (y : Index) → long (head ∷ other ∷ answer ∷ []) ≡ true
       → Bytes b → slot_area 0 a0 ≡ true → slot_area 1 a1 ≡ true → contents_ok b ≡ true
-      → body_in b 0 ≡ none → body_in b 1 ≡ some d → load (room_of u) a1 d limit ≡ Accepted y
+      → body_in b 0 ≡ None → body_in b 1 ≡ Some d → load (room_of u) a1 d limit ≡ Accepted y
       → HoldsSecondInC answer head t (disc_load_call head other a0 a1 b limit answer t u) y

@@ -1,6 +1,5 @@
 -- Change request 14 about the calls over lent tables: saving, then loading what was written, and the other way round.
-use Rattle.std.specs.Prelude.{◌≡◌, true, List, [], ◌∷◌, ℕ, ◌+◌, ◌≤◌, length, take}
-use Rattle.std.proofs.Math.Option.{none, some}
+use Rattle.std.specs.Prelude.{◌≡◌, true, List, [], ◌∷◌, ℕ, ◌+◌, ◌≤◌, length, take, None, Some}
 use Rattle.field.specs.Records.{Bytes}
 use Rattle.rules.specs.declared.Area.{Area}
 use Rattle.rules.specs.declared.AreaIndex.{AreaIndex}
@@ -113,14 +112,14 @@ pub record DiscSaveAcceptsIn : Type 0 where
 pub record DiscLoadAcceptsIn : Type 0 where
   pub both : (a0 a1 : Area) (b : List ℕ) (limit : ℕ) (t u : Tables) (c d : List ℕ) (x y : Index) → Bytes b
       → slot_area 0 a0 ≡ true → slot_area 1 a1 ≡ true → contents_ok b ≡ true
-      → body_in b 0 ≡ some c → load (room_of t) a0 c limit ≡ Accepted x → body_in b 1 ≡ some d
+      → body_in b 0 ≡ Some c → load (room_of t) a0 c limit ≡ Accepted x → body_in b 1 ≡ Some d
       → load (room_of u) a1 d limit ≡ Accepted y
       → HoldsBoth (load_disc_in a0 a1 b limit t u) x y
   pub first : (a0 a1 : Area) (b : List ℕ) (limit : ℕ) (t u : Tables) (c : List ℕ) (x : Index) → Bytes b
       → slot_area 0 a0 ≡ true → slot_area 1 a1 ≡ true → contents_ok b ≡ true
-      → body_in b 0 ≡ some c → load (room_of t) a0 c limit ≡ Accepted x → body_in b 1 ≡ none
+      → body_in b 0 ≡ Some c → load (room_of t) a0 c limit ≡ Accepted x → body_in b 1 ≡ None
       → HoldsFirst (load_disc_in a0 a1 b limit t u) x u
   pub second : (a0 a1 : Area) (b : List ℕ) (limit : ℕ) (t u : Tables) (d : List ℕ) (y : Index) → Bytes b
       → slot_area 0 a0 ≡ true → slot_area 1 a1 ≡ true → contents_ok b ≡ true
-      → body_in b 0 ≡ none → body_in b 1 ≡ some d → load (room_of u) a1 d limit ≡ Accepted y
+      → body_in b 0 ≡ None → body_in b 1 ≡ Some d → load (room_of u) a1 d limit ≡ Accepted y
       → HoldsSecond (load_disc_in a0 a1 b limit t u) t y

@@ -1,6 +1,5 @@
 -- Change request 14: what a player in C rests on, the one number that saving a disc file answers, its length, and the sizes of the tables of both slots.
-use Rattle.std.specs.Prelude.{ℕ, ◌≤◌, ◌≡◌, Bool, true, List, length}
-use Rattle.std.proofs.Math.Option.{Option, none, some}
+use Rattle.std.specs.Prelude.{ℕ, ◌≤◌, ◌≡◌, Bool, true, List, length, Option, None, Some}
 use Rattle.rules.specs.declared.Area.{Area}
 use Rattle.rules.specs.declared.AreaIndex.{AreaIndex}
 use Rattle.rules.specs.Tests.{Refused, Accepted}
@@ -34,8 +33,8 @@ pub record DiscLengthTold : Type 0 where
 -- ---- loading
 -- has every table of a slot at least the bytes told? An absent list needs none.
 unfoldable pub has_slot : Option TableSizes → Tables → Bool
-has_slot none t = true
-has_slot (some s) t = has_sizes s t
+has_slot None t = true
+has_slot (Some s) t = has_sizes s t
 
 -- a disc file that loads in tables t and u
 pub record LoadsInTables (a0 a1 : Area) (b : List ℕ) (limit : ℕ) (t u : Tables) : Type 0 where

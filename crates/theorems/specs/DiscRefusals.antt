@@ -1,6 +1,5 @@
 -- Change request 14: when loading and saving a disc file are refused, and with which number.
-use Rattle.std.specs.Prelude.{◌≡◌, true, false, ◌&&◌, List, [], ◌∷◌, ◌⊎◌, ℕ, ◌+◌, ◌<◌, length}
-use Rattle.std.proofs.Math.Option.{Option, some}
+use Rattle.std.specs.Prelude.{◌≡◌, true, false, ◌&&◌, List, [], ◌∷◌, ◌⊎◌, ℕ, ◌+◌, ◌<◌, length, Option, Some}
 use Rattle.rules.specs.declared.Area.{Area}
 use Rattle.rules.specs.declared.AreaIndex.{AreaIndex}
 use Rattle.rules.specs.Tests.{Refused, Accepted}
@@ -33,10 +32,10 @@ pub record DiscRefusals : Type 0 where
   -- after it the first failing body's own number
   pub first : (l m : Lengths) (a0 a1 : Area) (b : List ℕ) (limit : ℕ) (c : List ℕ) (n : ℕ) → slot_area 0 a0 ≡ true
       → slot_area 1 a1 ≡ true → contents_ok b ≡ true
-      → body_in b 0 ≡ some c → load l a0 c limit ≡ Refused n → load_disc l m a0 a1 b limit ≡ Refused n
+      → body_in b 0 ≡ Some c → load l a0 c limit ≡ Refused n → load_disc l m a0 a1 b limit ≡ Refused n
   pub second : (l m : Lengths) (a0 a1 : Area) (b : List ℕ) (limit : ℕ) (o : Option Index) (d : List ℕ) (n : ℕ)
       → slot_area 0 a0 ≡ true → slot_area 1 a1 ≡ true
-      → contents_ok b ≡ true → load_body l a0 limit (body_in b 0) ≡ Accepted o → body_in b 1 ≡ some d → load m a1 d limit
+      → contents_ok b ≡ true → load_body l a0 limit (body_in b 0) ≡ Accepted o → body_in b 1 ≡ Some d → load m a1 d limit
       ≡ Refused n
       → load_disc l m a0 a1 b limit ≡ Refused n
   -- saving lists that pass 1 to 4: 54 where two share a slot, or an offset or a length needs more than four bytes, whatever the output's length is

@@ -1,7 +1,5 @@
 -- What the desk stands on where it says "may be deleted: A holds all that B holds".
-use Rattle.std.specs.Prelude.{ℕ, ◌-◌, ◌/◌, ◌<◌, ◌≤◌, ◌≡◌, Bool, true, false, ◌&&◌, ◌⊎◌, List, ◌∷◌, ◌++◌, eqb, length, get_or, take}
-use Rattle.std.proofs.Math.Option.{some}
-use Rattle.rules.specs.declared.Assembly.TheVariants.{Stored}
+use Rattle.std.specs.Prelude.{ℕ, ◌-◌, ◌/◌, ◌<◌, ◌≤◌, ◌≡◌, Bool, true, false, ◌&&◌, ◌⊎◌, List, ◌∷◌, ◌++◌, eqb, length, get_or, take, Some}
 use Rattle.rules.specs.declared.Confirmation.{Confirmation}
 use Rattle.rules.specs.declared.EndState.{EndState}
 use Rattle.rules.specs.declared.Held.{Held}
@@ -49,20 +47,20 @@ pub record Serves (own other : Index) : Type 0 where
   pub starts : (t : ℕ) → jump other.scan t ≤ jump own.scan t
   -- it begins with the other's checkpoints, and is complete, with the same end state, if the other is
   pub checkpoints : other.scan.checkpoints ≡ take (count other.scan) own.scan.checkpoints
-  pub ending : (e : EndState) → other.scan.ending ≡ some e → own.scan.ending ≡ some e
+  pub ending : (e : EndState) → other.scan.ending ≡ Some e → own.scan.ending ≡ Some e
   pub complete : complete other.scan ≡ true → complete own.scan ≡ true
   -- for each checkpoint that the other has a part for, it has one with the same bytes, number, kind and remaining
   pub parts : (j : ℕ) (c : Content) → Holds (stored_in other.scan) j c → Holds (stored_in own.scan) j c
   -- and where both plan one checkpoint and the other names a part, it names the same, byte for byte
   pub plans : (t : ℕ) (r s : Resume) (h : HeldPart) → planned other.scan t ≡ At r → planned own.scan t ≡ At s
-      → s.number ≡ r.number → r.assembly ≡ Stored h
-      → (k : HeldPart) × (s.assembly ≡ Stored k) × SamePart own.scan.frames k other.scan.frames h
+      → s.number ≡ r.number → r.assembly ≡ Some h
+      → (k : HeldPart) × (s.assembly ≡ Some k) × SamePart own.scan.frames k other.scan.frames h
   -- every hint is one of its own, kept or not, and every confirmation, or a better one
   pub hints : (h : Hint) → Among other.hinting.hints h → Stands own.hinting.hints h
   pub confirmed : (i : ℕ) → i < length other.hinting.confirmed
       → Confirms own.hinting.confirmed (get_or other.hinting.confirmed i no_confirmation)
   -- it states the other's fingerprint
-  pub fingerprint : (v : ℕ) → stated other.fingerprint ≡ some v → stated own.fingerprint ≡ some v
+  pub fingerprint : (v : ℕ) → stated other.fingerprint ≡ Some v → stated own.fingerprint ≡ Some v
 
 -- where nothing is lacking but image id and room
 abbrev pub NothingLacking : Type 0
@@ -123,8 +121,8 @@ abbrev pub LacksHint : Type 0
 LacksHint =
     (l m : Lengths) (own other : Index) (x : Lacks) → lacks l own m other ≡ Accepted x → holds_all x ≡ true
     → (is_checked other.fingerprint ≡ true → is_checked own.fingerprint ≡ true)
-    → (first end playtime : ℕ) (b : Hinted) → hint m other first end playtime ≡ Accepted (some b)
-    → (a : Hinted) × (hint l own first end playtime ≡ Accepted (some a)) × HintServes own other first a b
+    → (first end playtime : ℕ) (b : Hinted) → hint m other first end playtime ≡ Accepted (Some b)
+    → (a : Hinted) × (hint l own first end playtime ≡ Accepted (Some a)) × HintServes own other first a b
 
 -- ---- what a merged list y can lack of the two: of its own list hints and confirmations at most, of the other parts, hints, confirmations and room at most
 -- (malformed LSNs apart, for which see MergeMalformed)

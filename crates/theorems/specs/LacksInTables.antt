@@ -1,8 +1,6 @@
 -- The statements over lent tables.
-use Rattle.std.specs.Prelude.{ℕ, ◌≤◌, ◌≡◌, true, eqb}
-use Rattle.std.proofs.Math.Option.{some}
+use Rattle.std.specs.Prelude.{ℕ, ◌≤◌, ◌≡◌, true, eqb, Some}
 use Rattle.rules.specs.declared.AreaIndex.{AreaIndex}
-use Rattle.rules.specs.declared.Assembly.TheVariants.{Stored}
 use Rattle.rules.specs.declared.HeldPart.{HeldPart}
 use Rattle.rules.specs.declared.Plan.{Plan}
 use Rattle.rules.specs.declared.Plan.TheVariants.{At}
@@ -39,8 +37,8 @@ pub record ServesIn (x : AreaIndex) (t : Tables) (y : AreaIndex) (u : Tables) : 
   pub starts : (f : ℕ) (p q : Plan) → plan_in x t f ≡ Accepted p → plan_in y u f ≡ Accepted q
       → start_of x.area q ≤ start_of x.area p
   pub plans : (f : ℕ) (r s : Resume) (h : HeldPart) → plan_in y u f ≡ Accepted (At r) → plan_in x t f ≡ Accepted (At s)
-      → s.number ≡ r.number → r.assembly ≡ Stored h
-      → (k : HeldPart) × (s.assembly ≡ Stored k) × SamePartIn t k u h
+      → s.number ≡ r.number → r.assembly ≡ Some h
+      → (k : HeldPart) × (s.assembly ≡ Some k) × SamePartIn t k u h
 
 abbrev pub NothingLackingInTables : Type 0
 NothingLackingInTables =
@@ -53,8 +51,8 @@ LacksHintInTables =
     (x : AreaIndex) (t : Tables) (y : AreaIndex) (u : Tables) (b : Lacks) → lacks_in x t y u ≡ Accepted b → holds_all b
     ≡ true
     → (is_checked y.fingerprint ≡ true → is_checked x.fingerprint ≡ true)
-    → (first end playtime : ℕ) (q : NamedHint) → hint_in y u first end playtime ≡ Accepted (some q)
-    → (p : NamedHint) × (hint_in x t first end playtime ≡ Accepted (some p))
+    → (first end playtime : ℕ) (q : NamedHint) → hint_in y u first end playtime ≡ Accepted (Some q)
+    → (p : NamedHint) × (hint_in x t first end playtime ≡ Accepted (Some p))
     × HintServes (index_in x t) (index_in y u) first p.hinted q.hinted
 
 -- all lists below a kept one may go at once

@@ -1,13 +1,12 @@
 -- Recorders and hint recorders in their lent tables: what passes their questions, and what the types of the tables say.
-use Rattle.std.specs.Prelude.{ℕ, ◌/◌, ◌<◌, ◌≤◌, ◌≡◌, true, List, length}
+use Rattle.std.specs.Prelude.{ℕ, ◌/◌, ◌<◌, ◌≤◌, ◌≡◌, true, List, length, Option, None, Some}
 use Rattle.std.specs.Int.Signed.{mag}
 use Rattle.field.specs.Records.{Bytes}
 use Rattle.rules.specs.declared.HintRecorder.{HintRecorder}
 use Rattle.rules.specs.declared.Recorder.{Recorder}
-use Rattle.rules.specs.declared.UnderAssembly.{UnderAssembly}
-use Rattle.rules.specs.declared.UnderAssembly.TheVariants.{Nothing, Frame}
 use Rattle.rules.specs.Values.{max_list}
 use Rattle.rules.specs.Questions.{recorder_question1, recorder_question2, recorder_question4}
+use Rattle.rules.specs.declared.Assembling as under
 use Rattle.tables.specs.Recorder.{RecorderTables, recorder_room, recorder_in, recorder_kinds}
 use Rattle.tables.specs.HintRecorder.{hint_recorder_in}
 use Rattle.theorems.specs.Terms.{ValidRecorder, ValidHintRecorder}
@@ -32,9 +31,9 @@ pub record RecorderBytes (u : RecorderTables) : Type 0 where
   pub parts : Bytes u.parts
 
 -- the remaining of a frame under assembly is a signed number of 32 bits
-abbrev pub SignedIn : UnderAssembly → Type 0
-SignedIn Nothing = Unit {0}
-SignedIn (Frame f) = mag f.remaining < 2147483648
+abbrev pub SignedIn : Option under.Assembling → Type 0
+SignedIn None = Unit {0}
+SignedIn (Some f) = mag f.remaining < 2147483648
 
 -- ---- 3 and 4 of a hint recorder in its table
 abbrev pub ValidHintRecorderIn : HintRecorder → List ℕ → Type 0

@@ -1,7 +1,6 @@
 -- Change request 9: what entering a list and jumping in it leave of a shelf. A table of records is the list that it stands for.
-use Rattle.std.specs.Prelude.{◌≡◌, true, ◌⊎◌, ◌≢◌, ℕ, ◌+◌, ◌<◌, ◌≤◌, length, get_or, set}
+use Rattle.std.specs.Prelude.{◌≡◌, true, ◌⊎◌, ◌≢◌, ℕ, ◌+◌, ◌<◌, ◌≤◌, length, get_or, set, None, Some}
 use mathlib.Core.List.{List, [], ◌∷◌, ◌++◌, Memᴰ}
-use Rattle.std.proofs.Math.Option.{none, some}
 use Rattle.rules.specs.declared.Area.{Area}
 use Rattle.rules.specs.Questions.{area_ok}
 use Rattle.rules.specs.Tests.{Accepted}
@@ -40,7 +39,7 @@ ValidAfter t y = (shelf_ok y.shelf (present_records y.shelf y.table) ≡ true) �
 pub record ShelfValid : Type 0 where
   pub entered : (x : Shelf) (t : List ShelfRecord) (a : Area) (len : ℕ) (y : After) → enter x t a len ≡ Accepted y
       → ValidAfter t y
-  pub jumped : (x : Shelf) (t : List ShelfRecord) (a : Area) (y : After) → jump x t a ≡ Accepted (some y)
+  pub jumped : (x : Shelf) (t : List ShelfRecord) (a : Area) (y : After) → jump x t a ≡ Accepted (Some y)
       → ValidAfter t y
 
 -- ---- entering a list
@@ -85,7 +84,7 @@ pub record Jumping (x : Shelf) (t : List ShelfRecord) (a : Area) (y : After) : T
   pub same : y.shelf.present ≡ x.present
 
 abbrev pub Jumped : Type 0
-Jumped = (x : Shelf) (t : List ShelfRecord) (a : Area) (y : After) → jump x t a ≡ Accepted (some y) → Jumping x t a y
+Jumped = (x : Shelf) (t : List ShelfRecord) (a : Area) (y : After) → jump x t a ≡ Accepted (Some y) → Jumping x t a y
 
 -- ---- what is accepted
 pub record ShelfAccepts : Type 0 where
@@ -93,7 +92,7 @@ pub record ShelfAccepts : Type 0 where
       × (enter x t a len ≡ Accepted y)
   pub jumps : (x : Shelf) (t : List ShelfRecord) (a : Area) → Asked x t a → (i : ℕ) → i < x.present
       → area_of (get_or t i no_record) ≡ a
-      → (y : After) × (jump x t a ≡ Accepted (some y))
+      → (y : After) × (jump x t a ≡ Accepted (Some y))
   pub absent : (x : Shelf) (t : List ShelfRecord) (a : Area) → Asked x t a
       → ((i : ℕ) → i < x.present → area_of (get_or t i no_record) ≢ a)
-      → jump x t a ≡ Accepted none
+      → jump x t a ≡ Accepted None

@@ -1,6 +1,5 @@
 -- Document 01, "Run", over the tables that players hold: each step is what the contracts of merge, to_bytes and from_bytes say.
-use Rattle.std.specs.Prelude.{ℕ, ◌≡◌, Bool, true, false, cond, List, [], ◌∷◌, ◌++◌, length, take}
-use Rattle.std.proofs.Math.Option.{Option, none, some}
+use Rattle.std.specs.Prelude.{ℕ, ◌≡◌, Bool, true, false, cond, List, [], ◌∷◌, ◌++◌, length, take, Option, None, Some}
 use Rattle.rules.specs.declared.Area.{Area}
 use Rattle.rules.specs.declared.AreaIndex.{AreaIndex}
 use Rattle.rules.specs.Sizes.{sized}
@@ -33,7 +32,7 @@ pub record TableState : Type 0 where
   pub just : Option Saved
 
 abbrev pub begin_tables : (ℕ → TablePlace) → TableState
-begin_tables p = record { now = p; went = λ i. i ∷ []; just = none }
+begin_tables p = record { now = p; went = λ i. i ∷ []; just = None }
 
 -- the numbers afterwards: the answer's, the old ones where it is a refusal
 unfoldable pub numbers_after : AreaIndex → Made → AreaIndex
@@ -49,8 +48,8 @@ placed p o = record { numbers = numbers_after p.numbers o.answer; tables = o.tab
 
 -- the file that an accepted save wrote
 unfoldable pub file_of : ℕ → SaveOut → declared.Saved → Option Saved
-file_of i o (answer.Refused n) = none
-file_of i o (answer.Length n) = some (record { place = i; bytes = take n o.out })
+file_of i o (answer.Refused n) = None
+file_of i o (answer.Length n) = Some (record { place = i; bytes = take n o.out })
 
 abbrev pub merging : TablePlace → TablePlace → MadeOut
 merging own other = merge_in own.numbers own.tables other.numbers other.tables
@@ -59,13 +58,13 @@ abbrev pub saving : TablePlace → List ℕ → SaveOut
 saving p out = save_in p.numbers p.tables out
 
 unfoldable pub loading_into : Area → ℕ → TableState → Option Saved → TableState
-loading_into a limit s none = s
-loading_into a limit s (some b) =
+loading_into a limit s None = s
+loading_into a limit s (Some b) =
     record {
       now = replace s.now b.place (placed (s.now b.place)
           (load_in a b.bytes limit (s.now b.place).tables));
       went = s.went;
-      just = none;
+      just = None;
     }
 
 unfoldable pub table_step : Area → TableCall → TableState → TableState
@@ -74,7 +73,7 @@ table_step a (merge_tables i j) s =
       now = replace s.now i (placed (s.now i) (merging (s.now i) (s.now j)));
       went = replace s.went i (cond (is_accepted (merging (s.now i) (s.now j)).answer) (s.went i ++ s.went j)
           (s.went i));
-      just = none;
+      just = None;
     }
 table_step a (save_tables i out) s =
     record { now = s.now; went = s.went; just = file_of i (saving (s.now i) out) (saving (s.now i) out).answer }

@@ -1,8 +1,6 @@
 -- Document 01, "Programs that do nothing useful": what shuts out each.
-use Rattle.std.specs.Prelude.{ℕ, ◌+◌, ◌-◌, ◌/◌, min, ◌<◌, ◌≤◌, ◌≡◌, true, false, List, [], ◌∷◌, ◌++◌, ◌≢◌, eqb, length, get_or, take, drop}
-use Rattle.std.proofs.Math.Option.{Option, none, some}
+use Rattle.std.specs.Prelude.{ℕ, ◌+◌, ◌-◌, ◌/◌, min, ◌<◌, ◌≤◌, ◌≡◌, true, false, List, [], ◌∷◌, ◌++◌, ◌≢◌, eqb, length, get_or, take, drop, Option, None, Some}
 use Rattle.rules.specs.declared.Area.{Area}
-use Rattle.rules.specs.declared.Assembly.TheVariants.{Replayed}
 use Rattle.rules.specs.declared.Confirmation.{Confirmation}
 use Rattle.rules.specs.declared.EndState.{EndState}
 use Rattle.rules.specs.declared.Hint.{Hint}
@@ -40,7 +38,7 @@ pub record RefusesNothing : Type 0 where
       (l : Lengths) (a : Area) (k budget spacing most : ℕ) → let x = empty_index a k budget spacing most in
       question1 x ≡ true → question2 x ≡ true → question3 l x ≡ true → new l a k budget spacing most ≡ Accepted x
   pub fingerprints :
-      (l : Lengths) (x : Index) (v : ℕ) → Valid l x → agree eqb (stated x.fingerprint) (some v) ≡ true
+      (l : Lengths) (x : Index) (v : ℕ) → Valid l x → agree eqb (stated x.fingerprint) (Some v) ≡ true
       → bind_fingerprint l x v ≡ Accepted (bound x v)
   pub recorders : (l : Lengths) (x : Index) (from : ℕ) → Valid l x → recorder l x from
       ≡ Accepted (empty_recorder x.scan from)
@@ -77,7 +75,7 @@ pub record RefusesNothing : Type 0 where
       → flush n r ≡ Accepted (record {
         spacing = r.spacing;
         last = r.last;
-        tail = none;
+        tail = None;
         list = flushed_list r.tail r.list;
       })
   pub takes :
@@ -95,12 +93,12 @@ pub record RefusesNothing : Type 0 where
   pub confirms :
       (l : Lengths) (x : Index) (c : Confirmation) → Valid l x → question14 x.scan.area c ≡ true
       → is_checked x.fingerprint ≡ true → x.hinting.most ≢ 0
-      → keep_confirmation l x c ≡ Accepted (some (with_hinting x
+      → keep_confirmation l x c ≡ Accepted (Some (with_hinting x
       (with_confirmed x.hinting (keep true x.hinting.most x.hinting.confirmed c))))
   -- nothing is kept, and that is the answer
   pub keeps_none :
       (l : Lengths) (x : Index) (c : Confirmation) → Valid l x → question14 x.scan.area c ≡ true
-      → keeps_nothing (is_checked x.fingerprint) x.hinting.most ≡ true → keep_confirmation l x c ≡ Accepted none
+      → keeps_nothing (is_checked x.fingerprint) x.hinting.most ≡ true → keep_confirmation l x c ≡ Accepted None
   pub hints : (l : Lengths) (x : Index) (first end playtime : ℕ) → Valid l x → first ≤ end
       → number_of (hint l x first end playtime) ≡ 0
   pub plans : (l : Lengths) (x : Index) (t : ℕ) → Valid l x → plan l x t ≡ Accepted (planned x.scan t)
@@ -241,23 +239,23 @@ pub record LastNotAbove (x : Scan) (t : ℕ) (r : Resume) : Type 0 where
   pub not_above : (checkpoint_at x.checkpoints r.number).threshold ≤ t
   pub last : BeforeAll x t (r.number + 1)
   -- with its part, where one is held
-  pub held : (i : ℕ) → i < length x.parts → (get_or x.parts i no_held).at ≡ r.number → r.assembly ≢ Replayed
+  pub held : (i : ℕ) → i < length x.parts → (get_or x.parts i no_held).at ≡ r.number → r.assembly ≢ None
 
 -- what an answer of plan says of the list x and the frame t
 unfoldable pub Looked : Scan → ℕ → Plan → Type 0
 Looked x t Start = BeforeAll x t 0
 Looked x t (At r) = LastNotAbove x t r
-Looked x t (End e) = (x.ending ≡ some e) × (e.threshold ≤ t)
+Looked x t (End e) = (x.ending ≡ Some e) × (e.threshold ≤ t)
 
 pub record PlanLooks : Type 0 where
   pub answers : (l : Lengths) (x : Index) (t : ℕ) (p : Plan) → plan l x t ≡ Accepted p → Looked x.scan t p
   -- at or past the end of a complete list it says so
-  pub ends : (l : Lengths) (x : Index) (t : ℕ) (e : EndState) → Valid l x → x.scan.ending ≡ some e
+  pub ends : (l : Lengths) (x : Index) (t : ℕ) (e : EndState) → Valid l x → x.scan.ending ≡ Some e
       → e.threshold ≤ t → plan l x t ≡ Accepted (End e)
 
 -- where hint says none, no hint is near
 abbrev pub HintLooks : Type 0
 HintLooks =
-    (l : Lengths) (x : Index) (first end playtime i : ℕ) → hint l x first end playtime ≡ Accepted none
+    (l : Lengths) (x : Index) (first end playtime i : ℕ) → hint l x first end playtime ≡ Accepted None
     → i < length x.hinting.hints
     → near first (get_or x.hinting.hints i no_hint) ≡ false

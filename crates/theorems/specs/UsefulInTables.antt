@@ -1,21 +1,15 @@
 -- Document 01, "Programs that do nothing useful", about the calls over lent tables: what shuts out each.
-use Rattle.std.specs.Prelude.{ℕ, ◌+◌, ◌/◌, min, ◌<◌, ◌≤◌, ◌≡◌, true, false, ◌&&◌, ◌||◌, cond, List, [], ◌∷◌, ◌≢◌, eqb, ltb, length, get_or}
-use Rattle.std.proofs.Math.Option.{Option, none, some}
+use Rattle.std.specs.Prelude.{ℕ, ◌+◌, ◌/◌, min, ◌<◌, ◌≤◌, ◌≡◌, true, false, ◌&&◌, ◌||◌, cond, List, [], ◌∷◌, ◌≢◌, eqb, ltb, length, get_or, Option, None, Some}
 use Rattle.field.specs.Records.{bytes_of}
 use Rattle.rules.specs.declared.Area.{Area}
 use Rattle.rules.specs.declared.AreaIndex.{AreaIndex}
 use Rattle.rules.specs.declared.Confirmation.{Confirmation}
-use Rattle.rules.specs.declared.End.TheVariants.{Closed}
 use Rattle.rules.specs.declared.EndState.{EndState}
 use Rattle.rules.specs.declared.HintRecorder.{HintRecorder}
-use Rattle.rules.specs.declared.ImageId.{ImageId}
-use Rattle.rules.specs.declared.LastListed.TheVariants.{Never}
 use Rattle.rules.specs.declared.Mode.TheVariants.{Running, Finished, Stopped}
 use Rattle.rules.specs.declared.Plan.{Plan}
 use Rattle.rules.specs.declared.Plan.TheVariants.{End}
 use Rattle.rules.specs.declared.Recorder.{Recorder}
-use Rattle.rules.specs.declared.Tail.TheVariants.{Empty}
-use Rattle.rules.specs.declared.UnderAssembly.{UnderAssembly}
 use Rattle.rules.specs.Tests.{is_some, agree, Accepted, number_of}
 use Rattle.rules.specs.Values.{Index, max32, max_hints, no_hint, boundaries, lsn_of, frontier_of, last_checkpoint, stated, is_checked}
 use Rattle.rules.specs.Sections.{end_ok}
@@ -34,7 +28,7 @@ use Rattle.rules_coverage.specs.declared.Row.{Row}
 use Rattle.rules_coverage.specs.Lines.{Line}
 use Rattle.rules_coverage.specs.Coverage.{area_in, range_ok, row_from, row_of, max_file, line_row}
 use Rattle.rules_coarsen.specs.Coarse.{coarser, question47, question48}
-use Rattle.tables.specs.Index.{Tables, room_of, index_in, end_in, id_in, numbers_from, tables_from, tables_cleared, frontier_in, MadeOut, made_out}
+use Rattle.tables.specs.Index.{Tables, room_of, index_in, numbers_from, tables_from, tables_cleared, frontier_in, MadeOut, made_out}
 use Rattle.tables.specs.Lent.{TableBytes}
 use Rattle.index.specs.Index.{new_in, bound_in}
 use Rattle.rules.specs.declared.Recorded.TheVariants as recordedAs
@@ -69,6 +63,7 @@ use Rattle.short_sum.specs.declared.Folded.TheVariants as foldedAs
 use Rattle.short_sum.specs.ShortSum.{folded, question49, fold}
 use Rattle.rules_disc.specs.Disc.{slot_area, entries_in, entry_of, contents_ok}
 use Rattle.rules_disc.specs.declared.Contents.TheVariants.{Lists}
+use Rattle.rules.specs.declared.Assembling as under
 use Rattle.disc_load.specs.DiscLoad.{place_from, contents_in, body_sizes, disc_sizes}
 use Rattle.disc_save.specs.DiscSave.{one_length, both_length}
 use Rattle.merge.specs.Merge.{merge_in}
@@ -90,7 +85,7 @@ pub record RefusesNothingIn : Type 0 where
       question1 x ≡ true → question2 x ≡ true → question3 (room_of t) x ≡ true → new_in t a k budget spacing most
       ≡ Accepted (numbers_from x)
   pub fingerprints : (x : AreaIndex) (t : Tables) (v : ℕ) → ValidIn x t
-      → agree eqb (stated x.fingerprint) (some v) ≡ true
+      → agree eqb (stated x.fingerprint) (Some v) ≡ true
       → bound_in x t v ≡ Accepted (numbers_from (bound (index_in x t) v))
   -- a complete index gives a stopped recorder
   pub recorders : (x : AreaIndex) (t : Tables) (from : ℕ) → ValidIn x t
@@ -104,10 +99,10 @@ pub record RefusesNothingIn : Type 0 where
         checkpoints = 0;
         frames = 0;
         parts = 0;
-        mode = cond (is_some (end_in x.ending)) Stopped Running;
+        mode = cond (is_some x.ending) Stopped Running;
       })
   pub hint_recorders : (x : AreaIndex) (t : Tables) → ValidIn x t → x.spacing ≢ 0 → x.most ≢ 0
-      → created_in x t ≡ createdAs.Recorder (record { spacing = x.spacing; last = Never; tail = Empty; count = 0 })
+      → created_in x t ≡ createdAs.Recorder (record { spacing = x.spacing; last = None; tail = None; count = 0 })
   -- spacing or M of 0: no hint recorder
   pub no_hint_recorder : (x : AreaIndex) (t : Tables) → ValidIn x t → (eqb x.spacing 0 || eqb x.most 0) ≡ true
       → created_in x t ≡ createdAs.Nothing
@@ -148,7 +143,7 @@ pub record RefusesNothingIn : Type 0 where
       ≡ Accepted x → question3 (room_of t) (limited limit x) ≡ true
       → is_accepted (load_in a b limit t).answer ≡ true
   -- reading a disc
-  pub records : (r : Recorder) (u : RecorderTables) (lsn threshold malformed : ℕ) (f : UnderAssembly)
+  pub records : (r : Recorder) (u : RecorderTables) (lsn threshold malformed : ℕ) (f : Option under.Assembling)
       (b sector : List ℕ) → ValidRecorderIn r u
       → let v = recorder_in r u in let a = assembling_in f b in
       question5 v lsn sector ≡ true → question6 v threshold malformed ≡ true → question7 v lsn a ≡ true
@@ -159,9 +154,9 @@ pub record RefusesNothingIn : Type 0 where
       is_running r.mode ≡ true → next_number v ≡ boundaries r.area r.interval
       → end_ok r.area (last_checkpoint v.checkpoints) e ≡ true
       → finished_in r u e ≡ recordedAs.Recorder (recorder_from (with_mode v (Finished e)))
-  pub absorbs : (x : AreaIndex) (t : Tables) (image : ImageId) (given : List ℕ) (r : Recorder) (u : RecorderTables)
+  pub absorbs : (x : AreaIndex) (t : Tables) (image : Option ℕ) (given : List ℕ) (r : Recorder) (u : RecorderTables)
       → ValidIn x t → ValidRecorderIn r u
-      → is_stopped r.mode ≡ false → let i = index_in x t in let v = recorder_in r u in let id = id_in image
+      → is_stopped r.mode ≡ false → let i = index_in x t in let v = recorder_in r u in let id = image
       in let ms = given_in given in
       question8 i id ≡ true → question9 i v ≡ true → question10 i v ≡ true → question11 i v ≡ true
       → question12 i v id ms ≡ true
@@ -169,7 +164,7 @@ pub record RefusesNothingIn : Type 0 where
       absorb_in x t image given r u ≡ absorbing.absorbed_out (absorbed 0 (numbers_from y) (recorder_from (emptied v)))
       (tables_from y t)
   -- a stopped recorder brings nothing and is no refusal after 4
-  pub stopped : (x : AreaIndex) (t : Tables) (image : ImageId) (given : List ℕ) (r : Recorder) (u : RecorderTables)
+  pub stopped : (x : AreaIndex) (t : Tables) (image : Option ℕ) (given : List ℕ) (r : Recorder) (u : RecorderTables)
       → ValidIn x t → TableBytes t → ValidRecorderIn r u
       → is_stopped r.mode ≡ true → absorb_in x t image given r u ≡ absorbing.absorbed_out (absorbed 0 x r) t
   pub sees : (r : HintRecorder) (t : List ℕ) (lsn : ℕ) (sector : List ℕ) → ValidHintRecorderIn r t → (n : ℕ)
@@ -184,7 +179,7 @@ pub record RefusesNothingIn : Type 0 where
       → let v = hint_recorder_in r t in let hs = flushed_list v.tail v.list in
       flush_in r t
       ≡ hinting.seen_out (seenAs.Recorder (hint_recorder_from
-      (record { spacing = v.spacing; last = v.last; tail = none; list = hs }))) (over (bytes_of encode_hint hs) t)
+      (record { spacing = v.spacing; last = v.last; tail = None; list = hs }))) (over (bytes_of encode_hint hs) t)
   pub takes : (r : HintRecorder) (t : List ℕ) → ValidHintRecorderIn r t → let v = hint_recorder_in r t in
       take_in r t
       ≡ takenAs.List (record {
@@ -193,7 +188,7 @@ pub record RefusesNothingIn : Type 0 where
       })
   -- numbers, lengths and what a file says
   pub frontiers : (x : AreaIndex) → area_ok x.area ≡ true → frontier_in x
-      ≡ Accepted (frontier_of x.area x.interval x.checkpoints (end_in x.ending))
+      ≡ Accepted (frontier_of x.area x.interval x.checkpoints x.ending)
   pub boundary : (x : AreaIndex) (j : ℕ) → area_ok x.area ≡ true → numbers_ok x.interval x.budget ≡ true
       → checkpoint_lsn x j ≡ cond (ltb j (boundaries x.area x.interval))
       (boundaryAs.Lsn (lsn_of x.area x.interval j)) boundaryAs.Nothing
@@ -218,7 +213,7 @@ pub record RefusesNothingIn : Type 0 where
   pub rows : (b : List ℕ) (s e : ℕ) (x : Index) → range_ok s e ≡ true → from_bytes (area_in b s e) b ≡ Accepted x
       → row_of b s e ≡ Accepted (row_from x)
   pub rows_of_lines : (l : Line) (b : List ℕ) (r : Row) → length b ≤ max_file → row_of b l.start l.end ≡ Accepted r
-      → line_row (some l) (some b) ≡ Accepted r
+      → line_row (Some l) (Some b) ≡ Accepted r
   -- change request 6; the tables are the coarser list's
   pub coarsens : (x : AreaIndex) (t : Tables) (k : ℕ) (u : Tables) → ValidIn x t
       → let i = index_in x t in let y = coarser k i in
@@ -270,11 +265,11 @@ MergeTakesIn =
 -- of numbers and tables of their types
 abbrev pub AbsorbTakesIn : Type 0
 AbsorbTakesIn =
-    (x : AreaIndex) (t : Tables) (image : ImageId) (given : List ℕ) (r : Recorder) (u : RecorderTables) → LentIn x t
+    (x : AreaIndex) (t : Tables) (image : Option ℕ) (given : List ℕ) (r : Recorder) (u : RecorderTables) → LentIn x t
     → RecorderBytes u
     → let o = absorb_in x t image given r u in
     o.answer.number ≡ 0 → is_stopped r.mode ≡ false
-    → AbsorbedOf (index_in x t) (recorder_in r u) (id_in image) (given_in given) (index_in o.answer.index o.tables)
+    → AbsorbedOf (index_in x t) (recorder_in r u) image (given_in given) (index_in o.answer.index o.tables)
 
 -- ---- save tells an invented length
 -- the number is the file's length, 88 at least, and that many bytes are the file
@@ -293,11 +288,11 @@ pub record PlanLooksIn : Type 0 where
   pub answers : (x : AreaIndex) (t : Tables) (f : ℕ) (p : Plan) → plan_in x t f ≡ Accepted p
       → Looked (index_in x t).scan f p
   -- at or past the end of a complete list it says so
-  pub ends : (x : AreaIndex) (t : Tables) (f : ℕ) (e : EndState) → ValidIn x t → x.ending ≡ Closed e
+  pub ends : (x : AreaIndex) (t : Tables) (f : ℕ) (e : EndState) → ValidIn x t → x.ending ≡ Some e
       → e.threshold ≤ f → plan_in x t f ≡ Accepted (End e)
 
 abbrev pub HintLooksIn : Type 0
 HintLooksIn =
-    (x : AreaIndex) (t : Tables) (first end playtime i : ℕ) → hint_in x t first end playtime ≡ Accepted none
+    (x : AreaIndex) (t : Tables) (first end playtime i : ℕ) → hint_in x t first end playtime ≡ Accepted None
     → i < x.hints
     → near first (get_or (index_in x t).hinting.hints i no_hint) ≡ false

@@ -1,6 +1,5 @@
 -- Change request 10: what the views of a list tell, and to whom.
-use Rattle.std.specs.Prelude.{ℕ, ◌≤◌, ◌≡◌, ◌≢◌, true, List, length, take, drop}
-use Rattle.std.proofs.Math.Option.{some}
+use Rattle.std.specs.Prelude.{ℕ, ◌≤◌, ◌≡◌, ◌≢◌, true, List, length, take, drop, Some}
 use Rattle.rules.specs.declared.Area.{Area}
 use Rattle.rules.specs.declared.AreaIndex.{AreaIndex}
 use Rattle.rules.specs.Tests.{Answer, Refused, Accepted}
@@ -22,12 +21,12 @@ use Rattle.theorems.specs.Terms.{Valid, ValidIn}
 -- "the bytes of a view determine every field it gives": read, they give the listener's fields back
 abbrev pub ListenerTold : Type 0
 ListenerTold = (l : Lengths) (x : Index) (out : ℕ) (b : List ℕ) → sized x ≡ true → view listener l x out ≡ Accepted b
-    → read_listener b ≡ some (listener_of x)
+    → read_listener b ≡ Some (listener_of x)
 
 -- and the workshop's
 abbrev pub WorkshopTold : Type 0
 WorkshopTold = (l : Lengths) (x : Index) (out : ℕ) (b : List ℕ) → sized x ≡ true → view workshop l x out ≡ Accepted b
-    → read_workshop b ≡ some (workshop_of x)
+    → read_workshop b ≡ Some (workshop_of x)
 
 -- so lists with equal views have equal fields, and a listener's view is never a workshop's
 pub record ViewsTell : Type 0 where

@@ -8,7 +8,7 @@ use Rattle.rules.specs.Values.{stated}
 use Rattle.rules.specs.File.{encode_lsn, encode_hint, encode_confirmation, or_zero, bit}
 use Rattle.rules_view.specs.View.{Seen, Listener, Backing, Head, Totals, seen_from, backings_of, lengths_of, listener_of, word_bytes, total_words, encode_backing, encode_held_length, encode_mark}
 use Rattle.tables.specs.Tables.{checkpoints_in, parts_in, lsns_in, kept_in, confirmations_in}
-use Rattle.tables.specs.Index.{index_in, tables, end_in}
+use Rattle.tables.specs.Index.{index_in, tables}
 
 -- ---- the words
 abbrev pub head_in : ℕ → AreaIndex → Head
@@ -23,7 +23,7 @@ head_in role x =
       start = x.area.start;
       end = x.area.end;
       interval = x.interval;
-      complete = bit (is_some (end_in x.ending));
+      complete = bit (is_some x.ending);
       count = x.checkpoints;
     }
 

@@ -1,4 +1,5 @@
 -- What `commit` needs holds where nothing refuses an absorb. Assumes nothing.
+use Rattle.std.specs.Prelude.{Option, ℕ}
 use mathlib.Core.Path.{◌≡◌, refl}
 use mathlib.Core.Bool.{Bool, true, false, ◌&&◌}
 use mathlib.Core.List.{List}
@@ -11,7 +12,6 @@ use Rattle.field.specs.Records.{Bytes}
 use Rattle.field.proofs.Format.{bytes_records}
 use Rattle.field.proofs.Records.{records_length}
 use Rattle.rules.specs.declared.AreaIndex.{AreaIndex}
-use Rattle.rules.specs.declared.ImageId.{ImageId}
 use Rattle.rules.specs.declared.Recorder.{Recorder}
 use Rattle.rules.specs.Values.{max32}
 use Rattle.rules.specs.Sections.{rising, own_lsn, any_lsn}
@@ -21,7 +21,7 @@ use Rattle.rules.proofs.Tests.{test, implied, all→, asked}
 use Rattle.laws.proofs.scans.Absorb.{unstopped}
 use Rattle.laws.proofs.Layouts.{confirmation_layout}
 use Rattle.tables.proofs.Kept.{kept_layout}
-use Rattle.tables.specs.Index.{id_in, Tables, room_of, index_in, kinds_in, or_four, kinded_number}
+use Rattle.tables.specs.Index.{Tables, room_of, index_in, kinds_in, or_four, kinded_number}
 use Rattle.index.specs.Steps.{Passes}
 use Rattle.index.proofs.Lent.{over_same}
 use Rattle.index.proofs.Questions.{passes, passes_hints}
@@ -36,8 +36,8 @@ unfolding kinded_number or_four
 kinded_zero true n e = e
 kinded_zero false n e = test (ltb 0 n && leb n 3) (λ y. rw y at e) (λ y. let z : 4 ≡ 0 = rw y at e in let f : ⊥ = omega arith in absurd f)
 
-module _ {x : AreaIndex} {t : Tables} {image : ImageId} {given : List ℕ} {r : Recorder} {u : RecorderTables} (a : Absorbs x t image given r u) where
-  number_zero : absorb_number (room_of t) (index_in x t) (recorder_room u) (recorder_in r u) (id_in image) (given_in given) ≡ 0
+module _ {x : AreaIndex} {t : Tables} {image : Option ℕ} {given : List ℕ} {r : Recorder} {u : RecorderTables} (a : Absorbs x t image given r u) where
+  number_zero : absorb_number (room_of t) (index_in x t) (recorder_room u) (recorder_in r u) image (given_in given) ≡ 0
   unfolding absorb_refusal
   number_zero = kinded_zero (kinds_in x t && recorder_kinds r u) _ a.accepted
 
@@ -48,7 +48,7 @@ module _ {x : AreaIndex} {t : Tables} {image : ImageId} {given : List ℕ} {r : 
   ten : question10 (index_in x t) (recorder_in r u) ≡ true
   ten = unstopped (recorder_in r u) _ a.brings (asked _ refl number_zero).1.1.1.1.1.1.0
 
-  twelve : question12 (index_in x t) (recorder_in r u) (id_in image) (given_in given) ≡ true
+  twelve : question12 (index_in x t) (recorder_in r u) image (given_in given) ≡ true
   twelve = unstopped (recorder_in r u) _ a.brings (asked _ refl number_zero).1.1.1.1.1.1.1.1.0
 
   own_passes : Passes x t

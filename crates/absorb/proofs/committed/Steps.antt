@@ -1,18 +1,15 @@
 -- The steps of an absorb, put together. Assumes nothing.
+use Rattle.std.specs.Prelude.{Option, None, Some, ℕ}
 use mathlib.Core.Path.{◌≡◌, refl, sym, ap, ◌∙◌}
 use mathlib.Core.Bool.{cond}
 use mathlib.Core.List.{List, ◌++◌}
-use mathlib.Core.Option.{Option}
 use Prim.Native.Nat.{ℕ, ◌-◌}
 use lib.Dec.{ltb}
 use lib.ListN.{length, take, drop}
 use Rattle.field.specs.Records.{bytes_of}
 use Rattle.field.proofs.Records.{records_length}
 use Rattle.rules.specs.declared.AreaIndex.{AreaIndex}
-use Rattle.rules.specs.declared.End.{End}
-use Rattle.rules.specs.declared.End.TheVariants.{Open, Closed}
 use Rattle.rules.specs.declared.EndState.{EndState}
-use Rattle.rules.specs.declared.ImageId.{ImageId}
 use Rattle.rules.specs.declared.Recorder.{Recorder}
 use Rattle.rules.specs.Tests.{or_else}
 use Rattle.rules.specs.Values.{Scan, max_malformed}
@@ -22,7 +19,7 @@ use Rattle.rules.specs.Questions.{end_of}
 use Rattle.rules.specs.Record.{below, moves}
 use Rattle.rules.specs.File.{encode_checkpoint, encode_frame_header, encode_held, encode_lsn, decode_checkpoint, decode_confirmation, over}
 use Rattle.tables.specs.Tables.{lsns_in, decode_kept, kept_in, confirmations_in, given_in}
-use Rattle.tables.specs.Index.{Tables, tables, index_in, store_of, numbers_from, end_in, end_from, id_in, id_from}
+use Rattle.tables.specs.Index.{Tables, tables, index_in, store_of, numbers_from}
 use Rattle.parts.specs.declared.Counts.{Counts}
 use Rattle.parts.specs.Parts.{part_tables, stored_in, Held, held, held_from}
 use Rattle.tables.specs.Recorder.{RecorderTables, recorder_in}
@@ -35,13 +32,12 @@ ends : {y y' : AreaIndex} {a a' b b' c c' d d' e e' f f' g g' : List ℕ} → y 
     → written y (tables a b c d e f g) ≡ written y' (tables a' b' c' d' e' f' g')
 ends p q0 q1 q2 q3 q4 q5 q6 = λ i. written (p i) (tables (q0 i) (q1 i) (q2 i) (q3 i) (q4 i) (q5 i) (q6 i))
 
-end_back : (e : End) → e ≡ end_from (end_in e)
-unfolding end_from end_in
-end_back Open = refl
-end_back (Closed e) = refl
+end_back : (e : Option EndState) → e ≡ e
+end_back None = refl
+end_back (Some e) = refl
 
 -- ---- the absorbed index, part by part
-module _ (x : AreaIndex) (t : Tables) (r : Recorder) (u : RecorderTables) (image : ImageId) (ms : List ℕ) where
+module _ (x : AreaIndex) (t : Tables) (r : Recorder) (u : RecorderTables) (image : Option ℕ) (ms : List ℕ) where
   abbrev own : Scan
   own = (index_in x t).scan
 
@@ -64,7 +60,7 @@ module _ (x : AreaIndex) (t : Tables) (r : Recorder) (u : RecorderTables) (image
   stored_are = rw counts
 
   module _ {n : ℕ} {e : Option EndState} (hn : n ≡ length (own.checkpoints ++ drop (x.checkpoints - r.first) theirs.checkpoints))
-      (he : e ≡ or_else (end_of r.mode) (end_in x.ending)) where
+      (he : e ≡ or_else (end_of r.mode) x.ending) where
     -- the frontier moves
     moves_is : ltb (front_of x) (front_at x n e) ≡ moves own theirs
     moves_is = rw (hn, he, counts)
@@ -77,11 +73,11 @@ module _ (x : AreaIndex) (t : Tables) (r : Recorder) (u : RecorderTables) (image
     malformed_are : cond (ltb (front_of x) (front_at x n e)) (take max_malformed (below (front_at x n e) (given_in ms))) (lsns_in x.malformed t.malformed) ≡ after_scan.malformed
     malformed_are = rw (hn, he, counts)
 
-  module _ {n m : ℕ} {c : Counts} (e : End) {y : AreaIndex} {cs fs st ps ls : List ℕ}
-      (p0 : end_in e ≡ or_else (end_of r.mode) (end_in x.ending))
+  module _ {n m : ℕ} {c : Counts} (e : Option EndState) {y : AreaIndex} {cs fs st ps ls : List ℕ}
+      (p0 : e ≡ or_else (end_of r.mode) x.ending)
       (p1 : Appended x.checkpoints r.checkpoints (x.checkpoints - r.first) t.checkpoints u.checkpoints n cs)
       (p2 : held c (part_tables fs st ps) ≡ parts_taken x r.frames r.parts (part_tables t.frames t.store t.parts) (part_tables u.frames u.store u.parts))
-      (p3 : TakenBelow x n (end_in e) t.malformed ms m ls)
+      (p3 : TakenBelow x n e t.malformed ms m ls)
       (p4 : y ≡ numbers_by x image n c m e) where
     parts_done : held c (part_tables fs st ps) ≡ held_from after_stored (part_tables t.frames t.store t.parts)
     parts_done = p2 ∙ rw stored_are
@@ -95,7 +91,7 @@ module _ (x : AreaIndex) (t : Tables) (r : Recorder) (u : RecorderTables) (image
         let e6 : m ≡ length after_scan.malformed = p3.count ∙ ap length (malformed_are p1.count p0) in
         let e7 : x.hints ≡ length (kept_in x.hints t.hints) = sym (records_length 8 decode_kept x.hints t.hints) in
         let e8 : x.confirmed ≡ length (confirmations_in x.confirmed t.confirmed) = sym (records_length 16 decode_confirmation x.confirmed t.confirmed) in
-        let e9 : e ≡ end_from after_scan.ending = end_back e ∙ ap end_from p0 in
+        let e9 : e ≡ after_scan.ending = end_back e ∙ ap p0 in
         p4 ∙ (λ i. record {
           area = x.area;
           interval = x.interval;
@@ -110,7 +106,7 @@ module _ (x : AreaIndex) (t : Tables) (r : Recorder) (u : RecorderTables) (image
           confirmed = e8 i;
           ending = e9 i;
           fingerprint = x.fingerprint;
-          image = id_from (or_else (id_in x.image) (id_in image));
+          image = (or_else x.image image);
         })
 
     pub committed : Kept x t.hints t.confirmed → written y (tables cs fs st ps ls t.hints t.confirmed) ≡ absorbed_in x t r u image ms

@@ -1,8 +1,8 @@
 -- Question 12 in the tables. Assumes nothing.
+use Rattle.std.specs.Prelude.{Option}
 use mathlib.Core.Path.{◌≡◌, refl, sym, ◌∙◌}
 use mathlib.Core.Bool.{Bool, true, ◌&&◌, ◌||◌, not, and-true}
 use mathlib.Core.List.{List, ◌++◌}
-use mathlib.Core.Option.{Option}
 use Prim.Native.Nat.{ℕ, ◌+◌, ◌-◌, ◌≤◌, ◌<◌}
 use native.Mathlib.Omega.{arith}
 use lib.Dec.{leb, ltb}
@@ -21,7 +21,6 @@ use Rattle.rules.specs.Questions.{area_ok, end_of}
 use Rattle.rules.specs.File.{decode_checkpoint}
 use Rattle.rules.proofs.Tests.{all→}
 use Rattle.tables.specs.Tables.{checkpoints_in, lsns_in, given_in}
-use Rattle.tables.specs.Index.{end_in}
 use Rattle.laws.specs.Twelve.{continues, list_ok, joined_ok}
 use Rattle.absorb.specs.Steps.{list_in, moved_in, twelve_in}
 
@@ -36,10 +35,10 @@ module _ (x : AreaIndex) (cs held : List ℕ) (r : Recorder) (ds ms : List ℕ) 
   joined_list = own ++ drop (x.checkpoints - r.first) theirs
 
   abbrev joined_end : Option EndState
-  joined_end = or_else (end_of r.mode) (end_in x.ending)
+  joined_end = or_else (end_of r.mode) x.ending
 
   twelve_opens : twelve_in x cs held r ds ms
-      ≡ (not (ltb (frontier_of x.area x.interval x.checkpoints (end_in x.ending)) (frontier_of x.area x.interval (x.checkpoints + (r.checkpoints - (x.checkpoints - r.first))) joined_end))
+      ≡ (not (ltb (frontier_of x.area x.interval x.checkpoints x.ending) (frontier_of x.area x.interval (x.checkpoints + (r.checkpoints - (x.checkpoints - r.first))) joined_end))
       || (list_in x.area.start (frontier_of x.area x.interval (x.checkpoints + (r.checkpoints - (x.checkpoints - r.first))) joined_end) (counted joined_list joined_end) (given_in ms) (lsns_in x.malformed held)
       && (continues own (x.checkpoints - r.first) theirs && ending_ok x.area joined_list joined_end)))
   unfolding twelve_in joined_ok list_ok list_in all
@@ -52,7 +51,7 @@ module _ (x : AreaIndex) (cs held : List ℕ) (r : Recorder) (ds ms : List ℕ) 
       ) (simp and-true)
 
   module _ {i n : ℕ} {e : Option EndState} {before front : ℕ} (hi : i ≡ x.checkpoints - r.first) (he : e ≡ joined_end) (hn : n ≡ x.checkpoints + (r.checkpoints - i))
-      (hb : before ≡ frontier_of x.area x.interval x.checkpoints (end_in x.ending)) (hf : front ≡ frontier_of x.area x.interval n e) where
+      (hb : before ≡ frontier_of x.area x.interval x.checkpoints x.ending) (hf : front ≡ frontier_of x.area x.interval n e) where
     is_front : front ≡ frontier_of x.area x.interval (x.checkpoints + (r.checkpoints - (x.checkpoints - r.first))) joined_end
     is_front = hf ∙ rw (hn, hi, he)
 

@@ -12,7 +12,6 @@ use Rattle.rules.specs.declared.Recorder.{Recorder}
 use Rattle.rules.specs.Values.{frontier_of}
 use Rattle.rules.specs.Questions.{area_ok}
 use Rattle.rules.proofs.Tests.{and_right}
-use Rattle.tables.specs.Index.{end_in}
 use Rattle.index.proofs.Questions.{range}
 use Rattle.absorb.specs.Steps.{Joinable, ten_in, Readable}
 
@@ -35,4 +34,4 @@ joinable p j =
 -- the recorder's first checkpoint is one that the index has, or its next
 pub joins_by : (x : AreaIndex) (r : Recorder) → ten_in x r ≡ true → r.first ≤ x.checkpoints
 unfolding ten_in
-joins_by x r e = leb-true r.first x.checkpoints (and_right (leb r.from (frontier_of x.area x.interval x.checkpoints (end_in x.ending))) (leb r.first x.checkpoints) e)
+joins_by x r e = leb-true r.first x.checkpoints (and_right (leb r.from (frontier_of x.area x.interval x.checkpoints x.ending)) (leb r.first x.checkpoints) e)

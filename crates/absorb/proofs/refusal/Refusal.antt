@@ -1,4 +1,5 @@
 -- 1 to 4 of index and recorder with their kind bytes, then 8 to 12. Assumes nothing.
+use Rattle.std.specs.Prelude.{Option, ℕ}
 use mathlib.Core.Path.{◌≡◌, refl, sym, ◌∙◌}
 use mathlib.Core.Bool.{Bool, true, false, ◌&&◌, ◌||◌, cond, and-true}
 use mathlib.Core.List.{List, [], ◌∷◌}
@@ -7,7 +8,6 @@ use borrow.Author.Tests.{eq-eqb, ne_eqb, eqb-true, leb-true}
 use lib.Dec.{eqb}
 use Rattle.field.proofs.Records.{records_length}
 use Rattle.rules.specs.declared.AreaIndex.{AreaIndex}
-use Rattle.rules.specs.declared.ImageId.{ImageId}
 use Rattle.rules.specs.declared.Recorder.{Recorder}
 use Rattle.rules.specs.Tests.{all, each, Ask, ask, first_no}
 use Rattle.rules.specs.Questions.{both, four_of, recorder_four_of, ask_four, question4, recorder_question4}
@@ -18,7 +18,7 @@ use Rattle.rules.proofs.Same.{same_area_eq}
 use Rattle.laws.proofs.scans.Scans.{recorder→}
 use Rattle.laws.specs.Twelve.{list_ok, joined_ok}
 use Rattle.laws.proofs.absorbing.Twelve.{twelve_is}
-use Rattle.tables.specs.Index.{id_in, Tables, room_of, index_in, kinds_in, kinded_number, refusal, lowest}
+use Rattle.tables.specs.Index.{Tables, room_of, index_in, kinds_in, kinded_number, refusal, lowest}
 use Rattle.index.specs.Steps.{held_question4}
 use Rattle.index.proofs.Four.{Later, number_more, lowest_both}
 use Rattle.index.proofs.Questions.{passes, passes_long}
@@ -76,9 +76,9 @@ module _ (x : AreaIndex) (t : Tables) (r : Recorder) (u : RecorderTables) where
           record { area = own.roomy.area; checkpoints = k.checkpoints; malformed = k.malformed; theirs = j.checkpoints; few = j.few }
 
 -- ---- 8 to 12, and all of them
-module _ (x : AreaIndex) (t : Tables) (image : ImageId) (given : List ℕ) (r : Recorder) (u : RecorderTables) where
+module _ (x : AreaIndex) (t : Tables) (image : Option ℕ) (given : List ℕ) (r : Recorder) (u : RecorderTables) where
   abbrev eight : Bool
-  eight = question8 (index_in x t) (id_in image)
+  eight = question8 (index_in x t) image
 
   abbrev nine : Bool
   nine = question9 (index_in x t) (recorder_in r u)
@@ -90,7 +90,7 @@ module _ (x : AreaIndex) (t : Tables) (image : ImageId) (given : List ℕ) (r : 
   eleven = question11 (index_in x t) (recorder_in r u)
 
   abbrev twelve : Bool
-  twelve = question12 (index_in x t) (recorder_in r u) (id_in image) (given_in given)
+  twelve = question12 (index_in x t) (recorder_in r u) image (given_in given)
 
   -- in the tables
   nine_is : nine_in x r ≡ nine
@@ -128,7 +128,7 @@ module _ (x : AreaIndex) (t : Tables) (image : ImageId) (given : List ℕ) (r : 
     unfolding question9 question10
     twelve_in_lemma p q =
         let a = all→ _ p in let b = all→ _ q in
-        twelve_is (index_in x t) (recorder_in r u) (id_in image) (given_in given) own_four (recorder→ (recorder_in r u) their_four)
+        twelve_is (index_in x t) (recorder_in r u) image (given_in given) own_four (recorder→ (recorder_in r u) their_four)
         (sym (same_area_eq x.area r.area a.0)) (sym (eqb-true x.interval r.interval a.1.0)) (leb-true _ _ b.1.0)
         ∙ sym joined_is
 

@@ -1,8 +1,8 @@
 -- The bodies of a right contents table lie inside the file. Assumes nothing.
+use Rattle.std.specs.Prelude.{Option, None, Some}
 use mathlib.Core.Path.{◌≡◌, refl}
 use mathlib.Core.Bool.{true, false}
 use mathlib.Core.List.{List, [], ◌∷◌}
-use mathlib.Core.Option.{Option, none, some}
 use Prim.Native.Nat.{ℕ, ◌+◌, ◌≤◌}
 use native.Mathlib.Omega.{arith}
 use borrow.Author.Tests.{eqb-true}
@@ -33,20 +33,20 @@ pub laid_below : (size s at : ℕ) (es : List Entry) → laid size s at es ≡ t
 laid_below size s at (e ∷ es) h = let g = laid_below size (e.slot + 1) (at + e.len) es (laid→ size s at e es h).rest in omega arith
 laid_below size s at [] h = let g = none_laid size s at h in omega arith
 
-pub laid_inside : (size s at k : ℕ) (es : List Entry) (e : Entry) → laid size s at es ≡ true → entry_of k es ≡ some e → e.offset + e.len ≤ size
+pub laid_inside : (size s at k : ℕ) (es : List Entry) (e : Entry) → laid size s at es ≡ true → entry_of k es ≡ Some e → e.offset + e.len ≤ size
 unfolding entry_of
 laid_inside size s at k [] e h q = let z : ◌≡◌ {A = ℕ} 0 1 = cc in let f : ⊥ = omega arith in absurd f
 laid_inside size s at k (d ∷ es) e h q =
     let g = laid→ size s at d es h in
     let b = laid_below size (d.slot + 1) (at + d.len) es g.rest in
     test (eqb d.slot k)
-    (λ t. let w : some d ≡ some e = rw t at q in let p : d ≡ e = cc in rw (← p) (omega (arith, g.here, b)))
+    (λ t. let w : Some d ≡ Some e = rw t at q in let p : d ≡ e = cc in rw (← p) (omega (arith, g.here, b)))
     (λ t. laid_inside size (d.slot + 1) (at + d.len) k es e g.rest (rw t at q))
 
 entry_place : (o : Option Entry) → entry_in (place_from o) ≡ o
 unfolding entry_in place_from
-entry_place none = refl
-entry_place (some e) = refl
+entry_place None = refl
+entry_place (Some e) = refl
 
 module _ (b : List ℕ) (ok : contents_ok b ≡ true) (k : ℕ) where
   contents_laid : laid (length b) 0 (table_size (count_in b)) (entries_in b) ≡ true
@@ -55,8 +55,8 @@ module _ (b : List ℕ) (ok : contents_ok b ≡ true) (k : ℕ) where
 
   place_inside : (o : Option Entry) → entry_of k (entries_in b) ≡ o → Inside b (place_from o)
   unfolding place_from
-  place_inside none e = tt
-  place_inside (some d) e = laid_inside (length b) 0 (table_size (count_in b)) k (entries_in b) d contents_laid e
+  place_inside None e = tt
+  place_inside (Some d) e = laid_inside (length b) 0 (table_size (count_in b)) k (entries_in b) d contents_laid e
 
 pub locates : (b : List ℕ) {p q : SlotEntry} → Lists p q ≡ contents_in b → Locates b p q
 unfolding contents_in contents_from

@@ -1,8 +1,8 @@
 -- What is told of a disc file's sizes. Assumes nothing.
+use Rattle.std.specs.Prelude.{Some}
 use mathlib.Core.Path.{◌≡◌, ◌∙◌}
 use mathlib.Core.Bool.{Bool, true, false, ◌&&◌}
 use mathlib.Core.List.{List}
-use mathlib.Core.Option.{some}
 use Prim.Native.Nat.{ℕ, ◌+◌, ◌-◌}
 use native.Mathlib.Omega.{arith}
 use lib.ListN.{take, drop}
@@ -31,7 +31,7 @@ module _ (a : Area) (limit : ℕ) (b : List ℕ) where
   absent h = rw h
 
   pub present : (s : Sized) (r : BodySized) {p : SlotEntry} {e : Entry} {to : ℕ} → p ≡ At e → to ≡ e.offset + e.len
-      → sized_of s ≡ file_sizes a (take (to - e.offset) (drop e.offset b)) limit → body_sized_of r ≡ bind (sized_of s) (λ x. Accepted (some x))
+      → sized_of s ≡ file_sizes a (take (to - e.offset) (drop e.offset b)) limit → body_sized_of r ≡ bind (sized_of s) (λ x. Accepted (Some x))
       → body_sized_of r ≡ body_sizes a limit (body_at b (entry_in p))
   unfolding body_sizes body_at entry_in
   present s r {p} {e} {to} h q f k = let w : to - e.offset ≡ e.len = omega arith in k ∙ rw (h, f, w)

@@ -1,6 +1,5 @@
 -- The last hint of a run, one hint after another. Assumes nothing.
-use Rattle.std.proofs.Common.{◌≡◌, ℕ, ◌<◌, ◌≤◌, cond, ◌&&◌, ltb, List, [], ◌∷◌, refl, le-ltb, lt-ltb}
-use mathlib.Core.Option.{Option, none, some}
+use Rattle.std.proofs.Common.{◌≡◌, ℕ, ◌<◌, ◌≤◌, cond, ◌&&◌, ltb, List, [], ◌∷◌, refl, le-ltb, lt-ltb, Option, None, Some}
 use Rattle.rules.specs.declared.Hint.{Hint}
 use Rattle.rules.specs.Hints.{run_from, or_hint}
 use Rattle.rules.proofs.Tests.{test}
@@ -16,11 +15,11 @@ last_from : (t end : ℕ) (h : Hint) (o : Option Hint) (hs : List Hint)
 unfolding run_last run_from or_hint
 last_from t end h o [] = refl
 last_from t end h o (x ∷ hs) =
-    test (ltb t x.number && ltb x.number end) (λ e. rw e (last_from t end h (some x) hs)) (λ e. rw e)
+    test (ltb t x.number && ltb x.number end) (λ e. rw e (last_from t end h (Some x) hs)) (λ e. rw e)
 
-pub last_is : (t end : ℕ) (h : Hint) (hs : List Hint) → run_last t end h hs ≡ or_hint h (run_from t end none hs)
+pub last_is : (t end : ℕ) (h : Hint) (hs : List Hint) → run_last t end h hs ≡ or_hint h (run_from t end None hs)
 unfolding or_hint
-last_is t end h hs = last_from t end h none hs
+last_is t end h hs = last_from t end h None hs
 
 -- ---- a turn
 module _ (t end : ℕ) (last s : Hint) (hs : List Hint) where

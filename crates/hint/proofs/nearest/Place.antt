@@ -1,7 +1,6 @@
 -- The nearest hint, and that it is near. Assumes nothing.
-use Rattle.std.proofs.Common.{◌≡◌, ℕ, zero, suc, ◌+◌, ◌-◌, ◌%◌, ◌<◌, Bool, true, false, ltb, leb, List, length, get_or, sym, refl, ap, ◌∙◌, add-one, arith, ltb-false, ltb-true, le-ltb, lt-ltb, le-leb}
+use Rattle.std.proofs.Common.{◌≡◌, ℕ, zero, suc, ◌+◌, ◌-◌, ◌%◌, ◌<◌, Bool, true, false, ltb, leb, List, length, get_or, sym, refl, ap, ◌∙◌, add-one, arith, ltb-false, ltb-true, le-ltb, lt-ltb, le-leb, Option, None, Some}
 use mathlib.Core.Bool.{and-true}
-use mathlib.Core.Option.{Option, none, some}
 use Rattle.std.specs.declared.option.Option as code
 use Rattle.std.specs.declared.option.Option.TheVariants.{None, Some}
 use Rattle.std.specs.Option.{IfSome}
@@ -41,13 +40,13 @@ module _ {low d : ℕ} (first : ℕ) (h : Hint) (l : low ≡ first - hint_reach)
 -- ---- the largest
 larger_yes : (hs : List Hint) (o : Option ℕ) (k : ℕ) → true ≡ larger_than hs o k → larger_of hs o k ≡ k
 unfolding larger_than larger_of
-larger_yes hs none k e = refl
-larger_yes hs (some i) k e = rw (← e)
+larger_yes hs None k e = refl
+larger_yes hs (Some i) k e = rw (← e)
 
-larger_no : (hs : List Hint) (o : Option ℕ) (k : ℕ) → false ≡ larger_than hs o k → some (larger_of hs o k) ≡ o
+larger_no : (hs : List Hint) (o : Option ℕ) (k : ℕ) → false ≡ larger_than hs o k → Some (larger_of hs o k) ≡ o
 unfolding larger_than larger_of
-larger_no hs none k e = cc
-larger_no hs (some i) k e = rw (← e)
+larger_no hs None k e = cc
+larger_no hs (Some i) k e = rw (← e)
 
 pub below_next : (o : code.Option ℕ) (j : ℕ) → IfSome o (λ i. i < j) → IfSome o (λ i. i < j + 1)
 below_next None j h = tt
@@ -60,9 +59,9 @@ module _ (checked any : Bool) (n : ℕ) (t : List ℕ) (cs : List Confirmation) 
   largest_skip c = b ∙ sym (rw (add-one, records_at 8 decode_kept n t j no_hint l, ← e, ← c))
 
   module _ (c : true ≡ candidate checked any cs first h) where
-    pub largest_new : true ≡ larger_than (kept_in n t) o j → some j ≡ largest_in checked any (kept_in n t) cs first (j + 1)
+    pub largest_new : true ≡ larger_than (kept_in n t) o j → Some j ≡ largest_in checked any (kept_in n t) cs first (j + 1)
     unfolding largest_in largest_of
-    largest_new g = sym (rw (add-one, records_at 8 decode_kept n t j no_hint l, ← e, ← c, ← b) (ap some (larger_yes (kept_in n t) o j g)))
+    largest_new g = sym (rw (add-one, records_at 8 decode_kept n t j no_hint l, ← e, ← c, ← b) (ap Some (larger_yes (kept_in n t) o j g)))
 
     pub largest_old : false ≡ larger_than (kept_in n t) o j → o ≡ largest_in checked any (kept_in n t) cs first (j + 1)
     unfolding largest_in largest_of
@@ -83,32 +82,32 @@ module _ (checked : Bool) (n : ℕ) (t : List ℕ) (cs : List Confirmation) (fir
   near_all = largest_same _ _ hs (λ i. and-true (near first (get_or hs i no_hint))) n
 
   module _ {o : Option ℕ} (e : o ≡ largest_in checked false hs cs first n) where
-    pub place_confirmed : {i : ℕ} → o ≡ some i → o ≡ hint_place checked hs cs first
+    pub place_confirmed : {i : ℕ} → o ≡ Some i → o ≡ hint_place checked hs cs first
     unfolding hint_place or_else largest_in candidate
     place_confirmed z = z ∙ sym (rw (records_length, ← e, z))
 
-    pub place_any : {q : Option ℕ} → o ≡ none → q ≡ largest_in checked true hs cs first n
+    pub place_any : {q : Option ℕ} → o ≡ None → q ≡ largest_in checked true hs cs first n
         → q ≡ hint_place checked hs cs first
     unfolding hint_place or_else largest_in candidate
     place_any z g = g ∙ near_all ∙ sym (rw (records_length, ← e, z))
 
-    pub start_confirmed : {i : ℕ} → o ≡ some i → Confirmed ≡ start_rule checked hs cs first
+    pub start_confirmed : {i : ℕ} → o ≡ Some i → Confirmed ≡ start_rule checked hs cs first
     unfolding start_rule chosen_by largest_in candidate
     start_confirmed z = sym (rw (records_length, ← e, z))
 
-    pub start_nearest : o ≡ none → Nearest ≡ start_rule checked hs cs first
+    pub start_nearest : o ≡ None → Nearest ≡ start_rule checked hs cs first
     unfolding start_rule chosen_by largest_in candidate
     start_nearest z = sym (rw (records_length, ← e, z))
 
-or_holds : (P : ℕ → Type 0) (o o' : Option ℕ) (i : ℕ) → (o ≡ some i → P i) → (o' ≡ some i → P i) → or_else o o' ≡ some i
+or_holds : (P : ℕ → Type 0) (o o' : Option ℕ) (i : ℕ) → (o ≡ Some i → P i) → (o' ≡ Some i → P i) → or_else o o' ≡ Some i
     → P i
 unfolding or_else
-or_holds P none o' i f g e = g e
-or_holds P (some k) o' i f g e = f e
+or_holds P None o' i f g e = g e
+or_holds P (Some k) o' i f g e = f e
 
 -- the place to begin at is one of the list, numbered below first
 pub place_near : (checked : Bool) (n : ℕ) (t : List ℕ) (cs : List Confirmation) (first i : ℕ)
-    → hint_place checked (kept_in n t) cs first ≡ some i
+    → hint_place checked (kept_in n t) cs first ≡ Some i
     → (i < n) × ((get_or (kept_in n t) i no_hint).number < first)
 unfolding hint_place near
 place_near checked n t cs first i e =

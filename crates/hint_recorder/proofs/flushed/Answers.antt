@@ -12,7 +12,7 @@ returns-in_default c =
 
 pub returns-then-not-has_room : goal.returns-then-not-has_room
 returns-then-not-has_room c =
-    flushed_full c.args.r c.args.list.now c.requires (λ i. (c.type_inv.list i).fits) c.in-Hint.is
+    flushed_full c.args.r c.args.list.now c.requires (λ i. (c.type_inv.list i).fits) c.in-Some.is
     c.has_room.ensures (ap not c.if-not-has_room.true) c.cleared-then-not-has_room.ensures
 
 pub write_given-requires : goal.write_given-requires
@@ -20,5 +20,5 @@ write_given-requires c = omega (arith, c.requires.room, has_room c.args.r.count 
 
 pub returns : goal.returns
 returns c =
-    flushed_listed c.args.r c.args.list.now c.requires (λ i. search rules) c.in-Hint.is
+    flushed_listed c.args.r c.args.list.now c.requires (λ i. search rules) c.in-Some.is
     c.has_room.ensures (ap not c.if-not-has_room.false) c.write_given.ensures c.cleared-2.ensures

@@ -1,8 +1,8 @@
 -- What new and the fingerprint entry answer, by the numbers that refuse. Assumes nothing.
+use Rattle.std.specs.Prelude.{Some}
 use mathlib.Core.Path.{◌≡◌, refl, ap, ◌∙◌}
 use mathlib.Core.Bool.{Bool, true, false, cond}
 use mathlib.Core.List.{[], ◌∷◌}
-use mathlib.Core.Option.{some}
 use Prim.Native.Nat.{ℕ}
 use lib.Dec.{eqb}
 use Rattle.rules.specs.declared.Area.{Area}
@@ -50,8 +50,8 @@ numbers_after_two n m x = test (eqb n 0) (λ e. rw e (numbers_after m x)) (λ e.
 
 pub bound_is : (x : AreaIndex) (t : Tables) (v : ℕ)
     → bound_in x t v
-    ≡ cond (eqb (refusal x t) 0) (cond (agree eqb (stated x.fingerprint) (some v)) (Accepted (checked_of x v)) (Refused 15)) (Refused (refusal x t))
+    ≡ cond (eqb (refusal x t) 0) (cond (agree eqb (stated x.fingerprint) (Some v)) (Accepted (checked_of x v)) (Refused 15)) (Refused (refusal x t))
 unfolding bound_in bind_fingerprint each
 bound_is x t v =
     rw (← checked_is x t v)
-    (ap numbers_of (kinded_index x t (ask (agree eqb (stated x.fingerprint) (some v)) 15 ∷ []) refl refl _) ∙ numbers_after_two (refusal x t) _ _ ∙ after_15 (refusal x t) _ _)
+    (ap numbers_of (kinded_index x t (ask (agree eqb (stated x.fingerprint) (Some v)) 15 ∷ []) refl refl _) ∙ numbers_after_two (refusal x t) _ _ ∙ after_15 (refusal x t) _ _)

@@ -1,8 +1,8 @@
 -- After every accepted call hints and confirmations pass question 4. Assumes nothing.
+use Rattle.std.specs.Prelude.{Some}
 use mathlib.Core.Path.{◌≡◌, refl}
 use mathlib.Core.Bool.{Bool, true}
 use mathlib.Core.List.{[], ◌∷◌, List}
-use mathlib.Core.Option.{some}
 use Prim.Native.Nat.{ℕ, ◌≤◌}
 use native.Mathlib.Omega.{arith}
 use lib.Dec.{eqb}
@@ -68,10 +68,10 @@ mark_holds l x y lsn e =
     let t = four→ l x (question53 x.hinting lsn) 53 _ y (omega arith) e in
     moved t.is (mark_ok x.scan.area x.fingerprint x.hinting lsn t.own (holds_of x t.four))
 
-pub keep_holds : (l : Lengths) (x y : Index) (c : Confirmation) → keep_confirmation l x c ≡ Accepted (some y) → HintingHolds y
+pub keep_holds : (l : Lengths) (x y : Index) (c : Confirmation) → keep_confirmation l x c ≡ Accepted (Some y) → HintingHolds y
 unfolding keep_confirmation
 keep_holds l x y c e =
-    let t = four→ l x (question14 x.scan.area c) 14 _ (some y) (omega arith) e in
+    let t = four→ l x (question14 x.scan.area c) 14 _ (Some y) (omega arith) e in
     let k = with_hinting x (with_confirmed x.hinting (keep (is_checked x.fingerprint) x.hinting.most x.hinting.confirmed c)) in
     let h : HintingHolds k = keep_hinting_ok x.scan.area x.fingerprint x.hinting c t.own (holds_of x t.four) in
     moved (given (keeps_nothing (is_checked x.fingerprint) x.hinting.most) k y t.is) h
@@ -79,7 +79,7 @@ keep_holds l x y c e =
 pub bind_holds : (l : Lengths) (x y : Index) (v : ℕ) → bind_fingerprint l x v ≡ Accepted y → HintingHolds y
 unfolding bind_fingerprint
 bind_holds l x y v e =
-    let t = four→ l x (agree eqb (stated x.fingerprint) (some v)) 15 _ y (omega arith) e in
+    let t = four→ l x (agree eqb (stated x.fingerprint) (Some v)) 15 _ y (omega arith) e in
     moved t.is (bind_ok x.scan.area x.fingerprint v x.hinting (holds_of x t.four))
 
 pub new_holds : (l : Lengths) (a : Area) (k budget spacing most : ℕ) (y : Index) → new l a k budget spacing most ≡ Accepted y → HintingHolds y

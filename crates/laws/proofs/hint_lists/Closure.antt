@@ -1,9 +1,9 @@
 -- Hints and confirmations keep question 4, room and sizes. Assumes nothing.
+use Rattle.std.specs.Prelude.{Option, None, Some}
 use mathlib.Core.Path.{◌≡◌, refl, sym, ap, ◌∙◌}
 use mathlib.Core.Bool.{true, false, not, ◌||◌}
 use mathlib.Core.Logic.{⊎_elim}
 use mathlib.Core.List.{List, []}
-use mathlib.Core.Option.{Option, none, some}
 use Prim.Native.Nat.{ℕ, ◌+◌, ◌/◌, ◌≤◌, min}
 use native.Mathlib.Omega.{arith}
 use lib.Dec.{eqb, leb}
@@ -250,8 +250,8 @@ merged_stated (Checked v) g = refl
 
 pub either_sized : (f g : Option ℕ) → known_sized f ≡ true → known_sized g ≡ true → known_sized (or_else f g) ≡ true
 unfolding or_else
-either_sized none g h k = k
-either_sized (some v) g h k = h
+either_sized None g h k = k
+either_sized (Some v) g h k = h
 
 pub merge_known : (f g : Fingerprint) → known_sized (stated f) ≡ true → known_sized (stated g) ≡ true → known_sized (stated (merged_fingerprint f g)) ≡ true
 merge_known f g h k = rw (merged_stated f g) (either_sized (stated f) (stated g) h k)

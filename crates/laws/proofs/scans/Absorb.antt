@@ -1,9 +1,9 @@
 -- Absorbing keeps question 4, also where the frontier does not move. Assumes nothing.
+use Rattle.std.specs.Prelude.{Option, None, Some}
 use mathlib.Core.Path.{◌≡◌, refl, sym, ap, ◌∙◌}
 use mathlib.Core.Bool.{Bool, true, false, ◌||◌}
 use mathlib.Core.Logic.{⊎_elim}
 use mathlib.Core.List.{List, [], ◌++◌, append-nil}
-use mathlib.Core.Option.{Option, none, some}
 use Prim.Native.Nat.{ℕ, ◌+◌, ◌-◌, ◌*◌, ◌<◌, ◌≤◌, min}
 use native.Mathlib.Nat.{zero-mul, min-le_left, le_of_mul-le-mul_right, eq-or-lt_of_le}
 use native.Mathlib.Omega.{arith}
@@ -62,13 +62,13 @@ module _ (a : Area) (k first : ℕ) (cs ds : List Checkpoint) (ms : List ℕ) (p
       → agree same_end e e' ≡ true → frontier_of a k (length (cs ++ drop (length cs - first) ds)) (or_else e' e) ≤ frontier_of a k (length cs) e
       → ReadIs a k (cs ++ drop (length cs - first) ds) (or_else e' e) ms
   unfolding or_else is_some frontier_of counted ending_ok end_ok
-  still (some v) none h x f f' g m =
+  still (Some v) None h x f f' g m =
       let n = f refl in
       rw (append_none cs (drop (length cs - first) ds) (omega (arith, length-drop (length cs - first) ds))) h
-  still (some v) (some w) h x f f' g m =
+  still (Some v) (Some w) h x f f' g m =
       let n = f refl in let e = agree_eq same_end same_end_eq v w g in
       rw (append_none cs (drop (length cs - first) ds) (omega (arith, length-drop (length cs - first) ds)), ← e) h
-  still none none h x f f' g m =
+  still None None h x f f' g m =
       let es = drop (length cs - first) ds in
       let n = length-append cs es in
       let now = frontier_open a k (length (cs ++ es)) in
@@ -83,11 +83,11 @@ module _ (a : Area) (k first : ℕ) (cs ds : List Checkpoint) (ms : List ℕ) (p
       let q : checkpoints_ok k 0 ds ≡ true = rw o at ok' in
       let t : (last_checkpoint ds).malformed ≡ (last_checkpoint cs).malformed = first_count k ds q l ∙ sym (first_count k cs h.checkpoints (omega arith)) in
       let u : length ds - 1 ≡ length cs - 1 = omega arith in
-      let same : frontier_of a k (length ds) none ≡ frontier_of a k (length cs) none = frontier_open a k (length ds) ∙ ap (lsn_of a k) u ∙ sym was in
+      let same : frontier_of a k (length ds) None ≡ frontier_of a k (length cs) None = frontier_open a k (length ds) ∙ ap (lsn_of a k) u ∙ sym was in
       rw c (record { checkpoints = q; ending = refl; malformed = rw (same, t) h.malformed }))
       (λ (z : 0 < length cs). rw (append_none cs es (omega arith)) h)
       (eq-or-lt_of_le (let z : 0 ≤ length cs = omega arith in z))
-  still none (some w) h x f f' g m =
+  still None (Some w) h x f f' g m =
       let full = f' refl in let was = frontier_open a k (length cs) in let t = all→ _ x in let lo = leb-true w.malformed (a.end - a.start) t.1.1.1.0 in
       ⊎_elim
       (λ (z : 0 ≡ length cs).
@@ -112,8 +112,8 @@ module _ (a : Area) (k first : ℕ) (cs ds : List Checkpoint) (ms : List ℕ) (p
 pub joined_full : (n m first b : ℕ) (e e' : Option EndState) → first ≤ n → n ≤ b → first + m ≤ b → (is_some e ≡ true → n ≡ b) → (is_some e' ≡ true → first + m ≡ b) → is_some (or_else e' e) ≡ true
     → n + (m - (n - first)) ≡ b
 unfolding or_else is_some
-joined_full n m first b e none l w w' f f' x = let y = f x in omega arith
-joined_full n m first b e (some v) l w w' f f' x = let y = f' refl in omega arith
+joined_full n m first b e None l w w' f f' x = let y = f x in omega arith
+joined_full n m first b e (Some v) l w w' f f' x = let y = f' refl in omega arith
 
 module _ (x : Scan) (r : Recorder) (ok : ScanIs x) (ok' : RecorderIs r) (ea : r.area ≡ x.area) (ei : r.interval ≡ x.interval) (pos : 1 ≤ x.interval)
     (joins : r.first ≤ count x) (same : agree same_end x.ending (end_of r.mode) ≡ true) where

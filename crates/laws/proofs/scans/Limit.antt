@@ -1,8 +1,8 @@
 -- What loading with a limit leaves keeps question 4. Assumes nothing.
+use Rattle.std.specs.Prelude.{Option, None, Some}
 use mathlib.Core.Path.{◌≡◌, refl}
 use mathlib.Core.Bool.{Bool, true}
 use mathlib.Core.List.{List, [], ◌∷◌}
-use mathlib.Core.Option.{Option, none, some}
 use Prim.Native.Nat.{ℕ, zero, suc, ◌+◌, ◌-◌, ◌<◌, ◌≤◌, min}
 use native.Mathlib.Omega.{arith}
 use lib.Dec.{leb, ltb}
@@ -60,7 +60,7 @@ module _ (n : ℕ) (ok ok' : Option Held → Held → Bool) (same : (o : Option 
   in_walk o [] e = walk_none ok' keep o
   in_walk o (p ∷ ps) e =
       choose (λ l. walk ok' keep o l ≡ true) (ltb p.frame n) (p ∷ within n ps) []
-      (λ t. walk_cons ok' keep o p _ (same o p (walk_head ok keep o p ps e) (ltb-true p.frame n t)) (in_walk (some p) ps (walk_tail ok keep o p ps e)))
+      (λ t. walk_cons ok' keep o p _ (same o p (walk_head ok keep o p ps e) (ltb-true p.frame n t)) (in_walk (Some p) ps (walk_tail ok keep o p ps e)))
       (λ t. walk_none ok' keep o)
 
 -- the parts that are left reach the n frames that are left
@@ -71,7 +71,7 @@ in_reach n ok f o [] e l = λ k. let m = rw (arrived_none keep o) at k in rw (ar
 in_reach n ok f o (p ∷ ps) e l = λ k.
     choose (λ l. frames_to (arrived keep o l) ≡ n) (ltb p.frame n) (p ∷ within n ps) []
     (λ t. let x = ltb-true p.frame n t in
-    rw (arrived_cons keep o p (within n ps)) (in_reach n ok f (some p) ps (walk_tail ok keep o p ps e) (omega arith) (rw (arrived_cons keep o p ps) at k)))
+    rw (arrived_cons keep o p (within n ps)) (in_reach n ok f (Some p) ps (walk_tail ok keep o p ps e) (omega arith) (rw (arrived_cons keep o p ps) at k)))
     (λ t. let x = ltb-false p.frame n t in let y = (follows→ o p (f o p (walk_head ok keep o p ps e))).1 in rw (arrived_none keep o) (omega arith))
 
 -- and they say what they said
@@ -104,8 +104,8 @@ module _ (a : Area) (k budget first low : ℕ) (cs : List Checkpoint) (fs : List
         frames = rw (frames_walk a low gs) (fit_walk a budget low (unfilled a) low fs (omega arith) (rw (frames_walk a budget fs) at ok.frames));
         parts =
             in_walk n (part_ok a k first cs fs) (part_ok a k first cs gs)
-            (λ o p w m. let h = part→ a k first cs fs o p w in →part a k first cs gs o p (part_fits p h.0 m) h.1) none ps ok.parts;
-        reached = in_reach n (part_ok a k first cs fs) (λ o p w. (part→ a k first cs fs o p w).1) none ps ok.parts (omega arith) (omega arith);
+            (λ o p w m. let h = part→ a k first cs fs o p w in →part a k first cs gs o p (part_fits p h.0 m) h.1) None ps ok.parts;
+        reached = in_reach n (part_ok a k first cs fs) (λ o p w. (part→ a k first cs fs o p w).1) None ps ok.parts (omega arith) (omega arith);
       }
 
   pub limited_says : (P : ℕ → Content → Type 0) → Says P fs ps → Says P (fitting low fs) (within (length (fitting low fs)) ps)

@@ -1,9 +1,9 @@
 -- The part rule keeps the rules of frames and parts, and stores a part's bytes. Assumes nothing.
+use Rattle.std.specs.Prelude.{Option, None, Some}
 use mathlib.Core.Path.{◌≡◌, refl, sym, ap, ◌∙◌, subst}
 use mathlib.Core.Bool.{Bool, true, false, cond}
 use mathlib.Core.Logic.{⊎_elim, ◌⊎◌, inl, inr}
 use mathlib.Core.List.{List, [], ◌∷◌, ◌++◌, append_assoc, append-nil}
-use mathlib.Core.Option.{Option, none, some}
 use Prim.Native.Nat.{ℕ, zero, suc, ◌+◌, ◌-◌, ◌*◌, ◌<◌, ◌≤◌}
 use native.Mathlib.Nat.{eq-or-lt_of_le}
 use native.Mathlib.Omega.{arith}
@@ -111,8 +111,8 @@ held_more : (a : Area) (k budget first : ℕ) (cs : List Checkpoint) (fs gs : Li
 held_more a k budget first cs fs gs ps q h g f o r =
     record {
       frames = f;
-      parts = walk_snoc (part_ok a k first cs gs) keep none ps q (walk_parts a k first cs cs fs gs (λ p. part_grow a k first cs fs gs p g) ps h.parts) o;
-      reached = ap frames_to (arrived_snoc keep none ps q) ∙ r;
+      parts = walk_snoc (part_ok a k first cs gs) keep None ps q (walk_parts a k first cs cs fs gs (λ p. part_grow a k first cs fs gs p g) ps h.parts) o;
+      reached = ap frames_to (arrived_snoc keep None ps q) ∙ r;
     }
 
 -- a part that opens no frame comes after one
@@ -147,7 +147,7 @@ module _ (a : Area) (k budget first : ℕ) (cs : List Checkpoint) (h : Stored) (
   grown_ok o j u =
       let fs = h.frames in let ps = h.parts in let i = length fs - 1 in let q = part_of p i in
       let t = all→ _ j in let n = some_part h p o in
-      let e : latest ps ≡ some (last_part h) = latest_last ps n in
+      let e : latest ps ≡ Some (last_part h) = latest_last ps n in
       let r : suc (last_part h).frame ≡ length fs = rw e at ok.reached in
       let v : suc (last_part h).at ≤ p.at = rw e at rises in
       let more = drop (length (last_frame h).bytes) p.bytes in
@@ -235,7 +235,7 @@ unfolding add_part
 add_part_added budget h p r s =
     test (opens h p) (λ o. rw (s, o) (opened_added h p))
     (λ o.
-    let e : latest h.parts ≡ some (last_part h) = latest_last h.parts (some_part h p o) in
+    let e : latest h.parts ≡ Some (last_part h) = latest_last h.parts (some_part h p o) in
     let n : suc (last_part h).frame ≡ length h.frames = rw e at r in
     rw (s, o) (grown_added h p (omega arith) (stored_joins budget h p s o)))
 
@@ -311,17 +311,17 @@ Each R o ps = (i : ℕ) → i < length ps → R (arrived keep o (take i ps)) (ge
 
 -- a property of what is held that each part passed over or added keeps
 pub add_parts_keep : (Q : Option Held → Stored → Type 0) (R : Option Held → Held → Type 0) (budget : ℕ) (gs : List Frame) (n : ℕ)
-    → ((o : Option Held) (p : Held) (h : Stored) → R o p → p.at < n → Q o h → Q (some p) h)
-    → ((o : Option Held) (p : Held) (h : Stored) → R o p → n ≤ p.at → Q o h → Q (some p) (add_part budget h (piece gs p)))
+    → ((o : Option Held) (p : Held) (h : Stored) → R o p → p.at < n → Q o h → Q (Some p) h)
+    → ((o : Option Held) (p : Held) (h : Stored) → R o p → n ≤ p.at → Q o h → Q (Some p) (add_part budget h (piece gs p)))
     → (o : Option Held) (ps : List Held) (h : Stored) → Each R o ps → Q o h → Q (arrived keep o ps) (add_parts budget gs n ps h)
 add_parts_keep Q R budget gs n skip add o [] h e x = rw (arrived_none keep o, add_parts_none budget gs n h) x
 add_parts_keep Q R budget gs n skip add o (p ∷ ps) h e x =
     let w : R o p = rw (arrived_none keep o) at (e zero (omega arith)) in
-    let v : Each R (some p) ps = λ i l. rw (arrived_cons keep o p (take i ps)) at (e (suc i) (omega arith)) in
+    let v : Each R (Some p) ps = λ i l. rw (arrived_cons keep o p (take i ps)) at (e (suc i) (omega arith)) in
     test (ltb p.at n)
-    (λ t. rw (arrived_cons keep o p ps, add_parts_skip budget gs n p ps h t) (add_parts_keep Q R budget gs n skip add (some p) ps h v (skip o p h w (ltb-true p.at n t) x)))
+    (λ t. rw (arrived_cons keep o p ps, add_parts_skip budget gs n p ps h t) (add_parts_keep Q R budget gs n skip add (Some p) ps h v (skip o p h w (ltb-true p.at n t) x)))
     (λ t. rw (arrived_cons keep o p ps, add_parts_add budget gs n p ps h t)
-    (add_parts_keep Q R budget gs n skip add (some p) ps (add_part budget h (piece gs p)) v (add o p h w (ltb-false p.at n t) x)))
+    (add_parts_keep Q R budget gs n skip add (Some p) ps (add_part budget h (piece gs p)) v (add o p h w (ltb-false p.at n t) x)))
 
 -- what is held, h₀ at first, after parts up to o came in: the rules hold, the parts say what P says, and the next part comes after all
 pub record Taken (P : ℕ → Content → Type 0) (a : Area) (k budget first : ℕ) (cs : List Checkpoint) (n : ℕ) (h₀ : Stored) (o : Option Held) (h : Stored) : Type 0 where
@@ -331,11 +331,11 @@ pub record Taken (P : ℕ → Content → Type 0) (a : Area) (k budget first : �
   pub next : (j : ℕ) → n ≤ j → at_after o ≤ j → at_after (latest h.parts) ≤ j
 
 module _ (P : ℕ → Content → Type 0) (a : Area) (k budget first : ℕ) (cs : List Checkpoint) (n : ℕ) (h₀ : Stored) (gs : List Frame) where
-  take_skip : (o : Option Held) (p : Held) (h : Stored) → at_after o ≤ p.at → p.at < n → Taken P a k budget first cs n h₀ o h → Taken P a k budget first cs n h₀ (some p) h
+  take_skip : (o : Option Held) (p : Held) (h : Stored) → at_after o ≤ p.at → p.at < n → Taken P a k budget first cs n h₀ o h → Taken P a k budget first cs n h₀ (Some p) h
   take_skip o p h w l t = record { keeps = t.keeps; held = t.held; says = t.says; next = λ j x y. t.next j x (omega arith) }
 
   pub take_add : (o : Option Held) (p : Held) (h : Stored) → at_after o ≤ p.at → n ≤ p.at → PieceIs a k first cs (piece gs p) → P p.at (content_of gs p)
-      → Taken P a k budget first cs n h₀ o h → Taken P a k budget first cs n h₀ (some p) (add_part budget h (piece gs p))
+      → Taken P a k budget first cs n h₀ o h → Taken P a k budget first cs n h₀ (Some p) (add_part budget h (piece gs p))
   take_add o p h w l pok q t =
       let rises = t.next p.at l w in
       let h' = add_part budget h (piece gs p) in
@@ -343,7 +343,7 @@ module _ (P : ℕ → Content → Type 0) (a : Area) (k budget first : ℕ) (cs 
       let says' : Says P h'.frames h'.parts =
       ⊎_elim (λ e. rw e t.says) (λ s. added_says P a k budget first cs h h' (piece gs p) t.held t.says q s) b in
       let next' : at_after (latest h'.parts) ≤ suc p.at =
-      ⊎_elim (λ e. rw e (omega arith)) (λ s. rw (s.parts, arrived_snoc keep none h.parts s.new, s.at) (omega arith)) b in
+      ⊎_elim (λ e. rw e (omega arith)) (λ s. rw (s.parts, arrived_snoc keep None h.parts s.new, s.at) (omega arith)) b in
       let keeps' : Keeps h₀ h' = ⊎_elim (λ e. rw e t.keeps) (λ s. keeps_added h₀ h h' (piece gs p) t.keeps s) b in
       record { keeps = keeps'; held = add_part_ok a k budget first cs h t.held (piece gs p) pok rises; says = says'; next = λ j x y. omega arith }
 
@@ -373,13 +373,13 @@ module _ (P : ℕ → Content → Type 0) (a : Area) (k budget budget' first fir
       }
 
   -- before the first part
-  pub add_parts_start : Says P h.frames h.parts → Taken P a k budget first (onward first cs first' ds) (first + length cs) h none h
+  pub add_parts_start : Says P h.frames h.parts → Taken P a k budget first (onward first cs first' ds) (first + length cs) h None h
   add_parts_start s =
       record {
         keeps = keeps_self h;
         held = held_append a k budget first cs (drop (first + length cs - first') ds) h.frames h.parts ok;
         says = s;
-        next = λ j x y. let z = latest_below a k first cs h.frames none h.parts (omega arith) ok.parts in omega arith;
+        next = λ j x y. let z = latest_below a k first cs h.frames None h.parts (omega arith) ok.parts in omega arith;
       }
 
   -- a stretch ps of the other list, after o
@@ -397,7 +397,7 @@ module _ (P : ℕ → Content → Type 0) (a : Area) (k budget budget' first fir
   -- the parts of another list keep the rules over the longer list
   pub add_parts_ok : Says P h.frames h.parts → Says (λ at c. first + length cs ≤ at → P at c) gs qs
       → Taken P a k budget first (onward first cs first' ds) (first + length cs) h (latest qs) (add_parts budget gs (first + length cs) qs h)
-  add_parts_ok s s' = add_parts_on h none qs h ok'.parts s' (add_parts_start s)
+  add_parts_ok s s' = add_parts_on h None qs h ok'.parts s' (add_parts_start s)
 
 -- a part for the next checkpoint
 pub next_part : (a : Area) (k budget first : ℕ) (cs : List Checkpoint) (h : Stored) (c : Checkpoint) (p : Piece) → HeldIs a k budget first cs h.frames h.parts
@@ -417,4 +417,4 @@ next_part a k budget first cs h c p ok at b b' hi s n =
       ends = omega arith;
       number = n;
     })
-    (let z = latest_below a k first cs h.frames none h.parts (omega arith) ok.parts in omega arith)
+    (let z = latest_below a k first cs h.frames None h.parts (omega arith) ok.parts in omega arith)

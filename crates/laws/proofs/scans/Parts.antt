@@ -1,9 +1,9 @@
 -- Frames and parts: the rules as facts, and what the part rule keeps. Assumes nothing.
+use Rattle.std.specs.Prelude.{Option, None, Some}
 use mathlib.Core.Path.{◌≡◌, refl, sym, ap, ◌∙◌}
 use mathlib.Core.Bool.{Bool, true}
 use mathlib.Core.Logic.{⊎_elim}
 use mathlib.Core.List.{List, [], ◌∷◌, ◌++◌}
-use mathlib.Core.Option.{Option, none, some}
 use Prim.Native.Nat.{ℕ, zero, suc, ◌+◌, ◌-◌, ◌<◌, ◌≤◌}
 use native.Mathlib.Omega.{arith}
 use lib.Dec.{eqb, leb}
@@ -90,20 +90,20 @@ frame_at_lemma a budget fs i e l = frames_at a budget (unfilled a) fs i (omega a
 
 -- ---- parts
 abbrev pub keep : Option Held → Held → Option Held
-keep o p = some p
+keep o p = Some p
 
 -- the last part, if any
 abbrev pub latest : List Held → Option Held
-latest ps = arrived keep none ps
+latest ps = arrived keep None ps
 
 -- the lowest number that the part after o may have, and how many frames the parts up to o reach
 abbrev pub at_after : Option Held → ℕ
-at_after none = 0
-at_after (some q) = suc q.at
+at_after None = 0
+at_after (Some q) = suc q.at
 
 abbrev pub frames_to : Option Held → ℕ
-frames_to none = 0
-frames_to (some q) = suc q.frame
+frames_to None = 0
+frames_to (Some q) = suc q.frame
 
 pub record PartIs (a : Area) (k first : ℕ) (cs : List Checkpoint) (fs : List Frame) (p : Held) : Type 0 where
   pub low : first ≤ p.at
@@ -141,8 +141,8 @@ unfolding part_ok belongs
 -- numbers rise, and the frame is the last one or the next
 pub follows→ : (o : Option Held) (p : Held) → follows o p ≡ true → (at_after o ≤ p.at) × (p.frame ≤ frames_to o) × (frames_to o ≤ suc p.frame)
 unfolding follows
-follows→ none p e = let z = eqb-true p.frame 0 e in (omega arith, omega arith, omega arith)
-follows→ (some q) p e =
+follows→ None p e = let z = eqb-true p.frame 0 e in (omega arith, omega arith, omega arith)
+follows→ (Some q) p e =
     let h = all→ _ e in let l = ltb-true q.at p.at h.0 in
     let same = all (eqb p.frame q.frame ∷ leb q.len p.len ∷ eqb q.number p.number ∷ same_kind q.kind p.kind ∷ []) in
     ⊎_elim (λ (z : same ≡ true). let w = eqb-true p.frame q.frame (all→ _ z).0 in (omega arith, omega arith, omega arith))
@@ -152,25 +152,25 @@ follows→ (some q) p e =
 -- a part of a new frame follows
 pub follows_open : (o : Option Held) (p : Held) → at_after o ≤ p.at → p.frame ≡ frames_to o → follows o p ≡ true
 unfolding follows
-follows_open none p l e = eq-eqb _ _ e
-follows_open (some q) p l e =
+follows_open None p l e = eq-eqb _ _ e
+follows_open (Some q) p l e =
     →all _
     (lt-ltb q.at p.at (omega arith), (or_right (all (eqb p.frame q.frame ∷ leb q.len p.len ∷ eqb q.number p.number ∷ same_kind q.kind p.kind ∷ [])) (eq-eqb _ _ e), tt))
 
 -- a part of the last frame follows
 pub follows_same : (q p : Held) → q.at < p.at → p.frame ≡ q.frame → leb q.len p.len ≡ true → eqb q.number p.number ≡ true → same_kind q.kind p.kind ≡ true
-    → follows (some q) p ≡ true
+    → follows (Some q) p ≡ true
 unfolding follows
 follows_same q p t e l n k = →all _ (lt-ltb _ _ t, (or_left (eqb p.frame (suc q.frame)) (→all _ (eq-eqb _ _ e, (l, (n, (k, tt))))), tt))
 
-pub latest_last : (ps : List Held) → 1 ≤ length ps → latest ps ≡ some (last_or no_held ps)
+pub latest_last : (ps : List Held) → 1 ≤ length ps → latest ps ≡ Some (last_or no_held ps)
 latest_last ps l =
     ⊎_elim (λ (z : ps ≡ []). let w : length ps ≡ 0 = ap length z in let y : ⊥ = omega arith in absurd y)
-    (λ (s : Snoc ps). rw s.is (arrived_snoc keep none s.init s.last ∙ ap some (sym (last_or_snoc no_held s.init s.last))))
+    (λ (s : Snoc ps). rw s.is (arrived_snoc keep None s.init s.last ∙ ap Some (sym (last_or_snoc no_held s.init s.last))))
     (ends ps)
 
-pub latest_none : (ps : List Held) → length ps ≡ 0 → latest ps ≡ none
-latest_none [] e = arrived_none keep none
+pub latest_none : (ps : List Held) → length ps ≡ 0 → latest ps ≡ None
+latest_none [] e = arrived_none keep None
 latest_none (p ∷ ps) e = let z : ⊥ = omega arith in absurd z
 
 pub reached_latest : (ps : List Held) → reached ps ≡ frames_to (latest ps)
@@ -181,7 +181,7 @@ reached_latest ps =
 
 pub record HeldIs (a : Area) (k budget first : ℕ) (cs : List Checkpoint) (fs : List Frame) (ps : List Held) : Type 0 where
   pub frames : frames_ok a budget fs ≡ true
-  pub parts : walk (part_ok a k first cs fs) keep none ps ≡ true
+  pub parts : walk (part_ok a k first cs fs) keep None ps ≡ true
   pub reached : frames_to (latest ps) ≡ length fs
 
 pub held→ : (a : Area) (k budget first : ℕ) (cs : List Checkpoint) (fs : List Frame) (ps : List Held) → held_ok a k budget first cs fs ps ≡ true
@@ -200,7 +200,7 @@ unfolding held_ok parts_ok
 pub part_at : (a : Area) (k budget first : ℕ) (cs : List Checkpoint) (fs : List Frame) (ps : List Held) (i : ℕ) → HeldIs a k budget first cs fs ps → i < length ps
     → PartIs a k first cs fs (get_or ps i no_held)
 part_at a k budget first cs fs ps i h l =
-    (part→ a k first cs fs (latest (take i ps)) (get_or ps i no_held) (walk_at (part_ok a k first cs fs) keep no_held none ps i h.parts l)).0
+    (part→ a k first cs fs (latest (take i ps)) (get_or ps i no_held) (walk_at (part_ok a k first cs fs) keep no_held None ps i h.parts l)).0
 
 -- ---- counts
 module _ (a : Area) (k first : ℕ) (cs : List Checkpoint) (fs : List Frame) where
@@ -210,14 +210,14 @@ module _ (a : Area) (k first : ℕ) (cs : List Checkpoint) (fs : List Frame) whe
   parts_few m o [] l b e = omega arith
   parts_few m o (p ∷ ps) l b e =
       let x = walk_head (part_ok a k first cs fs) keep o p ps e in let y = b p x in let z = (part→ a k first cs fs o p x).0.high in
-      let r = parts_few (suc p.at) (some p) ps (omega arith) (λ q w. (follows→ (some p) q (part→ a k first cs fs (some p) q w).1).0) (walk_tail (part_ok a k first cs fs) keep o p ps e) in
+      let r = parts_few (suc p.at) (Some p) ps (omega arith) (λ q w. (follows→ (Some p) q (part→ a k first cs fs (Some p) q w).1).0) (walk_tail (part_ok a k first cs fs) keep o p ps e) in
       omega arith
 
   frames_few : (o : Option Held) (ps : List Held) → walk (part_ok a k first cs fs) keep o ps ≡ true → frames_to (arrived keep o ps) ≤ frames_to o + length ps
   frames_few o [] e = rw (arrived_none keep o) (omega arith)
   frames_few o (p ∷ ps) e =
       let x = (follows→ o p (part→ a k first cs fs o p (walk_head (part_ok a k first cs fs) keep o p ps e)).1).1 in
-      let r = frames_few (some p) ps (walk_tail (part_ok a k first cs fs) keep o p ps e) in
+      let r = frames_few (Some p) ps (walk_tail (part_ok a k first cs fs) keep o p ps e) in
       rw (arrived_cons keep o p ps) (omega arith)
 
   -- the part after the last may have the number of the next checkpoint
@@ -226,28 +226,28 @@ module _ (a : Area) (k first : ℕ) (cs : List Checkpoint) (fs : List Frame) whe
   latest_below o [] l e = rw (arrived_none keep o) l
   latest_below o (p ∷ ps) l e =
       let x = (part→ a k first cs fs o p (walk_head (part_ok a k first cs fs) keep o p ps e)).0.high in
-      rw (arrived_cons keep o p ps) (latest_below (some p) ps (omega arith) (walk_tail (part_ok a k first cs fs) keep o p ps e))
+      rw (arrived_cons keep o p ps) (latest_below (Some p) ps (omega arith) (walk_tail (part_ok a k first cs fs) keep o p ps e))
 
 -- the checkpoints that parts belong to rise
-pub parts_rise : (a : Area) (k first : ℕ) (cs : List Checkpoint) (fs : List Frame) (ps : List Held) → walk (part_ok a k first cs fs) keep none ps ≡ true → (i j : ℕ) → i < j → j < length ps
+pub parts_rise : (a : Area) (k first : ℕ) (cs : List Checkpoint) (fs : List Frame) (ps : List Held) → walk (part_ok a k first cs fs) keep None ps ≡ true → (i j : ℕ) → i < j → j < length ps
     → (get_or ps i no_held).at < (get_or ps j no_held).at
 parts_rise a k first cs fs ps h i j l m =
-    let w = walk_rises (part_ok a k first cs fs) keep (λ p. p.at) at_after 1 (λ o p x. (follows→ o p (part→ a k first cs fs o p x).1).0) (λ o p. omega arith) no_held none ps i j h l m in
+    let w = walk_rises (part_ok a k first cs fs) keep (λ p. p.at) at_after 1 (λ o p x. (follows→ o p (part→ a k first cs fs o p x).1).0) (λ o p. omega arith) no_held None ps i j h l m in
     omega arith
 
 -- no more frames than parts, no more parts than checkpoints, no more bytes than the budget
 pub held_counts : (a : Area) (k budget first : ℕ) (cs : List Checkpoint) (fs : List Frame) (ps : List Held) → HeldIs a k budget first cs fs ps
     → (length fs ≤ length ps) × (length ps ≤ length cs) × (used fs ≤ budget)
 held_counts a k budget first cs fs ps h =
-    let x = frames_few a k first cs fs none ps h.parts in let r = h.reached in
-    let y = parts_few a k first cs fs first none ps (omega arith) (λ p w. (part→ a k first cs fs none p w).0.low) h.parts in
+    let x = frames_few a k first cs fs None ps h.parts in let r = h.reached in
+    let y = parts_few a k first cs fs first None ps (omega arith) (λ p w. (part→ a k first cs fs None p w).0.low) h.parts in
     (omega arith, omega arith, frames_used a budget fs h.frames)
 
 -- ---- nothing held
 pub held_none : (a : Area) (k budget first : ℕ) (cs : List Checkpoint) → HeldIs a k budget first cs [] []
 unfolding frames_ok
 held_none a k budget first cs =
-    record { frames = walk_none (frame_in a budget) fill (unfilled a); parts = walk_none (part_ok a k first cs []) keep none; reached = ap frames_to (arrived_none keep none) }
+    record { frames = walk_none (frame_in a budget) fill (unfilled a); parts = walk_none (part_ok a k first cs []) keep None; reached = ap frames_to (arrived_none keep None) }
 
 -- ---- more frames, more checkpoints
 pub part_grow : (a : Area) (k first : ℕ) (cs : List Checkpoint) (fs gs : List Frame) (p : Held) → Grow fs gs → PartIs a k first cs fs p → PartIs a k first cs gs p
@@ -263,10 +263,10 @@ part_append a k first cs ds fs p h =
 
 -- the walk of parts, where the facts about each are kept
 pub walk_parts : (a : Area) (k first : ℕ) (cs ds : List Checkpoint) (fs gs : List Frame) → ((p : Held) → PartIs a k first cs fs p → PartIs a k first ds gs p) → (ps : List Held)
-    → walk (part_ok a k first cs fs) keep none ps ≡ true → walk (part_ok a k first ds gs) keep none ps ≡ true
+    → walk (part_ok a k first cs fs) keep None ps ≡ true → walk (part_ok a k first ds gs) keep None ps ≡ true
 walk_parts a k first cs ds fs gs w ps e =
     walk_weaken (part_ok a k first cs fs) (part_ok a k first ds gs) keep
-    (λ o p x. let h = part→ a k first cs fs o p x in →part a k first ds gs o p (w p h.0) h.1) none ps e
+    (λ o p x. let h = part→ a k first cs fs o p x in →part a k first ds gs o p (w p h.0) h.1) None ps e
 
 pub held_append : (a : Area) (k budget first : ℕ) (cs ds : List Checkpoint) (fs : List Frame) (ps : List Held) → HeldIs a k budget first cs fs ps
     → HeldIs a k budget first (cs ++ ds) fs ps

@@ -1,8 +1,8 @@
 -- A recorder keeps its questions. Assumes nothing.
+use Rattle.std.specs.Prelude.{Option, None, Some}
 use mathlib.Core.Path.{subst, ◌≡◌, refl, ap}
 use mathlib.Core.Bool.{true, false}
 use mathlib.Core.List.{List, [], ◌∷◌, ◌++◌}
-use mathlib.Core.Option.{Option, none, some}
 use Prim.Native.Nat.{ℕ, ◌+◌, ◌-◌, ◌*◌, ◌<◌, ◌≤◌}
 use native.Mathlib.Omega.{arith}
 use lib.Dec.{eqb, ltb}
@@ -41,8 +41,8 @@ running Stopped e = never {b = false} e refl
 -- the end state of a recorder that is not finished
 pub open_ending : (a : Area) (cs : List Checkpoint) (o : Option EndState) → is_some o ≡ false → ending_ok a cs o ≡ true
 unfolding ending_ok is_some
-open_ending a cs none e = refl
-open_ending a cs (some x) e = never {b = true} refl e
+open_ending a cs None e = refl
+open_ending a cs (Some x) e = never {b = true} refl e
 
 open_mode : (m : Mode) → m ≡ Running → is_some (end_of m) ≡ false
 unfolding end_of is_some
@@ -56,18 +56,18 @@ recording lsn threshold malformed f sector = record { threshold = threshold; bac
 -- a frame under assembly starts in the area before this LSN
 back_low : (r : Recorder) (lsn n : ℕ) (f : Option Assembling) → lsn ≡ r.area.start + n → question7 r lsn f ≡ true → back_of lsn f ≤ n
 unfolding back_of question7
-back_low r lsn n none e q = omega arith
-back_low r lsn n (some f) e q = let l = leb-true r.area.start f.start (all→ _ q).0 in omega arith
+back_low r lsn n None e q = omega arith
+back_low r lsn n (Some f) e q = let l = leb-true r.area.start f.start (all→ _ q).0 in omega arith
 
 assembled_ok : (r : Recorder) (lsn threshold malformed : ℕ) (f : Option Assembling) (sector : List ℕ)
     → HeldIs r.area r.interval r.budget r.first r.checkpoints r.frames r.parts → lsn ≡ lsn_of r.area r.interval (next_number r) → lsn < r.area.end
     → question7 r lsn f ≡ true
     → HeldIs r.area r.interval r.budget r.first (r.checkpoints ++ (recording lsn threshold malformed f sector ∷ [])) (assembled r lsn f).frames (assembled r lsn f).parts
 unfolding assembled back_of question7
-assembled_ok r lsn threshold malformed none sector ok e l q =
-    held_append r.area r.interval r.budget r.first r.checkpoints (recording lsn threshold malformed none sector ∷ []) r.frames r.parts ok
-assembled_ok r lsn threshold malformed (some f) sector ok e l q =
-    let c = recording lsn threshold malformed (some f) sector in let t = all→ _ q in
+assembled_ok r lsn threshold malformed None sector ok e l q =
+    held_append r.area r.interval r.budget r.first r.checkpoints (recording lsn threshold malformed None sector ∷ []) r.frames r.parts ok
+assembled_ok r lsn threshold malformed (Some f) sector ok e l q =
+    let c = recording lsn threshold malformed (Some f) sector in let t = all→ _ q in
     let lo = leb-true r.area.start f.start t.0 in let hi = ltb-true f.start lsn t.1.0 in
     let p : Piece = record { at = next_number r; start = f.start; bytes = f.bytes; number = f.number; kind = f.kind; remaining = f.remaining } in
     choose (λ (h : Stored). HeldIs r.area r.interval r.budget r.first (r.checkpoints ++ (c ∷ [])) h.frames h.parts) (ltb replay_sectors (lsn - f.start))

@@ -1,8 +1,8 @@
 -- Merging and loading leave numbers that fit their types. Assumes nothing.
+use Rattle.std.specs.Prelude.{None}
 use mathlib.Core.Path.{◌≡◌}
 use mathlib.Core.Bool.{Bool, true, cond}
 use mathlib.Core.List.{List, [], ◌∷◌, ◌++◌}
-use mathlib.Core.Option.{none}
 use Prim.Native.Nat.{ℕ, ◌-◌, min}
 use lib.Dec.{leb, ltb}
 use lib.Signed.{mag}
@@ -64,7 +64,7 @@ merge_sized : (budget : ℕ) (gs : List Frame) (n : ℕ) (ps : List Held) (h : S
 merge_sized budget gs n ps h g k s =
     add_parts_keep (λ o x. HeldSized x) (λ o p. part_sized p ≡ true) budget gs n (λ o p x w l t. t)
     (λ o p x w l t. add_part_sized budget x (piece gs p) t (each_take byte_sized p.len (frame_at gs p.frame).bytes (at_sized gs p.frame g)) w)
-    none ps h (λ i l. each_at part_sized no_held ps i k l) s
+    None ps h (λ i l. each_at part_sized no_held ps i k l) s
 
 pub merged_sized : (own other : Scan) → scan_sized own ≡ true → scan_sized other ≡ true → scan_sized (merged_scan own other) ≡ true
 unfolding scan_sized merged_scan

@@ -1,4 +1,5 @@
 -- Absorbing, merging and loading with a limit keep question 4. Assumes nothing.
+use Rattle.std.specs.Prelude.{Option}
 use mathlib.Core.Path.{◌≡◌}
 use mathlib.Core.Bool.{true, cond}
 use mathlib.Core.List.{List}
@@ -19,7 +20,6 @@ use Rattle.laws.proofs.scans.Merge.{further_prefix, merged_ok}
 use Rattle.laws.proofs.scans.Limit.{limited_ok, limited_says}
 use Rattle.laws.proofs.scans.Record.{emptied_sound}
 use Rattle.laws.proofs.scans.Absorb.{absorb_asked, absorbed_ok}
-use mathlib.Core.Option.{Option}
 use Rattle.rules.specs.Load.{limited_scan}
 
 -- ---- scans

@@ -1,8 +1,8 @@
 -- What a limit leaves of an accepted file. Assumes nothing.
+use Rattle.std.specs.Prelude.{None}
 use mathlib.Core.Path.{◌≡◌, refl, subst}
 use mathlib.Core.Bool.{Bool, true, false, cond}
 use mathlib.Core.List.{List}
-use mathlib.Core.Option.{none}
 use Prim.Native.Nat.{ℕ, ◌+◌, ◌-◌, ◌*◌, ◌/◌, ◌≤◌, min}
 use native.Mathlib.Omega.{arith}
 use lib.ListN.{length, drop}
@@ -36,7 +36,7 @@ use Rattle.load.proofs.limit.Sections.{Laid, laid}
 -- a file has no checked mark and no image id
 pub record Plain (x : Index) : Type 0 where
   pub mark : unmarked x.fingerprint ≡ x.fingerprint
-  pub image : x.image ≡ none
+  pub image : x.image ≡ None
 
 held_plain : (p : Bool) (v : ℕ) → unmarked (cond p (fingerprint.Held v) Unknown) ≡ cond p (fingerprint.Held v) Unknown
 unfolding unmarked

@@ -1,6 +1,5 @@
 use mathlib.Core.Bool.{not}
 use mathlib.Core.Path.{ap}
-use Rattle.tables.specs.Index.{end_in}
 use Rattle.index.proofs.Questions.{range}
 use Rattle.recorder.proofs.Calls.{passes_roomy, passes_long, finished_no, finished_5, finished_6, finished_yes}
 use Rattle.recorder.proofs.finish.Goals as goal
@@ -21,13 +20,11 @@ pub ending_ok-requires : goal.ending_ok-requires
 ending_ok-requires c = (range _ (passes_roomy _ _ c.recorder_refuses-number.ensures c.if-number-ne0.false).area).order
 
 pub returns-then-not-ending_ok : goal.returns-then-not-ending_ok
-unfolding end_in
 returns-then-not-ending_ok c =
     finished_6 _ _ c.recorder_refuses-number.ensures _ c.if-number-ne0.false c.at_end.ensures (ap not c.if-not-at_end.false)
     (c.ending_ok.ensures _ c.last_checkpoint-last.ensures) (ap not c.if-not-ending_ok.true)
 
 pub returns : goal.returns
-unfolding end_in
 returns c =
     finished_yes _ _ c.recorder_refuses-number.ensures _ c.if-number-ne0.false c.at_end.ensures (ap not c.if-not-at_end.false)
     (c.ending_ok.ensures _ c.last_checkpoint-last.ensures) (ap not c.if-not-ending_ok.false) c.with_mode.ensures

@@ -1,8 +1,8 @@
 -- What record answers, by the numbers that refuse, and the tables afterwards. Assumes nothing.
+use Rattle.std.specs.Prelude.{Option, None, Some}
 use mathlib.Core.Path.{◌≡◌, refl, sym, ap, ◌∙◌}
 use mathlib.Core.Bool.{true, ◌&&◌, cond, and-true}
 use mathlib.Core.List.{List, [], ◌∷◌, ◌++◌}
-use mathlib.Core.Option.{Option, none, some}
 use Prim.Native.Nat.{ℕ, ◌+◌, ◌*◌, ◌/◌, ◌<◌, ◌≤◌}
 use native.Mathlib.Omega.{arith}
 use borrow.Author.Tests.{eq-eqb, ne_eqb, eqb-true, eqb-false, leb-true, ltb-true}
@@ -15,8 +15,6 @@ use Rattle.field.proofs.Format.{bytes_of_append, bytes_of_one, bytes_records}
 use Rattle.fnv.specs.Fnv.{fnv64}
 use Rattle.rules.specs.declared.Checkpoint.{Checkpoint}
 use Rattle.rules.specs.declared.Recorder.{Recorder}
-use Rattle.rules.specs.declared.UnderAssembly.{UnderAssembly}
-use Rattle.rules.specs.declared.UnderAssembly.TheVariants.{Nothing, Frame}
 use Rattle.rules.specs.Tests.{all, each, Ask, ask, first_no, Accepted, after}
 use Rattle.rules.specs.Values.{lsn_of, boundaries, last_checkpoint, used}
 use Rattle.rules.specs.Values as values
@@ -39,6 +37,7 @@ use Rattle.parts.specs.Steps.{Room}
 use Rattle.parts.proofs.Stored.{over_more}
 use Rattle.parts.proofs.Callers.{room_from}
 use Rattle.rules.specs.declared.Recorded.TheVariants as recorded
+use Rattle.rules.specs.declared.Assembling as under
 use Rattle.tables.specs.Recorder.{RecorderTables, recorder_tables, recorder_room, recorder_in, recorder_kinds, recorder_refusal, recorder_from, recorder_over, assembling_in}
 use Rattle.recorder.specs.Steps.{recorder_held, Roomy, Long, due_in, rises_in, starts_in, assembled_in, record_number, advanced_of}
 use Rattle.recorder.proofs.Calls.{passes_roomy, passes_held, passes_long}
@@ -54,10 +53,10 @@ six_is : (r : Recorder) (t : RecorderTables) (threshold malformed : ℕ)
 unfolding question6 rises_in all
 six_is r t threshold malformed = rw (records_length 24 decode_checkpoint r.checkpoints t.checkpoints) (simp and-true)
 
-seven_is : (r : values.Recorder) (lsn : ℕ) (f : UnderAssembly) (b : List ℕ) → question7 r lsn (assembling_in f b) ≡ starts_in r.area lsn f
+seven_is : (r : values.Recorder) (lsn : ℕ) (f : Option under.Assembling) (b : List ℕ) → question7 r lsn (assembling_in f b) ≡ starts_in r.area lsn f
 unfolding question7 starts_in assembling_in all
-seven_is r lsn Nothing b = refl
-seven_is r lsn (Frame a) b = simp and-true
+seven_is r lsn None b = refl
+seven_is r lsn (Some a) b = simp and-true
 
 -- ---- the call by its number
 out_after : (t : RecorderTables) (n m : ℕ) (x : values.Recorder)
@@ -66,7 +65,7 @@ out_after : (t : RecorderTables) (n m : ℕ) (x : values.Recorder)
 unfolding record_out after
 out_after t n m x = test (eqb n 0) (λ e. rw e (test (eqb m 0) (λ g. rw g) (λ g. rw g))) (λ e. rw (e, e))
 
-module _ (r : Recorder) (t : RecorderTables) (lsn threshold malformed : ℕ) (f : UnderAssembly) (b sector : List ℕ) {n : ℕ} (e : n ≡ record_number r t lsn threshold malformed f (length sector)) where
+module _ (r : Recorder) (t : RecorderTables) (lsn threshold malformed : ℕ) (f : Option under.Assembling) (b sector : List ℕ) {n : ℕ} (e : n ≡ record_number r t lsn threshold malformed f (length sector)) where
   abbrev next : values.Recorder
   next = recorded (recorder_in r t) lsn threshold malformed (assembling_in f b) sector
 
@@ -137,8 +136,8 @@ module _ (r : Recorder) (t : RecorderTables) (lsn threshold malformed : ℕ) (f 
     assembled_is : (o : Option Assembling) → assembled (recorder_in r t) lsn o
         ≡ assembled_in r.budget (stored_in r.frames r.parts (part_tables t.frames t.store t.parts)) (r.first + r.checkpoints) lsn o
     unfolding assembled assembled_in
-    assembled_is none = refl
-    assembled_is (some a) = rw (records_length 24 decode_checkpoint r.checkpoints t.checkpoints)
+    assembled_is None = refl
+    assembled_is (Some a) = rw (records_length 24 decode_checkpoint r.checkpoints t.checkpoints)
 
     checkpoint_over : (c : Checkpoint) → Bytes t.checkpoints → over (bytes_of encode_checkpoint ((recorder_in r t).checkpoints ++ (c ∷ []))) t.checkpoints ≡ sets t.checkpoints (r.checkpoints * 24) (encode_checkpoint c)
     checkpoint_over c y =

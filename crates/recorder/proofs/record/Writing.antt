@@ -1,4 +1,5 @@
 -- What record writes: a checkpoint, and the part of a frame under assembly. Assumes nothing.
+use Rattle.std.specs.Prelude.{Option, None, Some}
 use mathlib.Core.Path.{◌≡◌, ◌∙◌}
 use mathlib.Core.List.{List, [], ◌∷◌, append-nil}
 use Prim.Native.Nat.{ℕ, ◌+◌, ◌-◌, ◌<◌, ◌≤◌}
@@ -10,10 +11,9 @@ use Rattle.field.specs.Records.{Bytes}
 use Rattle.field.proofs.Fields.{fields_put}
 use Rattle.rules.specs.declared.Assembling as declared
 use Rattle.rules.specs.declared.Checkpoint.{Checkpoint}
-use Rattle.rules.specs.declared.UnderAssembly.{UnderAssembly}
-use Rattle.rules.specs.declared.UnderAssembly.TheVariants.{Nothing, Frame}
 use Rattle.rules.specs.PartRule.{add_part}
 use Rattle.rules.specs.File.{encode_checkpoint}
+use Rattle.rules.specs.declared.Assembling as under
 use Rattle.parts.specs.declared.Counts.{Counts}
 use Rattle.parts.specs.Parts.{PartTables, stored_in, Held, held, held_from}
 use Rattle.parts.specs.Steps.{Room}
@@ -27,12 +27,12 @@ unfolding encode_checkpoint
 checkpoint_put t k c e f g h = h ∙ rw (g, f, e) (fields_put 4 (4 ∷ 8 ∷ 8 ∷ []) t k c.threshold (c.back ∷ c.malformed ∷ c.digest ∷ []) ∙ simp append-nil)
 
 -- ---- the part
-module _ {budget : ℕ} {c : Counts} {t : PartTables} (r : Room 1 budget c t) (bf : Bytes t.frames) (bp : Bytes t.parts) (j lsn : ℕ) {frame : UnderAssembly} (b : List ℕ) where
-  pub assembled_none : frame ≡ Nothing → held c t ≡ held_from (assembled_in budget (stored_in c.frames c.parts t) j lsn (assembling_in frame b)) t
+module _ {budget : ℕ} {c : Counts} {t : PartTables} (r : Room 1 budget c t) (bf : Bytes t.frames) (bp : Bytes t.parts) (j lsn : ℕ) {frame : Option under.Assembling} (b : List ℕ) where
+  pub assembled_none : frame ≡ None → held c t ≡ held_from (assembled_in budget (stored_in c.frames c.parts t) j lsn (assembling_in frame b)) t
   unfolding assembled_in assembling_in
   assembled_none e = rw e (stays r.ready r.kinds bf bp)
 
-  module _ (a : declared.Assembling) (is : frame ≡ Frame a) where
+  module _ (a : declared.Assembling) (is : frame ≡ Some a) where
     pub assembled_near : lsn - a.start ≤ 32 → held c t ≡ held_from (assembled_in budget (stored_in c.frames c.parts t) j lsn (assembling_in frame b)) t
     unfolding assembled_in assembling_in
     assembled_near l = rw (is, le-ltb 32 (lsn - a.start) l) (stays r.ready r.kinds bf bp)

@@ -1,6 +1,5 @@
 -- Examples of first records and of the hint recorder: see, flush and take.
-use Rattle.std.specs.Prelude.{ℕ, ◌/◌, ◌%◌, List, [], ◌∷◌, ◌++◌, replicate}
-use Rattle.std.proofs.Math.Option.{Option, none, some}
+use Rattle.std.specs.Prelude.{ℕ, ◌/◌, ◌%◌, List, [], ◌∷◌, ◌++◌, replicate, Option, None, Some}
 use Rattle.rules.specs.declared.First.TheVariants.{Number}
 use Rattle.rules.specs.declared.Hint.{Hint}
 use Rattle.rules.specs.Tests.{Accepted, bind, number_of}
@@ -17,11 +16,11 @@ seeing last tail list = record { spacing = 75; last = last; tail = tail; list = 
 
 -- after a record numbered 100 at LSN 1000
 abbrev pub after100 : HintRecorder
-after100 = seeing (some 100) none (hint_at 1000 100 ∷ [])
+after100 = seeing (Some 100) None (hint_at 1000 100 ∷ [])
 
 -- with 174 at LSN 1001 as its tail
 abbrev pub tail174 : HintRecorder
-tail174 = seeing (some 100) (some (hint_at 1001 174)) (hint_at 1000 100 ∷ [])
+tail174 = seeing (Some 100) (Some (hint_at 1001 174)) (hint_at 1000 100 ∷ [])
 
 -- a sector whose first record has a number below 4,500
 abbrev pub sector_of : ℕ → List ℕ
@@ -29,8 +28,8 @@ sector_of t = 4 ∷ 0 ∷ t / 75 ∷ t % 75 ∷ []
 
 -- ---- answers as numbers
 unfoldable pub tail_numbers : Option Hint → List ℕ
-tail_numbers none = 0 ∷ []
-tail_numbers (some h) = 1 ∷ h.lsn ∷ h.number ∷ []
+tail_numbers None = 0 ∷ []
+tail_numbers (Some h) = 1 ∷ h.lsn ∷ h.number ∷ []
 
 -- the number listed last, the tail and the list
 unfoldable pub seen_numbers : HintRecorder → List ℕ
@@ -42,8 +41,8 @@ taken_numbers t = seen_numbers t.recorder ++ hint_numbers t.list
 
 -- 1, the spacing and the rest of a hint recorder, 0 where there is none
 unfoldable pub spacing_numbers : Option HintRecorder → List ℕ
-spacing_numbers none = 0 ∷ []
-spacing_numbers (some r) = 1 ∷ r.spacing ∷ seen_numbers r
+spacing_numbers None = 0 ∷ []
+spacing_numbers (Some r) = 1 ∷ r.spacing ∷ seen_numbers r
 
 -- with a list that has space for 65,536: the recorder afterwards
 abbrev pub saw : HintRecorder → ℕ → List ℕ → List ℕ
@@ -84,7 +83,7 @@ hint_recorders =
     ∷ example (numbers_of spacing_numbers (hint_recorder ample (empty_index (area 0 1000) 100 100 0 1))) (0 ∷ 0 ∷ [])
     ∷ example (numbers_of spacing_numbers (hint_recorder ample (empty_index (area 0 1000) 100 100 75 0))) (0 ∷ 0 ∷ [])
     -- "lists a record if none was ever listed"
-    ∷ example (saw (seeing none none []) 1000 (sector_of 100)) (0 ∷ 1 ∷ 100 ∷ 0 ∷ 1000 ∷ 100 ∷ [])
+    ∷ example (saw (seeing None None []) 1000 (sector_of 100)) (0 ∷ 1 ∷ 100 ∷ 0 ∷ 1000 ∷ 100 ∷ [])
     -- "spacing 75 after 100 makes 174 the tail, lists 175 and 99"
     ∷ example (saw after100 1001 (sector_of 174)) (0 ∷ 1 ∷ 100 ∷ 1 ∷ 1001 ∷ 174 ∷ 1000 ∷ 100 ∷ [])
     ∷ example (saw after100 1001 (sector_of 175)) (0 ∷ 1 ∷ 175 ∷ 0 ∷ 1000 ∷ 100 ∷ 1001 ∷ 175 ∷ [])
@@ -92,7 +91,7 @@ hint_recorders =
     -- "Listing and flushing clear the tail"
     ∷ example (saw tail174 1002 (sector_of 175)) (0 ∷ 1 ∷ 175 ∷ 0 ∷ 1000 ∷ 100 ∷ 1002 ∷ 175 ∷ [])
     -- "at least last + spacing (saturating)"
-    ∷ example (seen_numbers (seen_record (seeing (some 4294967290) none []) 1000 (Number (record { number = 4294967295; offset = 1 }))))
+    ∷ example (seen_numbers (seen_record (seeing (Some 4294967290) None []) 1000 (Number (record { number = 4294967295; offset = 1 }))))
     (1 ∷ 4294967295 ∷ 0 ∷ 1000 ∷ 4294967295 ∷ [])
     -- "A record whose LSN exceeds 4,294,967,295 is passed over"
     ∷ example (saw after100 4294967295 (sector_of 175)) (0 ∷ 1 ∷ 175 ∷ 0 ∷ 1000 ∷ 100 ∷ 4294967295 ∷ 175 ∷ [])

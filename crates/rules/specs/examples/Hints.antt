@@ -1,6 +1,5 @@
 -- Examples of the fingerprint entry, add_hints, keep_confirmation and hint.
-use Rattle.std.specs.Prelude.{ℕ, List, [], ◌∷◌}
-use Rattle.std.proofs.Math.Option.{none}
+use Rattle.std.specs.Prelude.{ℕ, List, [], ◌∷◌, None}
 use Rattle.rules.specs.declared.Confirmation.{Confirmation}
 use Rattle.rules.specs.declared.Fingerprint.{Fingerprint}
 use Rattle.rules.specs.declared.Fingerprint.TheVariants.{Unknown, Checked}
@@ -14,7 +13,7 @@ use Rattle.rules.specs.examples.Starred.{ample, area, hint_at, confirmed_at, ind
 -- ---- values
 -- an index of 0..1000 without checkpoints
 abbrev pub hinting : Fingerprint → ℕ → List Hint → List Confirmation → Index
-hinting f most hs qs = index_of (area 0 1000) 100 [] none f most hs qs
+hinting f most hs qs = index_of (area 0 1000) 100 [] None f most hs qs
 
 -- with a checked fingerprint, under M, confirmed at LSN 10 with threshold 5 and digest 1
 abbrev pub confirming : ℕ → Index
@@ -81,7 +80,7 @@ additions =
     ∷ example (added (hinting Unknown 2048 (hint_at 100 10 ∷ []) []) (hint_at 100 1166881 ∷ [])) (13 ∷ [])
     -- "add_hints drops LSNs outside the area"
     ∷ example
-    (added (index_of (area 100 1000) 100 [] none Unknown 2048 [] []) (hint_at 1000 4 ∷ hint_at 999 3 ∷ hint_at 100 2 ∷ hint_at 99 1 ∷ []))
+    (added (index_of (area 100 1000) 100 [] None Unknown 2048 [] []) (hint_at 1000 4 ∷ hint_at 999 3 ∷ hint_at 100 2 ∷ hint_at 99 1 ∷ []))
     (0 ∷ 100 ∷ 2 ∷ 999 ∷ 3 ∷ [])
     -- "above the limit M thins to M − M/4": 4 stay 4, 5 become 3
     ∷ example (added three4 (hint_at 40 21 ∷ [])) (0 ∷ 10 ∷ 0 ∷ 20 ∷ 10 ∷ 30 ∷ 20 ∷ 40 ∷ 21 ∷ [])
@@ -151,7 +150,7 @@ hints =
     -- "the sums after it saturate"
     ∷ example
     (numbers_of hinted_numbers
-    (hint ample (index_of (area 0 4294967295) 65536 [] none Unknown 2048 (hint_at 200 40 ∷ []) []) 45 4294967295 0))
+    (hint ample (index_of (area 0 4294967295) 65536 [] None Unknown 2048 (hint_at 200 40 ∷ []) []) 45 4294967295 0))
     (0 ∷ 200 ∷ 40 ∷ 18446744073709551615 ∷ 0 ∷ [])
     -- 16: "end not below first?"
     ∷ example (hinted (hint_at 100 10 ∷ []) 45 44) (16 ∷ [])

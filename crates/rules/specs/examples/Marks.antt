@@ -1,6 +1,5 @@
 -- Examples of change request 11: hints with a kept mark.
-use Rattle.std.specs.Prelude.{ℕ, List, [], ◌∷◌, set}
-use Rattle.std.proofs.Math.Option.{Option, none, some}
+use Rattle.std.specs.Prelude.{ℕ, List, [], ◌∷◌, set, Option, None, Some}
 use Rattle.rules.specs.declared.Fingerprint.TheVariants.{Unknown, Checked}
 use Rattle.rules.specs.declared.Hint.{Hint}
 use Rattle.rules.specs.Tests.{Answer, number_of}
@@ -43,8 +42,8 @@ mark_numbers [] = []
 mark_numbers (h ∷ hs) = h.lsn ∷ h.number ∷ h.mark ∷ mark_numbers hs
 
 unfoldable pub maybe_marks : Option Index → List ℕ
-maybe_marks none = []
-maybe_marks (some x) = mark_numbers x.hinting.hints
+maybe_marks None = []
+maybe_marks (Some x) = mark_numbers x.hinting.hints
 
 abbrev pub marks_after : Answer Index → List ℕ
 marks_after a = numbers_of (λ x. mark_numbers x.hinting.hints) a
@@ -123,7 +122,7 @@ marked_files =
     -- a fingerprint, a confirmation and an absorbed recorder leave the marks
     ∷ example (marks_after (bind_fingerprint ample (under 4 kept3) 9)) (0 ∷ 10 ∷ 0 ∷ 0 ∷ 20 ∷ 10 ∷ 0 ∷ 30 ∷ 11 ∷ 1 ∷ [])
     ∷ example (numbers_of maybe_marks (keep_confirmation ample (hinting (Checked 9) 4 kept3 []) (confirmed_at 10 5 1))) (0 ∷ 10 ∷ 0 ∷ 0 ∷ 20 ∷ 10 ∷ 0 ∷ 30 ∷ 11 ∷ 1 ∷ [])
-    ∷ example (mark_numbers (absorb ample (index_of (area 1000 1250) 100 (checkpoint 0 0 0 ∷ []) none Unknown 4 (kept_at 1010 0 ∷ []) []) ample (from1 (checkpoint 0 0 0 ∷ [])) none []).index.hinting.hints)
+    ∷ example (mark_numbers (absorb ample (index_of (area 1000 1250) 100 (checkpoint 0 0 0 ∷ []) None Unknown 4 (kept_at 1010 0 ∷ []) []) ample (from1 (checkpoint 0 0 0 ∷ [])) None []).index.hinting.hints)
     (1010 ∷ 0 ∷ 1 ∷ [])
     -- and hint answers as without them
     ∷ example (numbers_of hinted_numbers (hint ample (under 4 kept3) 20 40 500)) (numbers_of hinted_numbers (hint ample (under 4 plain3) 20 40 500)) ∷ []

@@ -1,6 +1,5 @@
 -- Examples of merge, the part rule, loading and saving.
-use Rattle.std.specs.Prelude.{ℕ, cond, List, [], ◌∷◌, ◌++◌, eqb, pos, length, set, take}
-use Rattle.std.proofs.Math.Option.{none, some}
+use Rattle.std.specs.Prelude.{ℕ, cond, List, [], ◌∷◌, ◌++◌, eqb, pos, length, set, take, None, Some}
 use Rattle.field.specs.Number.{encode}
 use Rattle.fnv.specs.Fnv.{fnv64}
 use Rattle.rules.specs.declared.Area.{Area}
@@ -25,19 +24,19 @@ use Rattle.rules.specs.examples.Hints.{hinting, fingerprint_numbers}
 -- ---- values
 -- three, with another last checkpoint
 abbrev pub ending : Checkpoint → Index
-ending c = index_of (area 1000 1250) 100 (checkpoint 0 0 0 ∷ checkpoint 0 0 0 ∷ c ∷ []) none Unknown 2048 [] []
+ending c = index_of (area 1000 1250) 100 (checkpoint 0 0 0 ∷ checkpoint 0 0 0 ∷ c ∷ []) None Unknown 2048 [] []
 
 -- thresholds that fall: 4 refuses it
 abbrev pub falling : Index
-falling = index_of (area 1000 1250) 100 (checkpoint 5 0 0 ∷ checkpoint 0 0 0 ∷ []) none Unknown 2048 [] []
+falling = index_of (area 1000 1250) 100 (checkpoint 5 0 0 ∷ checkpoint 0 0 0 ∷ []) None Unknown 2048 [] []
 
 -- without checkpoints
 abbrev pub over : Area → ℕ → Index
-over a k = index_of a k [] none Unknown 2048 [] []
+over a k = index_of a k [] None Unknown 2048 [] []
 
 -- complete, with this end threshold
 abbrev pub closed_at : ℕ → Index
-closed_at t = index_of (area 1000 1250) 100 three.scan.checkpoints (some (record { threshold = t; malformed = 0 })) Unknown 2048 [] []
+closed_at t = index_of (area 1000 1250) 100 three.scan.checkpoints (Some (record { threshold = t; malformed = 0 })) Unknown 2048 [] []
 
 -- the area 1000..1250 of an image with one sector more
 abbrev pub larger : Area
@@ -59,12 +58,12 @@ assembled cs fs ps =
             checkpoints = cs;
             frames = fs;
             parts = ps;
-            ending = none;
+            ending = None;
             malformed = [];
           };
       hinting = record { spacing = 8; most = 2048; hints = []; confirmed = [] };
       fingerprint = Unknown;
-      image = none;
+      image = None;
     }
 
 abbrev pub part_at : ℕ → ℕ → Held

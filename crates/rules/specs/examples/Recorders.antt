@@ -1,6 +1,5 @@
 -- Examples of recorder, record and finish.
-use Rattle.std.specs.Prelude.{ℕ, List, [], ◌∷◌, pos, length, replicate}
-use Rattle.std.proofs.Math.Option.{Option, none, some}
+use Rattle.std.specs.Prelude.{ℕ, List, [], ◌∷◌, pos, length, replicate, Option, None, Some}
 use Rattle.rules.specs.declared.Checkpoint.{Checkpoint}
 use Rattle.rules.specs.declared.EndState.{EndState}
 use Rattle.rules.specs.declared.FrameKind.TheVariants.{Dst}
@@ -42,7 +41,7 @@ all_passed = recorder_at 1 (checkpoint 0 0 0 ∷ checkpoint 75 0 3 ∷ []) Runni
 
 -- a frame of n bytes under assembly
 abbrev pub frame_of : ℕ → ℕ → ℕ → Option Assembling
-frame_of start number n = some (record { start = start; number = number; kind = Dst; remaining = pos 0; bytes = replicate n 0 })
+frame_of start number n = Some (record { start = start; number = number; kind = Dst; remaining = pos 0; bytes = replicate n 0 })
 
 abbrev pub sector : List ℕ
 sector = replicate 2048 0
@@ -70,7 +69,7 @@ recorder_numbers r = r.first ∷ r.from ∷ length r.checkpoints ∷ mode_number
 
 -- the answer to a record without a frame
 abbrev pub recorded_number : Recorder → ℕ → ℕ → ℕ → ℕ
-recorded_number r lsn t m = number_of (record_at ample r lsn t m none sector)
+recorded_number r lsn t m = number_of (record_at ample r lsn t m None sector)
 
 -- and with a frame under assembly
 abbrev pub framed_number : ℕ → ℕ → ℕ
@@ -87,14 +86,14 @@ recorders =
     ∷ example (checkpoint_numbers (last_checkpoint (recorded recording 1100 5 1 (frame_of 1090 0 4) (97 ∷ [])).checkpoints))
     (5 ∷ 10 ∷ 1 ∷ 0xaf63dc4c8601ec8c ∷ [])
     -- "No frame under assembly: back 0"
-    ∷ example (numbers_of part_numbers (record_at ample recording 1100 0 0 none sector)) (0 ∷ 0 ∷ 0 ∷ 0 ∷ [])
+    ∷ example (numbers_of part_numbers (record_at ample recording 1100 0 0 None sector)) (0 ∷ 0 ∷ 0 ∷ 0 ∷ [])
     -- "fits the budget": of 100 bytes, 100 are stored and 101 passed over
     ∷ example (numbers_of part_numbers (record_at ample recording 1100 0 0 (frame_of 1067 5 100) sector)) (0 ∷ 33 ∷ 1 ∷ 100 ∷ [])
     ∷ example (numbers_of part_numbers (record_at ample recording 1100 0 0 (frame_of 1067 5 101) sector)) (0 ∷ 33 ∷ 0 ∷ 0 ∷ [])
     -- 5: "is it the due LSN", "inside the area", "not finished or stopped", "with a sector of 2,048 bytes?"
     ∷ example (recorded_number recording 1100 0 0 ∷ recorded_number recording 1200 0 0 ∷ recorded_number all_passed 1300 75 3 ∷ []) (0 ∷ 5 ∷ 5 ∷ [])
     ∷ example (recorded_number (with_mode recording Stopped) 1100 0 0 ∷ recorded_number (with_mode all_passed (Finished (end 80 3))) 1300 75 3 ∷ []) (5 ∷ 5 ∷ [])
-    ∷ example (number_of (record_at ample recording 1100 0 0 none (replicate 2047 0)) ∷ []) (5 ∷ [])
+    ∷ example (number_of (record_at ample recording 1100 0 0 None (replicate 2047 0)) ∷ []) (5 ∷ [])
     -- 6: "do threshold (< LIM + 1) and malformed count (≤ j × interval) not fall?"
     ∷ example (recorded_number after10 1100 10 0 ∷ recorded_number after10 1100 9 0 ∷ []) (0 ∷ 6 ∷ [])
     ∷ example (recorded_number after10 1100 1166881 0 ∷ recorded_number after10 1100 1166882 0 ∷ []) (0 ∷ 6 ∷ [])

@@ -1,6 +1,5 @@
 -- The examples of document 01, and some for its traps: what the definitions give, and what it should be.
-use Rattle.std.specs.Prelude.{ℕ, ◌-◌, cond, ◌≡◌, List, [], ◌∷◌, map, pos, negsuc, length, replicate, set, take}
-use Rattle.std.proofs.Math.Option.{Option, none, some}
+use Rattle.std.specs.Prelude.{ℕ, ◌-◌, cond, ◌≡◌, List, [], ◌∷◌, map, pos, negsuc, length, replicate, set, take, Option, None, Some}
 use Rattle.rules.specs.declared.Area.{Area}
 use Rattle.rules.specs.declared.Checkpoint.{Checkpoint}
 use Rattle.rules.specs.declared.Confirmation.{Confirmation}
@@ -56,12 +55,12 @@ index_of a k cs e f most hs qs =
       scan = record { area = a; interval = k; budget = 100; checkpoints = cs; frames = []; parts = []; ending = e; malformed = [] };
       hinting = record { spacing = 8; most = most; hints = hs; confirmed = qs };
       fingerprint = f;
-      image = none;
+      image = None;
     }
 
 -- three checkpoints with thresholds 0, 0, 75
 abbrev pub three : Index
-three = index_of (area 1000 1250) 100 (checkpoint 0 0 0 ∷ checkpoint 0 0 0 ∷ checkpoint 75 0 0 ∷ []) none Unknown 2048 [] []
+three = index_of (area 1000 1250) 100 (checkpoint 0 0 0 ∷ checkpoint 0 0 0 ∷ checkpoint 75 0 0 ∷ []) None Unknown 2048 [] []
 
 -- a recorder at checkpoint 1, LSN 1100
 abbrev pub recording : Recorder
@@ -80,7 +79,7 @@ recording =
 
 -- a frame of four bytes under assembly that starts in a sector
 abbrev pub assembling : ℕ → Option Assembling
-assembling start = some (record { start = start; number = 5; kind = Dst; remaining = negsuc 0; bytes = 1 ∷ 2 ∷ 3 ∷ 4 ∷ [] })
+assembling start = Some (record { start = start; number = 5; kind = Dst; remaining = negsuc 0; bytes = 1 ∷ 2 ∷ 3 ∷ 4 ∷ [] })
 
 -- an index with a held part of three bytes, in a frame of four, at checkpoint 1 with this back
 abbrev pub holding : ℕ → Index
@@ -94,12 +93,12 @@ holding back =
             checkpoints = checkpoint 0 0 0 ∷ checkpoint 0 back 0 ∷ [];
             frames = record { start = 1100 - back; bytes = 1 ∷ 2 ∷ 3 ∷ 4 ∷ [] } ∷ [];
             parts = record { at = 1; frame = 0; len = 3; number = 5; kind = Dsd; remaining = negsuc 2 } ∷ [];
-            ending = none;
+            ending = None;
             malformed = [];
           };
       hinting = record { spacing = 8; most = 2048; hints = []; confirmed = [] };
       fingerprint = Unknown;
-      image = none;
+      image = None;
     }
 
 -- a new list under the default limits
@@ -108,18 +107,18 @@ empty = empty_index (area 1000 1250) 100 100 8 2048
 
 -- with its first checkpoint
 abbrev pub first : Index
-first = index_of (area 1000 1250) 100 (checkpoint 0 0 0 ∷ []) none Unknown 2048 [] []
+first = index_of (area 1000 1250) 100 (checkpoint 0 0 0 ∷ []) None Unknown 2048 [] []
 
 -- with a hint, and with confirmations
 abbrev pub version2 : Index
-version2 = index_of (area 0 1000) 100 [] none Unknown 2048 (hint_at 100 10 ∷ []) []
+version2 = index_of (area 0 1000) 100 [] None Unknown 2048 (hint_at 100 10 ∷ []) []
 
 abbrev pub version3 : Index
-version3 = index_of (area 0 1000) 100 [] none (Checked 9) 2048 (hint_at 100 10 ∷ []) (confirmed_at 10 1 1 ∷ confirmed_at 20 1 1 ∷ [])
+version3 = index_of (area 0 1000) 100 [] None (Checked 9) 2048 (hint_at 100 10 ∷ []) (confirmed_at 10 1 1 ∷ confirmed_at 20 1 1 ∷ [])
 
 -- complete, with the end threshold 80
 abbrev pub closed : Index → Index
-closed x = index_of x.scan.area x.scan.interval x.scan.checkpoints (some (record { threshold = 80; malformed = 0 })) Unknown 2048 [] []
+closed x = index_of x.scan.area x.scan.interval x.scan.checkpoints (Some (record { threshold = 80; malformed = 0 })) Unknown 2048 [] []
 
 abbrev pub stored_in : Index → Stored
 stored_in x = record { frames = x.scan.frames; parts = x.scan.parts }
@@ -143,8 +142,8 @@ first_numbers (Nothing Missing) = 2 ∷ []
 
 -- 1 and the value where it is known, else 0
 unfoldable pub known_numbers : Option ℕ → List ℕ
-known_numbers none = 0 ∷ []
-known_numbers (some v) = 1 ∷ v ∷ []
+known_numbers None = 0 ∷ []
+known_numbers (Some v) = 1 ∷ v ∷ []
 
 unfoldable pub hint_numbers : List Hint → List ℕ
 hint_numbers [] = []
@@ -161,8 +160,8 @@ plan_numbers (At r) = 1 ∷ r.number ∷ []
 plan_numbers (End e) = 2 ∷ []
 
 unfoldable pub hinted_numbers : Option Hinted → List ℕ
-hinted_numbers none = []
-hinted_numbers (some h) = h.lsn ∷ h.number ∷ h.upper ∷ cond h.later 1 0 ∷ []
+hinted_numbers None = []
+hinted_numbers (Some h) = h.lsn ∷ h.number ∷ h.upper ∷ cond h.later 1 0 ∷ []
 
 -- checkpoints, frames, their bytes, parts, completeness, version, M, hints and confirmations
 unfoldable pub index_numbers : Index → List ℕ
@@ -176,8 +175,8 @@ part_numbers r = (last_checkpoint r.checkpoints).back ∷ length r.parts ∷ use
 
 -- 1 and the confirmations, or 0 where nothing is kept
 unfoldable pub kept_numbers : Option Index → List ℕ
-kept_numbers none = 0 ∷ []
-kept_numbers (some x) = 1 ∷ confirmed_numbers x.hinting.confirmed
+kept_numbers None = 0 ∷ []
+kept_numbers (Some x) = 1 ∷ confirmed_numbers x.hinting.confirmed
 
 -- ---- the table
 pub record Example : Type 0 where
@@ -220,11 +219,11 @@ starred =
     -- M = 2, confirmed at 10 and 20: a new one at 5 is itself dropped
     ∷ example
     (numbers_of kept_numbers
-    (keep_confirmation ample (index_of (area 0 1000) 100 [] none (Checked 9) 2 [] (confirmed_at 10 1 1 ∷ confirmed_at 20 1 1 ∷ [])) (confirmed_at 5 1 1)))
+    (keep_confirmation ample (index_of (area 0 1000) 100 [] None (Checked 9) 2 [] (confirmed_at 10 1 1 ∷ confirmed_at 20 1 1 ∷ [])) (confirmed_at 5 1 1)))
     (0 ∷ 1 ∷ 10 ∷ 1 ∷ 1 ∷ 20 ∷ 1 ∷ 1 ∷ [])
     -- area 0..1000, playtime 500, hints (100,10) (200,40), frames 45 to 75: (200, 40, 349, no)
     ∷ example
-    (numbers_of hinted_numbers (hint ample (index_of (area 0 1000) 100 [] none Unknown 2048 (hint_at 100 10 ∷ hint_at 200 40 ∷ []) []) 45 75 500))
+    (numbers_of hinted_numbers (hint ample (index_of (area 0 1000) 100 [] None Unknown 2048 (hint_at 100 10 ∷ hint_at 200 40 ∷ []) []) 45 75 500))
     (0 ∷ 200 ∷ 40 ∷ 349 ∷ 0 ∷ []) ∷ []
 
 -- the traps

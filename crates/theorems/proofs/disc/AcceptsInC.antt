@@ -1,8 +1,8 @@
 -- Disc files by the calls in C: what is right is accepted. Assumes nothing.
+use Rattle.std.specs.Prelude.{None}
 use mathlib.Core.Path.{◌≡◌, refl, sym, ap, ◌∙◌}
 use mathlib.Core.Bool.{true}
 use mathlib.Core.List.{List, [], ◌∷◌}
-use mathlib.Core.Option.{none}
 use Prim.Native.Nat.{ℕ}
 use Rattle.field.specs.Records.{Bytes}
 use Rattle.rules.specs.declared.Area.{Area}
@@ -53,7 +53,7 @@ pub load_fits : (l : Lengths) (a : Area) (c : List ℕ) (limit : ℕ) (x : Index
 unfolding limited known_sized
 load_fits l a c limit x g e =
     let w = load→ l a c limit x e in
-    let i : x.image ≡ none = ap (λ (y : Index). y.image) (sym w.is) in
+    let i : x.image ≡ None = ap (λ (y : Index). y.image) (sym w.is) in
     let k : known_sized x.image ≡ true = rw i refl in
     list_fits x (load_savable l a c limit x g e) k
 

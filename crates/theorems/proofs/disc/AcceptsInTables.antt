@@ -1,8 +1,8 @@
 -- Disc files in tables: one file for equal content, and what is right is accepted. Assumes nothing.
+use Rattle.std.specs.Prelude.{Option, None, Some}
 use mathlib.Core.Path.{◌≡◌, refl, subst}
 use mathlib.Core.Bool.{◌&&◌}
 use mathlib.Core.List.{List}
-use mathlib.Core.Option.{Option, none, some}
 use Prim.Native.Nat.{ℕ}
 use native.Mathlib.Omega.{arith}
 use lib.ListN.{length, take, drop}
@@ -68,10 +68,10 @@ disc_save_accepts_in =
 
 -- ---- loading
 -- a body is bytes
-pub body_bytes : (b : List ℕ) (o : Option Entry) (c : List ℕ) → Bytes b → body_at b o ≡ some c → Bytes c
+pub body_bytes : (b : List ℕ) (o : Option Entry) (c : List ℕ) → Bytes b → body_at b o ≡ Some c → Bytes c
 unfolding body_at
-body_bytes b none c g e = let z : ◌≡◌ {A = ℕ} 0 1 = cc in let f : ⊥ = omega arith in absurd f
-body_bytes b (some n) c g e =
+body_bytes b None c g e = let z : ◌≡◌ {A = ℕ} 0 1 = cc in let f : ⊥ = omega arith in absurd f
+body_bytes b (Some n) c g e =
     let q : take n.len (drop n.offset b) ≡ c = cc in subst (λ (d : List ℕ). Bytes d) q
     (bytes_part b n.offset n.len g)
 

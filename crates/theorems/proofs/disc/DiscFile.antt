@@ -1,9 +1,9 @@
 -- What holds of disc files. Assumes nothing.
+use Rattle.std.specs.Prelude.{Option, None, Some}
 use mathlib.Core.Path.{◌≡◌, refl, sym, ap, ◌∙◌}
 use mathlib.Core.Logic.{◌≢◌}
 use mathlib.Core.Bool.{Bool, true, false, ◌&&◌}
 use mathlib.Core.List.{List, [], ◌∷◌, ◌++◌, append_assoc}
-use mathlib.Core.Option.{Option, none, some}
 use Prim.Native.Nat.{ℕ, ◌+◌, ◌≤◌, ◌<◌}
 use native.Mathlib.Omega.{arith}
 use borrow.Author.Tests.{eq-eqb, ne_eqb, leb-true, lt-ltb, le-ltb}
@@ -243,11 +243,11 @@ loads_file l m a0 a1 limit xs o0 o1 f p q h k =
     (→bind _ (ap (load_body m a1 limit) (body_is xs f 1) ∙ k) refl))
 
 body_loads : (l : Lengths) (limit : ℕ) (x : Index) → Savable x → question3 l (limited limit x) ≡ true
-    → load_body l x.scan.area limit (some (saved x)) ≡ Accepted (some (limited limit x))
+    → load_body l x.scan.area limit (Some (saved x)) ≡ Accepted (Some (limited limit x))
 unfolding load_body
 body_loads l limit x s q = →bind _ (limited_load l limit x s q) refl
 
-no_body : (l : Lengths) (a : Area) (limit : ℕ) → load_body l a limit none ≡ Accepted none
+no_body : (l : Lengths) (a : Area) (limit : ℕ) → load_body l a limit None ≡ Accepted None
 unfolding load_body
 no_body l a limit = refl
 
@@ -270,10 +270,10 @@ both_load l m l' m' x y out limit b z w p q e g h =
       slots = one {x = x} (omega arith) (one {x = y} (omega arith) nothing);
       rising = rw order at s.rising;
     } in
-    let t0 : saved_of 0 xs ≡ some (saved x) = rw (eq-eqb (slot_of x) 0 p) in
-    let t1 : saved_of 1 xs ≡ some (saved y) = rw (p, eq-eqb (slot_of y) 1 q) refl in
+    let t0 : saved_of 0 xs ≡ Some (saved x) = rw (eq-eqb (slot_of x) 0 p) in
+    let t1 : saved_of 1 xs ≡ Some (saved y) = rw (p, eq-eqb (slot_of y) 1 q) refl in
     ap (λ (c : List ℕ). load_disc l' m' x.scan.area y.scan.area c limit) (sym (ap disc_bytes (sym order) ∙ s.is))
-    ∙ loads_file l' m' x.scan.area y.scan.area limit xs (some (limited limit x)) (some (limited limit y)) f
+    ∙ loads_file l' m' x.scan.area y.scan.area limit xs (Some (limited limit x)) (Some (limited limit y)) f
     (own_area 0 x v.one p) (own_area 1 y u.one q)
     (ap (load_body l' x.scan.area limit) t0 ∙ body_loads l' limit x v g)
     (ap (load_body m' y.scan.area limit) t1 ∙ body_loads m' limit y u h)
@@ -302,20 +302,20 @@ one_loads =
       first = λ l l' m' x a out limit b z p k e g.
           let v = savable l x (one_valid l x out b e) z in
           let f = one_fit l x out b e (omega arith) in
-          let t0 : saved_of 0 (x ∷ []) ≡ some (saved x) = rw (eq-eqb (slot_of x) 0 p) in
-          let t1 : saved_of 1 (x ∷ []) ≡ none = rw p refl in
+          let t0 : saved_of 0 (x ∷ []) ≡ Some (saved x) = rw (eq-eqb (slot_of x) 0 p) in
+          let t1 : saved_of 1 (x ∷ []) ≡ None = rw p refl in
           ap (λ (c : List ℕ). load_disc l' m' x.scan.area a c limit) (sym (one_saves l x out b e).is)
-          ∙ loads_file l' m' x.scan.area a limit (x ∷ []) (some (limited limit x)) none f
+          ∙ loads_file l' m' x.scan.area a limit (x ∷ []) (Some (limited limit x)) None f
           (own_area 0 x v.one p) k
           (ap (load_body l' x.scan.area limit) t0 ∙ body_loads l' limit x v g)
           (ap (load_body m' a limit) t1 ∙ no_body m' a limit);
       second = λ l l' m' y a out limit b z p k e g.
           let v = savable l y (one_valid l y out b e) z in
           let f = one_fit l y out b e (omega arith) in
-          let t0 : saved_of 0 (y ∷ []) ≡ none = rw p refl in
-          let t1 : saved_of 1 (y ∷ []) ≡ some (saved y) = rw (eq-eqb (slot_of y) 1 p) in
+          let t0 : saved_of 0 (y ∷ []) ≡ None = rw p refl in
+          let t1 : saved_of 1 (y ∷ []) ≡ Some (saved y) = rw (eq-eqb (slot_of y) 1 p) in
           ap (λ (c : List ℕ). load_disc l' m' a y.scan.area c limit) (sym (one_saves l y out b e).is)
-          ∙ loads_file l' m' a y.scan.area limit (y ∷ []) none (some (limited limit y)) f k
+          ∙ loads_file l' m' a y.scan.area limit (y ∷ []) None (Some (limited limit y)) f k
           (own_area 1 y v.one p)
           (ap (load_body l' a limit) t0 ∙ no_body l' a limit)
           (ap (load_body m' y.scan.area limit) t1 ∙ body_loads m' limit y v g);
@@ -337,15 +337,15 @@ disc_loads =
           let v = first_valid l x m y out b e in
           let u = second_valid l x m y out b e in
           both_load l m l' m' x y out limit b z w p q e (whole_room limit l l' x v a g) (whole_room limit m m' y u c h)
-          ∙ (λ i. Accepted (disc (some (whole limit l x v a i)) (some (whole limit m y u c i))));
+          ∙ (λ i. Accepted (disc (Some (whole limit l x v a i)) (Some (whole limit m y u c i))));
       first = λ l l' m' x o out limit b z p k e g a.
           let v = one_valid l x out b e in
           one_loads.first l l' m' x o out limit b z p k e (whole_room limit l l' x v a g)
-          ∙ (λ i. Accepted (disc (some (whole limit l x v a i)) none));
+          ∙ (λ i. Accepted (disc (Some (whole limit l x v a i)) None));
       second = λ l l' m' y o out limit b z p k e g a.
           let v = one_valid l y out b e in
           one_loads.second l l' m' y o out limit b z p k e (whole_room limit l m' y v a g)
-          ∙ (λ i. Accepted (disc none (some (whole limit l y v a i))));
+          ∙ (λ i. Accepted (disc None (Some (whole limit l y v a i))));
     }
 
 -- ---- the bodies of a saved disc file
@@ -353,7 +353,7 @@ slot_of_lemma : (x : Index) → question1 x ≡ true → slot_of x ≤ 1
 unfolding question1 area_ok
 slot_of_lemma x h = leb-true (slot_of x) 1 (all→ _ h).0
 
-own_slot : (x : Index) (xs : List Index) → saved_of (slot_of x) (x ∷ xs) ≡ some (saved x)
+own_slot : (x : Index) (xs : List Index) → saved_of (slot_of x) (x ∷ xs) ≡ Some (saved x)
 unfolding saved_of
 own_slot x xs = rw (eq-eqb (slot_of x) (slot_of x) refl)
 
@@ -368,11 +368,11 @@ module _ (x y : Index) (h : entries_ok 0 (contents_of (x ∷ y ∷ [])) ≡ true
       let f = first→ 0 28 x (y ∷ []) h in let g = first→ (slot_of x + 1) (28 + saved_length x) y [] f.rest in omega
       (arith, g.slot)
 
-  second_slot : saved_of (slot_of y) (x ∷ y ∷ []) ≡ some (saved y)
+  second_slot : saved_of (slot_of y) (x ∷ y ∷ []) ≡ Some (saved y)
   second_slot = let l = apart in other_slot (slot_of y) x (y ∷ []) (λ z. omega arith) ∙ own_slot y []
 
 by_slots : (x y : Index) → entries_ok 0 (contents_of (by_slot x y)) ≡ true
-    → (saved_of (slot_of x) (by_slot x y) ≡ some (saved x)) × (saved_of (slot_of y) (by_slot x y) ≡ some (saved y))
+    → (saved_of (slot_of x) (by_slot x y) ≡ Some (saved x)) × (saved_of (slot_of y) (by_slot x y) ≡ Some (saved y))
 unfolding by_slot
 by_slots x y r =
     test (ltb (slot_of x) (slot_of y)) (λ h. rw h (own_slot x (y ∷ []), second_slot x y (rw h at r)))
@@ -397,7 +397,7 @@ by_slots_fit x y p q r =
     }))
 
 list_file : (l : Lengths) (x : Index) (xs : List Index) (b : List ℕ) → Valid l x → Fit xs → disc_bytes xs ≡ b
-    → saved_of (slot_of x) xs ≡ some (saved x)
+    → saved_of (slot_of x) xs ≡ Some (saved x)
     → ListFile l x (body_in b (slot_of x))
 list_file l x xs b v f e h =
     record {
@@ -450,17 +450,17 @@ opened l m a0 a1 b limit d e =
       body1 = rw (← w) v.first;
     }
 
-body_of_lemma : (l : Lengths) (a : Area) (limit : ℕ) (c : List ℕ) (o : Option Index) (t : Option (List ℕ)) → t ≡ some c
+body_of_lemma : (l : Lengths) (a : Area) (limit : ℕ) (c : List ℕ) (o : Option Index) (t : Option (List ℕ)) → t ≡ Some c
     → load_body l a limit t ≡ Accepted o → Loads l a c limit o
 unfolding load_body
 body_of_lemma l a limit c o t e h =
-    let k : bind (load l a c limit) (λ x. Accepted (some x)) ≡ Accepted o = rw e at h in
-    let u = bind→ (load l a c limit) (λ x. Accepted (some x)) o k in
-    record { list = u.value; loads = u.first; is = sym (accepted_eq (some u.value) o u.second) }
+    let k : bind (load l a c limit) (λ x. Accepted (Some x)) ≡ Accepted o = rw e at h in
+    let u = bind→ (load l a c limit) (λ x. Accepted (Some x)) o k in
+    record { list = u.value; loads = u.first; is = sym (accepted_eq (Some u.value) o u.second) }
 
-no_list : (l : Lengths) (a : Area) (limit : ℕ) (o : Option Index) (t : Option (List ℕ)) → t ≡ none
-    → load_body l a limit t ≡ Accepted o → o ≡ none
-no_list l a limit o t e h = sym (accepted_eq none o (sym (ap (load_body l a limit) e ∙ no_body l a limit) ∙ h))
+no_list : (l : Lengths) (a : Area) (limit : ℕ) (o : Option Index) (t : Option (List ℕ)) → t ≡ None
+    → load_body l a limit t ≡ Accepted o → o ≡ None
+no_list l a limit o t e h = sym (accepted_eq None o (sym (ap (load_body l a limit) e ∙ no_body l a limit) ∙ h))
 
 pub bodies_load : BodiesLoad
 bodies_load =

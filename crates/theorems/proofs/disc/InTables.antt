@@ -1,8 +1,8 @@
 -- What holds of disc files, about the calls over lent tables. Assumes nothing.
+use Rattle.std.specs.Prelude.{Option, None, Some}
 use mathlib.Core.Path.{◌≡◌, refl, sym, ap, ◌∙◌}
 use mathlib.Core.Bool.{Bool, true, false, ◌&&◌}
 use mathlib.Core.List.{List}
-use mathlib.Core.Option.{Option, none, some}
 use Prim.Native.Nat.{ℕ}
 use native.Mathlib.Omega.{arith}
 use lib.ListN.{length}
@@ -44,7 +44,7 @@ kinds_passed false r f e = let z : ◌≡◌ {A = ℕ} 0 1 = cc in let y : ⊥ =
 -- what an accepted load leaves
 module _ (a0 a1 : Area) (b : List ℕ) (limit : ℕ) (t u : Tables) where
   pub holds_both : (x y : Index) → Savable x → Savable y → load_disc (room_of t) (room_of u) a0 a1 b limit
-      ≡ Accepted (disc (some x) (some y))
+      ≡ Accepted (disc (Some x) (Some y))
       → HoldsBoth (load_disc_in a0 a1 b limit t u) x y
   unfolding load_disc_in disc_out_of listed_from tables_with
   holds_both x y v w e =
@@ -57,12 +57,12 @@ module _ (a0 a1 : Area) (b : List ℕ) (limit : ℕ) (t u : Tables) where
       })
 
   pub holds_first : (x : Index) → Savable x → load_disc (room_of t) (room_of u) a0 a1 b limit
-      ≡ Accepted (disc (some x) none) → HoldsFirst (load_disc_in a0 a1 b limit t u) x u
+      ≡ Accepted (disc (Some x) None) → HoldsFirst (load_disc_in a0 a1 b limit t u) x u
   unfolding load_disc_in disc_out_of listed_from tables_with
   holds_first x v e = rw e (record { first = numbers_from x; answer = refl; list0 = stands x t v; slot1 = refl })
 
   pub holds_second : (y : Index) → Savable y → load_disc (room_of t) (room_of u) a0 a1 b limit
-      ≡ Accepted (disc none (some y)) → HoldsSecond (load_disc_in a0 a1 b limit t u) t y
+      ≡ Accepted (disc None (Some y)) → HoldsSecond (load_disc_in a0 a1 b limit t u) t y
   unfolding load_disc_in disc_out_of listed_from tables_with
   holds_second y w e = rw e (record { second = numbers_from y; answer = refl; slot0 = refl; list1 = stands y u w })
 
@@ -170,32 +170,32 @@ placed t u (Accepted d) p q t' u' e =
 -- in one slot
 pub record InSlot (t : Tables) (o : Option Index) (x : AreaIndex) (t' : Tables) : Type 0 where
   pub list : Index
-  pub is : o ≡ some list
+  pub is : o ≡ Some list
   pub numbers : numbers_from list ≡ x
   pub tables : tables_from list t ≡ t'
 
 pub in_slot : (t : Tables) (o : Option Index) (x : AreaIndex) (t' : Tables) → listed_from o ≡ listed.Index x
     → tables_with o t ≡ t' → InSlot t o x t'
 unfolding listed_from tables_with
-in_slot t none x t' e h = let z : ◌≡◌ {A = ℕ} 0 1 = cc in let f : ⊥ = omega arith in absurd f
-in_slot t (some y) x t' e h = record { list = y; is = refl; numbers = cc; tables = h }
+in_slot t None x t' e h = let z : ◌≡◌ {A = ℕ} 0 1 = cc in let f : ⊥ = omega arith in absurd f
+in_slot t (Some y) x t' e h = record { list = y; is = refl; numbers = cc; tables = h }
 
-empty_slot : (o : Option Index) → listed_from o ≡ listed.Absent → o ≡ none
+empty_slot : (o : Option Index) → listed_from o ≡ listed.Absent → o ≡ None
 unfolding listed_from
-empty_slot none e = refl
-empty_slot (some y) e = let z : ◌≡◌ {A = ℕ} 0 1 = cc in let f : ⊥ = omega arith in absurd f
+empty_slot None e = refl
+empty_slot (Some y) e = let z : ◌≡◌ {A = ℕ} 0 1 = cc in let f : ⊥ = omega arith in absurd f
 
 -- the lists of an accepted disc file may be saved
 module _ (l m : Lengths) (a0 a1 : Area) (b : List ℕ) (limit : ℕ) (d : Disc) (g : Bytes b)
     (w : WholeDisc a0 a1 b limit) (e : load_disc l m a0 a1 b limit ≡ Accepted d) where
-  savable0 : (x : Index) → d.slot0 ≡ some x → Savable x
+  savable0 : (x : Index) → d.slot0 ≡ Some x → Savable x
   savable0 x i =
       let o = opened l m a0 a1 b limit d e in
       (list_kept l a0 b limit x g (entry_of 0 (entries_in b)) w.0
       (named l a0 b limit (entry_of 0 (entries_in b)) x (o.body0 ∙ ap (λ (z : Option Index). Accepted z) i))
       ).savable
 
-  savable1 : (y : Index) → d.slot1 ≡ some y → Savable y
+  savable1 : (y : Index) → d.slot1 ≡ Some y → Savable y
   savable1 y i =
       let o = opened l m a0 a1 b limit d e in
       (list_kept m a1 b limit y g (entry_of 1 (entries_in b)) w.1
@@ -231,7 +231,7 @@ loaded_disc_saves_in =
           let i = in_slot t p.lists.slot0 x t' p.answer0 p.tables0 in
           let j = in_slot u p.lists.slot1 y u' p.answer1 p.tables1 in
           let d : load_disc (room_of t) (room_of u) a0 a1 b limit
-          ≡ Accepted (disc (some i.list) (some j.list)) = p.accepted
+          ≡ Accepted (disc (Some i.list) (Some j.list)) = p.accepted
           ∙ (λ k. Accepted (disc (i.is k) (j.is k))) in
           let s = disc_saves.both (room_of t) (room_of u) a0 a1 b limit (length old) i.list j.list g w d n in
           let v = first_valid (room_of t) i.list (room_of u) j.list (length old) b s in
@@ -245,7 +245,7 @@ loaded_disc_saves_in =
           let p = placed t u (load_disc (room_of t) (room_of u) a0 a1 b limit) (listed.Index x) listed.Absent t' u' e in
           let i = in_slot t p.lists.slot0 x t' p.answer0 p.tables0 in
           let j = empty_slot p.lists.slot1 p.answer1 in
-          let d : load_disc (room_of t) (room_of u) a0 a1 b limit ≡ Accepted (disc (some i.list) none) = p.accepted
+          let d : load_disc (room_of t) (room_of u) a0 a1 b limit ≡ Accepted (disc (Some i.list) None) = p.accepted
           ∙ (λ k. Accepted (disc (i.is k) (j k))) in
           let s = disc_saves.first (room_of t) (room_of u) a0 a1 b limit (length old) i.list g w d n in
           sym (λ k. save_one_in (i.numbers k) (i.tables k) old)
@@ -255,7 +255,7 @@ loaded_disc_saves_in =
           let p = placed t u (load_disc (room_of t) (room_of u) a0 a1 b limit) listed.Absent (listed.Index y) t' u' e in
           let i = empty_slot p.lists.slot0 p.answer0 in
           let j = in_slot u p.lists.slot1 y u' p.answer1 p.tables1 in
-          let d : load_disc (room_of t) (room_of u) a0 a1 b limit ≡ Accepted (disc none (some j.list)) = p.accepted
+          let d : load_disc (room_of t) (room_of u) a0 a1 b limit ≡ Accepted (disc None (Some j.list)) = p.accepted
           ∙ (λ k. Accepted (disc (i k) (j.is k))) in
           let s = disc_saves.second (room_of t) (room_of u) a0 a1 b limit (length old) j.list g w d n in
           sym (λ k. save_one_in (j.numbers k) (j.tables k) old)

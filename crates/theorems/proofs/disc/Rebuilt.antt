@@ -1,8 +1,8 @@
 -- An accepted disc file by its bodies. Assumes nothing.
+use Rattle.std.specs.Prelude.{Option, None, Some}
 use mathlib.Core.Path.{◌≡◌, refl, sym, ap, ◌∙◌}
 use mathlib.Core.Bool.{true, false}
 use mathlib.Core.List.{List, [], ◌∷◌, ◌++◌}
-use mathlib.Core.Option.{Option, none, some}
 use Prim.Native.Nat.{ℕ, ◌+◌, ◌*◌, ◌≤◌}
 use native.Mathlib.Omega.{arith}
 use borrow.Author.Tests.{eqb-true, eqb-false, eq-eqb, ne_eqb, leb-true, le-leb}
@@ -132,18 +132,18 @@ module _ (size at : ℕ) where
     pub slot0 : e.slot ≡ 0
     pub slot1 : f.slot ≡ 1
 
-  pub pair : (es : List Entry) (d g : Entry) → length es ≤ 2 → laid size 0 at es ≡ true → entry_of 0 es ≡ some d
-      → entry_of 1 es ≡ some g → Pair es d g
+  pub pair : (es : List Entry) (d g : Entry) → length es ≤ 2 → laid size 0 at es ≡ true → entry_of 0 es ≡ Some d
+      → entry_of 1 es ≡ Some g → Pair es d g
   unfolding entry_of
   pair [] d g l h p q = none_some p
   pair (e ∷ []) d g l h p q =
-      test (eqb e.slot 0) (λ t. let z = eqb-true e.slot 0 t in let y : ◌≡◌ {A = Option Entry} none
-      (some g) = rw z at q in none_some y) (λ t. let y : ◌≡◌ {A = Option Entry} none (some d) = rw t at p
+      test (eqb e.slot 0) (λ t. let z = eqb-true e.slot 0 t in let y : ◌≡◌ {A = Option Entry} None
+      (Some g) = rw z at q in none_some y) (λ t. let y : ◌≡◌ {A = Option Entry} None (Some d) = rw t at p
       in none_some y)
   pair (e ∷ f ∷ []) d g l h p q =
       let s = two_slots e f [] h in
-      let x : some e ≡ some d = rw (first_zero e s.0) at p in
-      let y : some f ≡ some g = rw (first_not e s.0, first_one f s.1) at q in
+      let x : Some e ≡ Some d = rw (first_zero e s.0) at p in
+      let y : Some f ≡ Some g = rw (first_not e s.0, first_one f s.1) at q in
       rw (← some_eq x, ← some_eq y) (record { is = refl; slot0 = s.0; slot1 = s.1 })
   pair (e ∷ f ∷ i ∷ es) d g l h p q = let z : ⊥ = omega arith in absurd z
 
@@ -151,44 +151,44 @@ module _ (size at : ℕ) where
     pub is : es ≡ e ∷ []
     pub slot : e.slot ≡ k
 
-  pub single0 : (es : List Entry) (d : Entry) → length es ≤ 2 → laid size 0 at es ≡ true → entry_of 0 es ≡ some d
-      → entry_of 1 es ≡ none → Single 0 es d
+  pub single0 : (es : List Entry) (d : Entry) → length es ≤ 2 → laid size 0 at es ≡ true → entry_of 0 es ≡ Some d
+      → entry_of 1 es ≡ None → Single 0 es d
   unfolding entry_of
   single0 [] d l h p q = none_some p
   single0 (e ∷ []) d l h p q =
-      test (eqb e.slot 0) (λ t. let x : some e
-      ≡ some d = rw t at p in rw (← some_eq x) (record { is = refl; slot = eqb-true e.slot 0 t }))
-      (λ t. let y : ◌≡◌ {A = Option Entry} none (some d) = rw t at p in none_some y)
+      test (eqb e.slot 0) (λ t. let x : Some e
+      ≡ Some d = rw t at p in rw (← some_eq x) (record { is = refl; slot = eqb-true e.slot 0 t }))
+      (λ t. let y : ◌≡◌ {A = Option Entry} None (Some d) = rw t at p in none_some y)
   single0 (e ∷ f ∷ []) d l h p q =
       let s = two_slots e f [] h in
-      let y : ◌≡◌ {A = Option Entry} (some f) none = rw (first_not e s.0, first_one f s.1) at q in
+      let y : ◌≡◌ {A = Option Entry} (Some f) None = rw (first_not e s.0, first_one f s.1) at q in
       none_some (sym y)
   single0 (e ∷ f ∷ i ∷ es) d l h p q = let z : ⊥ = omega arith in absurd z
 
-  pub single1 : (es : List Entry) (d : Entry) → length es ≤ 2 → laid size 0 at es ≡ true → entry_of 0 es ≡ none
-      → entry_of 1 es ≡ some d → Single 1 es d
+  pub single1 : (es : List Entry) (d : Entry) → length es ≤ 2 → laid size 0 at es ≡ true → entry_of 0 es ≡ None
+      → entry_of 1 es ≡ Some d → Single 1 es d
   unfolding entry_of
   single1 [] d l h p q = none_some q
   single1 (e ∷ []) d l h p q =
-      test (eqb e.slot 1) (λ t. let x : some e
-      ≡ some d = rw t at q in rw (← some_eq x) (record { is = refl; slot = eqb-true e.slot 1 t }))
-      (λ t. let y : ◌≡◌ {A = Option Entry} none (some d) = rw t at q in none_some y)
+      test (eqb e.slot 1) (λ t. let x : Some e
+      ≡ Some d = rw t at q in rw (← some_eq x) (record { is = refl; slot = eqb-true e.slot 1 t }))
+      (λ t. let y : ◌≡◌ {A = Option Entry} None (Some d) = rw t at q in none_some y)
   single1 (e ∷ f ∷ []) d l h p q =
       let s = two_slots e f [] h in
-      let y : ◌≡◌ {A = Option Entry} (some e) none = rw (first_zero e s.0) at p in
+      let y : ◌≡◌ {A = Option Entry} (Some e) None = rw (first_zero e s.0) at p in
       none_some (sym y)
   single1 (e ∷ f ∷ i ∷ es) d l h p q = let z : ⊥ = omega arith in absurd z
 
   -- an entry is of slot 0 or 1
-  pub no_slot : (es : List Entry) → 1 ≤ length es → laid size 0 at es ≡ true → entry_of 0 es ≡ none → entry_of 1 es
-      ≡ none → ⊥
+  pub no_slot : (es : List Entry) → 1 ≤ length es → laid size 0 at es ≡ true → entry_of 0 es ≡ None → entry_of 1 es
+      ≡ None → ⊥
   unfolding entry_of
   no_slot [] l h p q = omega arith
   no_slot (e ∷ es) l h p q =
       let f = front size 0 at e es h in
-      test (eqb e.slot 0) (λ t. let y : ◌≡◌ {A = Option Entry} (some e) none = rw t at p in none_some (sym y))
+      test (eqb e.slot 0) (λ t. let y : ◌≡◌ {A = Option Entry} (Some e) None = rw t at p in none_some (sym y))
       (λ t. let n = eqb-false e.slot 0 t in let k : e.slot
-      ≡ 1 = omega (arith, f.slot) in let y : ◌≡◌ {A = Option Entry} (some e) none = rw (first_one e k) at q
+      ≡ 1 = omega (arith, f.slot) in let y : ◌≡◌ {A = Option Entry} (Some e) None = rw (first_one e k) at q
       in none_some (sym y))
 
 -- entries of a right table fit four bytes
@@ -249,22 +249,22 @@ kept l a c limit x g m e =
 -- ---- the entry and the list of a body
 pub record Named (l : Lengths) (a : Area) (b : List ℕ) (limit : ℕ) (o : Option Entry) (x : Index) : Type 0 where
   pub entry : Entry
-  pub is : o ≡ some entry
+  pub is : o ≡ Some entry
   pub loads : load l a (take entry.len (drop entry.offset b)) limit ≡ Accepted x
 
 pub named : (l : Lengths) (a : Area) (b : List ℕ) (limit : ℕ) (o : Option Entry) (x : Index)
-    → load_body l a limit (body_at b o) ≡ Accepted (some x) → Named l a b limit o x
+    → load_body l a limit (body_at b o) ≡ Accepted (Some x) → Named l a b limit o x
 unfolding load_body body_at
-named l a b limit none x h = none_some (accepted_eq none (some x) h)
-named l a b limit (some e) x h =
-    let u = bind→ (load l a (take e.len (drop e.offset b)) limit) (λ y. Accepted (some y)) (some x) h in
-    let v : some u.value ≡ some x = accepted_eq (some u.value) (some x) u.second in
+named l a b limit None x h = none_some (accepted_eq None (Some x) h)
+named l a b limit (Some e) x h =
+    let u = bind→ (load l a (take e.len (drop e.offset b)) limit) (λ y. Accepted (Some y)) (Some x) h in
+    let v : Some u.value ≡ Some x = accepted_eq (Some u.value) (Some x) u.second in
     record { entry = e; is = refl; loads = rw (← some_eq v) u.first }
 
 pub unnamed : (l : Lengths) (a : Area) (b : List ℕ) (limit : ℕ) (o : Option Entry) → load_body l a limit (body_at b o)
-    ≡ Accepted none → o ≡ none
+    ≡ Accepted None → o ≡ None
 unfolding load_body body_at
-unnamed l a b limit none h = refl
-unnamed l a b limit (some e) h =
-    let u = bind→ (load l a (take e.len (drop e.offset b)) limit) (λ y. Accepted (some y)) none h in
-    none_some (sym (accepted_eq (some u.value) none u.second))
+unnamed l a b limit None h = refl
+unnamed l a b limit (Some e) h =
+    let u = bind→ (load l a (take e.len (drop e.offset b)) limit) (λ y. Accepted (Some y)) None h in
+    none_some (sym (accepted_eq (Some u.value) None u.second))

@@ -1,9 +1,9 @@
 -- When disc files are refused, on values, over tables and in C. Assumes nothing.
+use Rattle.std.specs.Prelude.{Option, Some}
 use mathlib.Core.Path.{◌≡◌, refl, sym, ◌∙◌}
 use mathlib.Core.Bool.{true, false, ◌&&◌}
 use mathlib.Core.List.{List, [], ◌∷◌}
 use mathlib.Core.Logic.{◌⊎◌, inl, inr}
-use mathlib.Core.Option.{Option, some}
 use Prim.Native.Nat.{ℕ, ◌+◌, ◌<◌, ◌≤◌}
 use native.Mathlib.Omega.{arith}
 use borrow.Author.Tests.{ltb-true}
@@ -34,7 +34,7 @@ use Rattle.theorems.proofs.disc.Accepts.{up}
 use Rattle.theorems.proofs.disc.RoundTripInC.{→in_head, loads_c}
 
 -- a body that is refused
-body_refused : (l : Lengths) (a : Area) (limit : ℕ) (o : Option (List ℕ)) (c : List ℕ) (n : ℕ) → o ≡ some c
+body_refused : (l : Lengths) (a : Area) (limit : ℕ) (o : Option (List ℕ)) (c : List ℕ) (n : ℕ) → o ≡ Some c
     → load l a c limit ≡ Refused n → load_body l a limit o ≡ Refused n
 unfolding load_body bind
 body_refused l a limit o c n e f = rw (e, f) refl

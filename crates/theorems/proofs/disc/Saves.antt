@@ -1,8 +1,8 @@
 -- An accepted disc file is saved as its own bytes. Assumes nothing.
+use Rattle.std.specs.Prelude.{Option, None, Some}
 use mathlib.Core.Path.{◌≡◌, sym, ap, ◌∙◌}
 use mathlib.Core.Bool.{true}
 use mathlib.Core.List.{List, [], ◌∷◌}
-use mathlib.Core.Option.{Option, none, some}
 use Prim.Native.Nat.{ℕ, ◌≤◌, ◌<◌}
 use native.Mathlib.Omega.{arith}
 use borrow.Author.Tests.{eqb-true, leb-true, le-leb, lt-ltb}
@@ -88,7 +88,7 @@ unfolding by_slot save_both save_one
 disc_saves =
     record {
       both = λ l m a0 a1 b limit out x y g w e h.
-          let o = opened l m a0 a1 b limit (disc (some x) (some y)) e in
+          let o = opened l m a0 a1 b limit (disc (Some x) (Some y)) e in
           let p = named l a0 b limit (entry_of 0 (entries_in b)) x o.body0 in
           let q = named m a1 b limit (entry_of 1 (entries_in b)) y o.body1 in
           let u = list_kept l a0 b limit x g (entry_of 0 (entries_in b)) w.0 p in
@@ -107,7 +107,7 @@ disc_saves =
           (each_of u.savable.one v.savable.one) (each_of u.savable.two v.savable.two)
           (each_of u.three v.three) (each_of u.savable.four v.savable.four) h);
       first = λ l m a0 a1 b limit out x g w e h.
-          let o = opened l m a0 a1 b limit (disc (some x) none) e in
+          let o = opened l m a0 a1 b limit (disc (Some x) None) e in
           let p = named l a0 b limit (entry_of 0 (entries_in b)) x o.body0 in
           let q = unnamed m a1 b limit (entry_of 1 (entries_in b)) o.body1 in
           let u = list_kept l a0 b limit x g (entry_of 0 (entries_in b)) w.0 p in
@@ -119,7 +119,7 @@ disc_saves =
           saves_own b o.contents g (x ∷ []) (one {x = x} (omega arith) nothing) (ap length z.is) k (four_of l x)
           out u.savable.one u.savable.two u.three u.savable.four h;
       second = λ l m a0 a1 b limit out y g w e h.
-          let o = opened l m a0 a1 b limit (disc none (some y)) e in
+          let o = opened l m a0 a1 b limit (disc None (Some y)) e in
           let p = unnamed l a0 b limit (entry_of 0 (entries_in b)) o.body0 in
           let q = named m a1 b limit (entry_of 1 (entries_in b)) y o.body1 in
           let v = list_kept m a1 b limit y g (entry_of 1 (entries_in b)) w.1 q in
@@ -131,7 +131,7 @@ disc_saves =
           saves_own b o.contents g (y ∷ []) (one {x = y} (omega arith) nothing) (ap length z.is) k (four_of m y)
           out v.savable.one v.savable.two v.three v.savable.four h;
       some' = λ l m a0 a1 b limit e.
-          let o = opened l m a0 a1 b limit (disc none none) e in
+          let o = opened l m a0 a1 b limit (disc None None) e in
           no_slot (length b) (table_size (count_in b)) (entries_in b)
           (rw (records_length 12 decode_entry (count_in b) (drop 4 b)) (many b o.contents).0)
           (right b o.contents)

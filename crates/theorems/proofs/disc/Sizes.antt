@@ -1,9 +1,9 @@
 -- What the sizes told for a disc file say of loading it. Assumes nothing.
+use Rattle.std.specs.Prelude.{Option, None, Some}
 use Prim.Native.Nat.{ℕ}
 use mathlib.Core.Path.{◌≡◌, refl, sym, ap, ◌∙◌}
 use mathlib.Core.Bool.{Bool, true, false, ◌&&◌}
 use mathlib.Core.List.{List, [], ◌∷◌}
-use mathlib.Core.Option.{Option, none, some}
 use native.Mathlib.Omega.{arith}
 use Rattle.rules.specs.declared.Area.{Area}
 use Rattle.rules.specs.Tests.{Answer, Refused, Accepted, ask, first_no, after, bind}
@@ -27,7 +27,7 @@ pub record Listed (r : Answer (Option Index)) : Type 0 where
 
 file_fits : (a : Area) (b : List ℕ) (limit : ℕ) (t : Tables) (s : TableSizes) → file_sizes a b limit ≡ Accepted s
     → has_sizes s t ≡ true
-    → Listed (load_body (room_of t) a limit (some b))
+    → Listed (load_body (room_of t) a limit (Some b))
 unfolding file_sizes load_without3 load_body
 file_fits a b limit t s e h =
     let r = asked→ (ask (area_ok a) 1 ∷ []) (bind (from_bytes a b) (λ x. Accepted (sizes_for (limited limit x)))) s refl
@@ -35,7 +35,7 @@ file_fits a b limit t s e h =
     let u = bind→ (from_bytes a b) (λ x. Accepted (sizes_for (limited limit x))) s r.1 in
     let w : load_without3 a b limit ≡ Accepted (limited limit u.value) = →asked (ask (area_ok a) 1 ∷ []) r.0
     (→bind _ u.first refl) in
-    record { list = some (limited limit u.value); is = →bind _ (load_fits a b limit t s e h ∙ w) refl }
+    record { list = Some (limited limit u.value); is = →bind _ (load_fits a b limit t s e h ∙ w) refl }
 
 -- ---- answers that refuse
 not_refused : {A B : Type 0} {x : A} {n : ℕ} → ◌≡◌ {A = Answer A} (Accepted x) (Refused n) → B
@@ -57,18 +57,18 @@ module _ (a : Area) (limit : ℕ) (t : Tables) where
   body_fits : (o : Option (List ℕ)) (s : Option TableSizes) → body_sizes a limit o ≡ Accepted s → has_slot s t ≡ true
       → Listed (load_body (room_of t) a limit o)
   unfolding body_sizes load_body has_slot
-  body_fits none s e h = record { list = none; is = refl }
-  body_fits (some b) s e h =
-      let u = bind→ (file_sizes a b limit) (λ x. Accepted (some x)) s e in
-      let w : s ≡ some u.value = sym (accepted_eq (some u.value) s u.second) in
+  body_fits None s e h = record { list = None; is = refl }
+  body_fits (Some b) s e h =
+      let u = bind→ (file_sizes a b limit) (λ x. Accepted (Some x)) s e in
+      let w : s ≡ Some u.value = sym (accepted_eq (Some u.value) s u.second) in
       file_fits a b limit t u.value u.first (rw w at h)
 
   body_refused : (o : Option (List ℕ)) {n : ℕ} → body_sizes a limit o ≡ Refused n → load_body (room_of t) a limit o
       ≡ Refused n
   unfolding body_sizes load_body
-  body_refused none e = not_refused e
-  body_refused (some b) {n} e =
-      bind_refused (file_sizes a b limit) (λ x. Accepted (some x)) e
+  body_refused None e = not_refused e
+  body_refused (Some b) {n} e =
+      bind_refused (file_sizes a b limit) (λ x. Accepted (Some x)) e
       (λ h. refused_bind _ _ (load_refused a b limit n t h)) (λ v h k. not_refused k)
 
 -- ---- the file

@@ -1,8 +1,8 @@
 -- The contents table and the bodies of a saved disc file. Assumes nothing.
+use Rattle.std.specs.Prelude.{Option, None, Some}
 use mathlib.Core.Path.{◌≡◌, refl, sym, ap, ◌∙◌}
 use mathlib.Core.Bool.{true, cond}
 use mathlib.Core.List.{List, [], ◌∷◌, ◌++◌, append-nil, append_assoc}
-use mathlib.Core.Option.{Option, none, some}
 use Prim.Native.Nat.{ℕ, suc, ◌+◌, ◌≤◌}
 use native.Mathlib.Nat.{add-zero}
 use native.Mathlib.Omega.{arith}
@@ -151,8 +151,8 @@ module _ (xs : List Index) (f : Fit xs) where
 -- ---- the bodies
 -- the file of slot k among lists
 unfoldable pub saved_of : ℕ → List Index → Option (List ℕ)
-saved_of k [] = none
-saved_of k (x ∷ xs) = cond (eqb (slot_of x) k) (some (saved x)) (saved_of k xs)
+saved_of k [] = None
+saved_of k (x ∷ xs) = cond (eqb (slot_of x) k) (Some (saved x)) (saved_of k xs)
 
 body_in_lemma : (k : ℕ) (p : List ℕ) (at : ℕ) (xs : List Index) → length p ≡ at
     → body_at (p ++ bytes_of saved xs) (entry_of k (entries_from at xs)) ≡ saved_of k xs

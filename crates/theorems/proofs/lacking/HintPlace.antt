@@ -1,9 +1,9 @@
 -- The hint to begin at, where nothing is lacking. Assumes nothing.
+use Rattle.std.specs.Prelude.{Option, None, Some}
 use mathlib.Core.Path.{◌≡◌, refl, sym, ap, subst, ◌∙◌}
 use mathlib.Core.Bool.{Bool, true, false, ◌&&◌, ◌||◌}
 use mathlib.Core.Logic.{⊎_elim, ◌⊎◌, inl, inr}
 use mathlib.Core.List.{List, [], ◌∷◌}
-use mathlib.Core.Option.{Option, none, some}
 use Prim.Native.Nat.{ℕ, zero, suc, ◌-◌, ◌<◌, ◌≤◌}
 use native.Mathlib.Nat.{eq-or-lt_of_le}
 use native.Mathlib.Omega.{arith}
@@ -24,31 +24,31 @@ use Rattle.theorems.proofs.Useful.{largest_found}
 use Rattle.theorems.proofs.lacking.Trans.{lacks→}
 use Rattle.theorems.proofs.lacking.Serves.{nothing_lacking}
 
-cases : {A : Type 0} (P : Type 0) (o : Option A) → (o ≡ none → P) → ((a : A) → o ≡ some a → P) → P
-cases P none f g = f refl
-cases P (some a) f g = g a refl
+cases : {A : Type 0} (P : Type 0) (o : Option A) → (o ≡ None → P) → ((a : A) → o ≡ Some a → P) → P
+cases P None f g = f refl
+cases P (Some a) f g = g a refl
 
-none_is : {A : Type 0} (o : Option A) → o ≡ none → is_some o ≡ true → ⊥
+none_is : {A : Type 0} (o : Option A) → o ≡ None → is_some o ≡ true → ⊥
 unfolding is_some
 none_is o e s = never {b = false} (rw e at s) refl
 
-some_of : {A : Type 0} (P : Type 0) (o : Option A) → is_some o ≡ true → ((a : A) → o ≡ some a → P) → P
+some_of : {A : Type 0} (P : Type 0) (o : Option A) → is_some o ≡ true → ((a : A) → o ≡ Some a → P) → P
 unfolding is_some
-some_of P none s f = never {b = false} s refl
-some_of P (some a) s f = f a refl
+some_of P None s f = never {b = false} s refl
+some_of P (Some a) s f = f a refl
 
-or_none : {A : Type 0} {a : A} (o p : Option A) → o ≡ none → p ≡ some a → or_else o p ≡ some a
+or_none : {A : Type 0} {a : A} (o p : Option A) → o ≡ None → p ≡ Some a → or_else o p ≡ Some a
 unfolding or_else
 or_none o p e d = rw e d
 
-or_some : {A : Type 0} {a : A} (o p : Option A) → o ≡ some a → or_else o p ≡ some a
+or_some : {A : Type 0} {a : A} (o p : Option A) → o ≡ Some a → or_else o p ≡ Some a
 unfolding or_else
 or_some o p e = rw e
 
-or→ : {A : Type 0} {a : A} (o p : Option A) → or_else o p ≡ some a → (o ≡ some a) ⊎ (p ≡ some a)
+or→ : {A : Type 0} {a : A} (o p : Option A) → or_else o p ≡ Some a → (o ≡ Some a) ⊎ (p ≡ Some a)
 unfolding or_else
-or→ none p e = inr e
-or→ (some b) p e = inl e
+or→ None p e = inr e
+or→ (Some b) p e = inl e
 
 -- ---- the order of (number, LSN)
 not_above : (a b c d : ℕ) → (ltb a b || (eqb a b && ltb c d)) ≡ false → (b < a) ⊎ ((b ≡ a) × (d ≤ c))
@@ -106,14 +106,14 @@ module _ (p : ℕ → Bool) (hs : List Hint) where
   last_or i n l f g = ⊎_elim f g (eq-or-lt_of_le (let h : i ≤ n = omega arith in h))
 
   step : (n : ℕ) (o : Option ℕ) → ((i : ℕ) → i < n → p i ≡ true → is_some o ≡ true)
-      → ((m : ℕ) → o ≡ some m → Most n m) → (k : ℕ) → some (larger_of hs o n) ≡ some k
+      → ((m : ℕ) → o ≡ Some m → Most n m) → (k : ℕ) → Some (larger_of hs o n) ≡ Some k
       → Most (suc n) k
   unfolding larger_of is_some
-  step n none found most k e i l y =
+  step n None found most k e i l y =
       let q : n ≡ k = some_eq e in
       last_or i n l (λ z. subst (λ (v : ℕ). NotBelow v i) q (subst (λ (v : ℕ). NotBelow n v) (sym z) (self n)))
       (λ z. never {b = false} (found i z y) refl)
-  step n (some m) found most k e i l y =
+  step n (Some m) found most k e i l y =
       test (larger hs m n)
       (λ w.
       let q : n ≡ k = some_eq (rw w at e) in
@@ -124,7 +124,7 @@ module _ (p : ℕ → Bool) (hs : List Hint) where
       last_or i n l (λ z. subst (λ (v : ℕ). NotBelow v i) q (subst (λ (v : ℕ). NotBelow m v) (sym z) (larger_no m n w)))
       (λ z. subst (λ (v : ℕ). NotBelow v i) q (most m refl i z y)))
 
-  largest_most : (n k : ℕ) → largest_of p hs n ≡ some k → Most n k
+  largest_most : (n k : ℕ) → largest_of p hs n ≡ Some k → Most n k
   unfolding largest_of
   largest_most zero k e = λ i l y. let z : ⊥ = omega arith in absurd z
   largest_most (suc n) k e =
@@ -132,21 +132,21 @@ module _ (p : ℕ → Bool) (hs : List Hint) where
       (rw w at e))
       (λ w i l y. last_or i n l (λ z. never (ap p (sym z) ∙ y) w) (λ z. largest_most n k (rw w at e) i z y))
 
-  larger_passes : (k : ℕ) (o : Option ℕ) (i : ℕ) → ((m : ℕ) → o ≡ some m → p m ≡ true) → p k ≡ true
-      → some (larger_of hs o k) ≡ some i → p i ≡ true
+  larger_passes : (k : ℕ) (o : Option ℕ) (i : ℕ) → ((m : ℕ) → o ≡ Some m → p m ≡ true) → p k ≡ true
+      → Some (larger_of hs o k) ≡ Some i → p i ≡ true
   unfolding larger_of
-  larger_passes k none i h y e = ap p (sym (some_eq e)) ∙ y
-  larger_passes k (some m) i h y e =
+  larger_passes k None i h y e = ap p (sym (some_eq e)) ∙ y
+  larger_passes k (Some m) i h y e =
       test (larger hs m k) (λ w. let q : k ≡ i = some_eq (rw w at e) in ap p (sym q) ∙ y)
       (λ w. let q : m ≡ i = some_eq (rw w at e) in ap p (sym q) ∙ h m refl)
 
-  passes : (n i : ℕ) → largest_of p hs n ≡ some i → p i ≡ true
+  passes : (n i : ℕ) → largest_of p hs n ≡ Some i → p i ≡ true
   unfolding largest_of
   passes zero i e = none_some e
   passes (suc n) i e = test (p n) (λ y. larger_passes n (largest_of p hs n) i (λ m d. passes n m d) y (rw y at e))
       (λ y. passes n i (rw y at e))
 
-  within : (n i : ℕ) → largest_of p hs n ≡ some i → i < n
+  within : (n i : ℕ) → largest_of p hs n ≡ Some i → i < n
   unfolding largest_of larger_of
   within zero i e = none_some e
   within (suc n) i e =
@@ -244,16 +244,16 @@ module _ (own other : Index) (s : Serves own other)
     best_own c = both near_own (subst (λ (h : Hint). confirms own h.lsn ≡ true) (sym same.holds)
         (confirms_on (get_or gs i no_hint).lsn c))
 
-    not_less : (p : ℕ → Bool) (k : ℕ) → largest_of p hs (length hs) ≡ some k → p j ≡ true
+    not_less : (p : ℕ → Bool) (k : ℕ) → largest_of p hs (length hs) ≡ Some k → p j ≡ true
         → NotLess (get_or hs k no_hint) (get_or gs i no_hint)
     not_less p k e h = subst (λ (z : Hint). NotLess (get_or hs k no_hint) z) same.holds
         (largest_most p hs (length hs) k e j same.inside h)
 
-    place_on : (k : ℕ) × (hint_place (is_checked own.fingerprint) hs own.hinting.confirmed first ≡ some k)
+    place_on : (k : ℕ) × (hint_place (is_checked own.fingerprint) hs own.hinting.confirmed first ≡ Some k)
         × PlaceServes k i
     unfolding hint_place
     place_on =
-        cases ((k : ℕ) × (hint_place (is_checked own.fingerprint) hs own.hinting.confirmed first ≡ some k)
+        cases ((k : ℕ) × (hint_place (is_checked own.fingerprint) hs own.hinting.confirmed first ≡ Some k)
         × PlaceServes k i) (largest_of (best_at own) hs (length hs))
         (λ e.
         some_of _ (largest_of (near_at own) hs (length hs))
@@ -276,7 +276,7 @@ module _ (own other : Index) (s : Serves own other)
         ))
 
   -- the other's place is one of its list, and near
-  placed : (i : ℕ) → hint_place (is_checked other.fingerprint) gs other.hinting.confirmed first ≡ some i
+  placed : (i : ℕ) → hint_place (is_checked other.fingerprint) gs other.hinting.confirmed first ≡ Some i
       → (i < length gs) × (near_at other i ≡ true)
   unfolding hint_place
   placed i e =
@@ -291,24 +291,24 @@ module _ (own other : Index) (s : Serves own other)
 begins : (o : Option Hint) (end : ℕ) (h : Hint) (r : Hinted) → r.lsn ≡ h.lsn → r.number ≡ h.number
     → ((hinted_later o end h r).lsn ≡ h.lsn) × ((hinted_later o end h r).number ≡ h.number)
 unfolding hinted_later
-begins none end h r p q = (p, q)
-begins (some s) end h r p q =
+begins None end h r p q = (p, q)
+begins (Some s) end h r p q =
     choose (λ (z : Hinted). (z.lsn ≡ h.lsn) × (z.number ≡ h.number)) (leb (s.number - end) hint_reach) _ r
     (λ w. (refl, refl)) (λ w. (p, q))
 
 hinted_at_lemma : (a : Area) (hs : List Hint) (end playtime i : ℕ) → (r : Hinted)
-    × (hinted_at a hs end playtime (some i) ≡ some r) × (r.lsn ≡ (get_or hs i no_hint).lsn)
+    × (hinted_at a hs end playtime (Some i) ≡ Some r) × (r.lsn ≡ (get_or hs i no_hint).lsn)
     × (r.number ≡ (get_or hs i no_hint).number)
 unfolding hinted_at hinted_locally
 hinted_at_lemma a hs end playtime i =
     let b = begins _ end (get_or hs i no_hint) (hinted_locally a hs i end playtime) refl refl in (_, refl, b.0, b.1)
 
 hinted_from : (a : Area) (hs : List Hint) (end playtime : ℕ) (o : Option ℕ) (b : Hinted)
-    → hinted_at a hs end playtime o ≡ some b
-    → (i : ℕ) × (o ≡ some i) × (b.lsn ≡ (get_or hs i no_hint).lsn) × (b.number ≡ (get_or hs i no_hint).number)
+    → hinted_at a hs end playtime o ≡ Some b
+    → (i : ℕ) × (o ≡ Some i) × (b.lsn ≡ (get_or hs i no_hint).lsn) × (b.number ≡ (get_or hs i no_hint).number)
 unfolding hinted_at
-hinted_from a hs end playtime none b e = none_some e
-hinted_from a hs end playtime (some i) b e =
+hinted_from a hs end playtime None b e = none_some e
+hinted_from a hs end playtime (Some i) b e =
     let r = hinted_at_lemma a hs end playtime i in let q : r.0 ≡ b = some_eq (sym r.1 ∙ e) in
     (i, refl, ap (λ (z : Hinted). z.lsn) (sym q) ∙ r.2, ap (λ (z : Hinted). z.number) (sym q) ∙ r.3)
 
@@ -326,7 +326,7 @@ pub lacks_hint : LacksHint
 unfolding hint
 lacks_hint l m own other x e h mark first end playtime b d =
     let p = (lacks→ l m own other x e h).0 in let s = nothing_lacking l m own other x e h in
-    let r = accepted→ (first_no (four m other (ask (leb first end) 16 ∷ []))) _ (some b) d in
+    let r = accepted→ (first_no (four m other (ask (leb first end) 16 ∷ []))) _ (Some b) d in
     let q = asked (four m other (ask (leb first end) 16 ∷ [])) refl r.0 in
     let f = hinted_from other.scan.area other.hinting.hints end playtime _ b r.1 in
     let n = placed own other s mark first f.0 f.1 in

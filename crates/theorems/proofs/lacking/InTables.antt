@@ -1,8 +1,8 @@
 -- The statements over lent tables. Assumes nothing.
+use Rattle.std.specs.Prelude.{Some}
 use mathlib.Core.Path.{◌≡◌, refl, sym, ap, subst, ◌∙◌}
 use mathlib.Core.Bool.{true, ◌&&◌}
 use mathlib.Core.List.{List}
-use mathlib.Core.Option.{some}
 use Prim.Native.Nat.{ℕ, ◌≤◌}
 use lib.ListN.{drop}
 use Rattle.rules.specs.declared.AreaIndex.{AreaIndex}
@@ -86,7 +86,7 @@ pub lacks_hint_in_tables : LacksHintInTables
 unfolding hint_in
 lacks_hint_in_tables x t y u b e h mark first end playtime q d =
     let k = kinded→ (kinds_in x t && kinds_in y u) (lacks (room_of t) (index_in x t) (room_of u) (index_in y u)) b e in
-    let f = kinded→ (kinds_in y u) (named_hint (room_of u) (index_in y u) first end playtime) (some q) d in
+    let f = kinded→ (kinds_in y u) (named_hint (room_of u) (index_in y u) first end playtime) (Some q) d in
     let r = lacks_hint (room_of t) (room_of u) (index_in x t) (index_in y u) b k.1 h mark first end playtime
     q.hinted (named_some (room_of u) (index_in y u) first end playtime q f.1) in
     let p = some_named (room_of t) (index_in x t) first end playtime r.0 r.1 in (

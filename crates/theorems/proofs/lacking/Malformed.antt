@@ -1,9 +1,9 @@
 -- Of two lists cut from one reading a merged list lacks no malformed LSN. Assumes nothing.
+use Rattle.std.specs.Prelude.{Option, None, Some}
 use mathlib.Core.Path.{◌≡◌, refl, sym, ap, subst, ◌∙◌}
 use mathlib.Core.Bool.{Bool, true, false, not, ◌&&◌}
 use mathlib.Core.Logic.{⊎_elim}
 use mathlib.Core.List.{List, [], ◌∷◌}
-use mathlib.Core.Option.{Option, none, some}
 use Prim.Native.Nat.{ℕ, zero, suc, ◌-◌, ◌*◌, ◌<◌, ◌≤◌}
 use native.Mathlib.Nat.{zero-mul, mul-le-mul_right, eq-or-lt_of_le}
 use native.Mathlib.Omega.{arith}
@@ -38,18 +38,18 @@ frontier_order : (a : Area) (k n m : ℕ) (e d : Option EndState) → 1 ≤ k �
     → n ≤ boundaries a k → (is_some e ≡ true → is_some d ≡ true)
     → frontier_of a k n e ≤ frontier_of a k m d
 unfolding frontier_of is_some
-frontier_order a k n m none none hk ha l w f =
+frontier_order a k n m None None hk ha l w f =
     let was = frontier_open a k n in
     let now = frontier_open a k m in
     let h : (n - 1) * k ≤ (m - 1) * k = mul-le-mul_right {m = n - 1} {n = m - 1} k (omega arith) in omega arith
-frontier_order a k n m none (some v) hk ha l w f =
+frontier_order a k n m None (Some v) hk ha l w f =
     let was = frontier_open a k n in
     ⊎_elim (λ (z : 0 ≡ n). let e : n - 1 ≡ 0 = omega arith in let o : (n - 1) * k ≡ 0 = ap (λ (i : ℕ). i * k) e
     ∙ zero-mul k in omega arith)
     (λ (z : 0 < n). let h = in_boundary a k (n - 1) hk (omega arith) in omega arith)
     (eq-or-lt_of_le (let z : 0 ≤ n = omega arith in z))
-frontier_order a k n m (some v) none hk ha l w f = never {b = false} (f refl) refl
-frontier_order a k n m (some v) (some u) hk ha l w f = omega arith
+frontier_order a k n m (Some v) None hk ha l w f = never {b = false} (f refl) refl
+frontier_order a k n m (Some v) (Some u) hk ha l w f = omega arith
 
 -- ---- of a rising list those below a bound come first
 none_below : (f : ℕ) (ls : List ℕ) → All (λ l. f ≤ l) ls → below f ls ≡ []

@@ -1,8 +1,8 @@
 -- What a merged list can lack of the two. Assumes nothing.
+use Rattle.std.specs.Prelude.{Option, None, Some}
 use mathlib.Core.Path.{◌≡◌, refl, sym, ap, subst, ◌∙◌}
 use mathlib.Core.Bool.{Bool, true, false, not, ◌&&◌, cond}
 use mathlib.Core.List.{List, [], ◌∷◌}
-use mathlib.Core.Option.{Option, none, some}
 use Prim.Native.Nat.{ℕ, ◌-◌, ◌≤◌}
 use native.Mathlib.Omega.{arith}
 use lib.Dec.{ltb}
@@ -45,13 +45,13 @@ stated_other (Checked v) g e = refl
 
 else_own : (o p : Option ℕ) → is_some o ≡ true → is_some (or_else o p) ≡ true
 unfolding is_some or_else
-else_own none p e = never {b = false} e refl
-else_own (some v) p e = refl
+else_own None p e = never {b = false} e refl
+else_own (Some v) p e = refl
 
 else_other : (o p : Option ℕ) → is_some p ≡ true → is_some (or_else o p) ≡ true
 unfolding is_some or_else
-else_other none p e = e
-else_other (some v) p e = refl
+else_other None p e = e
+else_other (Some v) p e = refl
 
 -- ---- no part is lost
 add_grows : (budget : ℕ) (h : Stored) (p : Piece) → length h.parts ≤ length (add_part budget h p).parts

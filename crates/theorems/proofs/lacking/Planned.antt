@@ -1,14 +1,13 @@
 -- The part that a plan names, where nothing is lacking. Assumes nothing.
+use Rattle.std.specs.Prelude.{Option, None, Some}
 use mathlib.Core.Path.{◌≡◌, refl, sym, ap, ◌∙◌}
 use mathlib.Core.Bool.{true}
 use mathlib.Core.List.{List, [], ◌∷◌, ◌++◌}
-use mathlib.Core.Option.{Option, none, some}
 use Prim.Native.Nat.{ℕ, zero, suc, ◌<◌}
 use native.Mathlib.Omega.{arith}
 use lib.Dec.{eqb, leb}
 use lib.ListN.{length, get_or}
 use borrow.Author.Tests.{eqb-true, eq-eqb, ne_eqb}
-use Rattle.rules.specs.declared.Assembly.TheVariants.{Stored}
 use Rattle.rules.specs.declared.EndState.{EndState}
 use Rattle.rules.specs.declared.Held.{Held}
 use Rattle.rules.specs.declared.HeldPart.{HeldPart}
@@ -31,16 +30,16 @@ use Rattle.theorems.specs.Lacks.{SamePart}
 from_some : (x : Scan) (o : Option ℕ) (r : Resume) → plan_from x o ≡ At r → r.assembly
     ≡ assembly_of x.frames x.parts r.number
 unfolding plan_from
-from_some x none r e = let z : ◌≡◌ {A = ℕ} 0 1 = cc in let f : ⊥ = omega arith in absurd f
-from_some x (some j) r e =
+from_some x None r e = let z : ◌≡◌ {A = ℕ} 0 1 = cc in let f : ⊥ = omega arith in absurd f
+from_some x (Some j) r e =
     let n : j ≡ r.number = cc in
     let a : assembly_of x.frames x.parts j ≡ r.assembly = cc in
     rw (← n) (sym a)
 
 or_some : (f : ℕ) (o : Option EndState) (p : Plan) (r : Resume) → plan_or f o p ≡ At r → p ≡ At r
 unfolding plan_or
-or_some f none p r e = e
-or_some f (some s) p r e =
+or_some f None p r e = e
+or_some f (Some s) p r e =
     test (leb s.threshold f) (λ q. let w : End s
     ≡ At r = rw q at e in let z : ◌≡◌ {A = ℕ} 0 1 = cc in let g : ⊥ = omega arith in absurd g) (λ q. rw q at e)
 
@@ -54,14 +53,14 @@ record Found (fs : List Frame) (ps : List Held) (j : ℕ) (h : HeldPart) : Type 
   place : ℕ
   within : place < length ps
   at : (get_or ps place no_held).at ≡ j
-  is : Stored h ≡ stored_of fs (get_or ps place no_held)
+  is : Some h ≡ stored_of fs (get_or ps place no_held)
 
-found : (fs : List Frame) (ps : List Held) (j : ℕ) (h : HeldPart) → assembly_of fs ps j ≡ Stored h → Found fs ps j h
+found : (fs : List Frame) (ps : List Held) (j : ℕ) (h : HeldPart) → assembly_of fs ps j ≡ Some h → Found fs ps j h
 unfolding assembly_of
 found fs [] j h e = let z : ◌≡◌ {A = ℕ} 0 1 = cc in let f : ⊥ = omega arith in absurd f
 found fs (p ∷ ps) j h e =
     test (eqb p.at j)
-    (λ q. let s : stored_of fs p ≡ Stored h = rw q at e in record
+    (λ q. let s : stored_of fs p ≡ Some h = rw q at e in record
     { place = 0; within = omega arith; at = eqb-true p.at j q; is = sym s })
     (λ q.
     let r = found fs ps j h (rw q at e) in
@@ -79,19 +78,19 @@ first_part fs (p ∷ ps) (suc i) l f =
     (first_part fs ps i (omega arith) (λ k m. f (suc k) (omega arith)))
 
 -- ---- the same part
-kind_is : (fs : List Frame) (p : Held) (h : HeldPart) → Stored h ≡ stored_of fs p → h.kind ≡ p.kind
+kind_is : (fs : List Frame) (p : Held) (h : HeldPart) → Some h ≡ stored_of fs p → h.kind ≡ p.kind
 kind_is fs p h e = cc
 
-number_is : (fs : List Frame) (p : Held) (h : HeldPart) → Stored h ≡ stored_of fs p → h.number ≡ p.number
+number_is : (fs : List Frame) (p : Held) (h : HeldPart) → Some h ≡ stored_of fs p → h.number ≡ p.number
 number_is fs p h e = cc
 
-remaining_is : (fs : List Frame) (p : Held) (h : HeldPart) → Stored h ≡ stored_of fs p → h.remaining ≡ p.remaining
+remaining_is : (fs : List Frame) (p : Held) (h : HeldPart) → Some h ≡ stored_of fs p → h.remaining ≡ p.remaining
 remaining_is fs p h e = cc
 
-offset_is : (fs : List Frame) (p : Held) (h : HeldPart) → Stored h ≡ stored_of fs p → h.offset ≡ offset_of fs p.frame
+offset_is : (fs : List Frame) (p : Held) (h : HeldPart) → Some h ≡ stored_of fs p → h.offset ≡ offset_of fs p.frame
 offset_is fs p h e = cc
 
-len_is : (fs : List Frame) (p : Held) (h : HeldPart) → Stored h ≡ stored_of fs p → h.len ≡ p.len
+len_is : (fs : List Frame) (p : Held) (h : HeldPart) → Some h ≡ stored_of fs p → h.len ≡ p.len
 len_is fs p h e = cc
 
 bytes_same : {o o' l l' : ℕ} {b : List ℕ} (s : List ℕ) → o ≡ o' → l ≡ l' → bytes_at s o' l' ≡ b → bytes_at s o l ≡ b
@@ -99,8 +98,8 @@ bytes_same s p q e = rw (p, q) e
 
 module _ (own other : Scan) (ok : ScanIs own) (ok' : ScanIs other)
     (c : covers (same_part own.frames other.frames) own.parts other.parts ≡ true) where
-  named : (j : ℕ) (h : HeldPart) → assembly_of other.frames other.parts j ≡ Stored h
-      → (k : HeldPart) × (assembly_of own.frames own.parts j ≡ Stored k)
+  named : (j : ℕ) (h : HeldPart) → assembly_of other.frames other.parts j ≡ Some h
+      → (k : HeldPart) × (assembly_of own.frames own.parts j ≡ Some k)
       × SamePart own.frames k other.frames h
   named j h e =
       let f = found other.frames other.parts j h e in
@@ -120,7 +119,7 @@ module _ (own other : Scan) (ok : ScanIs own) (ok' : ScanIs other)
       g.place ok.stretch.held g.inside in
       let theirs = part_at other.area other.interval other.budget 0 other.checkpoints other.frames
       other.parts f.place ok'.stretch.held f.within in
-      let first : assembly_of own.frames own.parts p.at ≡ Stored k =
+      let first : assembly_of own.frames own.parts p.at ≡ Some k =
       first_part own.frames own.parts g.place g.inside
       (λ i l. parts_rise own.area own.interval 0 own.checkpoints own.frames own.parts
       ok.stretch.held.parts i g.place l g.inside) in (
@@ -139,8 +138,8 @@ module _ (own other : Scan) (ok : ScanIs own) (ok' : ScanIs other)
       )
 
   pub plan_names : (t : ℕ) (r s : Resume) (h : HeldPart) → planned other t ≡ At r → planned own t ≡ At s → s.number
-      ≡ r.number → r.assembly ≡ Stored h
-      → (k : HeldPart) × (s.assembly ≡ Stored k) × SamePart own.frames k other.frames h
+      ≡ r.number → r.assembly ≡ Some h
+      → (k : HeldPart) × (s.assembly ≡ Some k) × SamePart own.frames k other.frames h
   plan_names t r s h e d n a =
       let w = named r.number h (sym (planned_part other t r e) ∙ a) in
       (w.0, planned_part own t s d ∙ ap (assembly_of own.frames own.parts) n ∙ w.1, w.2)

@@ -1,8 +1,8 @@
 -- The own list does all that the other does, where nothing is lacking. Assumes nothing.
+use Rattle.std.specs.Prelude.{Option, None, Some}
 use mathlib.Core.Path.{◌≡◌, refl, sym, ap, subst, ◌∙◌}
 use mathlib.Core.Bool.{Bool, true, false}
 use mathlib.Core.List.{List, [], ◌∷◌}
-use mathlib.Core.Option.{Option, none, some}
 use Prim.Native.Nat.{ℕ, ◌<◌, ◌≤◌}
 use native.Mathlib.Omega.{arith}
 use lib.Dec.{leb, eqb}
@@ -50,29 +50,29 @@ agrees_first same eq (x ∷ xs) (y ∷ ys) l e =
 -- a value that is known where the other is, and agrees with it
 known_same : {A : Type 0} (same : A → A → Bool) → ((a b : A) → same a b ≡ true → a ≡ b) → (o p : Option A)
     → (is_some p ≡ true → is_some o ≡ true)
-    → agree same o p ≡ true → (v : A) → p ≡ some v → o ≡ some v
+    → agree same o p ≡ true → (v : A) → p ≡ Some v → o ≡ Some v
 unfolding agree is_some
-known_same same eq none none f a v e = e
-known_same same eq none (some y) f a v e = never {b = false} (f refl) refl
-known_same same eq (some x) none f a v e = never {b = false} (ap is_some e) refl
-known_same same eq (some x) (some y) f a v e = ap some (eq x y a) ∙ e
+known_same same eq None None f a v e = e
+known_same same eq None (Some y) f a v e = never {b = false} (f refl) refl
+known_same same eq (Some x) None f a v e = never {b = false} (ap is_some e) refl
+known_same same eq (Some x) (Some y) f a v e = ap Some (eq x y a) ∙ e
 
 -- ---- where a jump starts
 -- the end state, where only the own list may have one
-plan_order : (a : Area) (t : ℕ) (e d : Option EndState) (p q : Plan) → ((v : EndState) → d ≡ some v → e ≡ some v)
+plan_order : (a : Area) (t : ℕ) (e d : Option EndState) (p q : Plan) → ((v : EndState) → d ≡ Some v → e ≡ Some v)
     → start_of a q ≤ start_of a p → start_of a q ≤ a.end
     → start_of a (plan_or t d q) ≤ start_of a (plan_or t e p)
 unfolding plan_or start_of
-plan_order a t none none p q f l s = l
-plan_order a t (some v) none p q f l s = test (leb v.threshold t) (λ w. rw w s) (λ w. rw w l)
-plan_order a t e (some u) p q f l s =
+plan_order a t None None p q f l s = l
+plan_order a t (Some v) None p q f l s = test (leb v.threshold t) (λ w. rw w s) (λ w. rw w l)
+plan_order a t e (Some u) p q f l s =
     rw (f u refl) (test (leb u.threshold t) (λ w. rw w (omega arith)) (λ w. rw w l))
 
 module _ (own other : Scan) (area : own.area ≡ other.area) (interval : own.interval ≡ other.interval)
     (pos : 1 ≤ own.interval) (spans : own.area.start ≤ own.area.end)
     (within : count other ≤ boundaries own.area own.interval) (fewer : count other ≤ count own)
     (first : other.checkpoints ≡ take (count other) own.checkpoints)
-    (ending : (e : EndState) → other.ending ≡ some e → own.ending ≡ some e) where
+    (ending : (e : EndState) → other.ending ≡ Some e → own.ending ≡ Some e) where
   abbrev a : Area
   a = own.area
 
@@ -143,7 +143,7 @@ serves l m own other s n =
     let first : other.scan.checkpoints ≡ take (count other.scan) own.scan.checkpoints =
     agrees_first same_checkpoint same_checkpoint_eq own.scan.checkpoints other.scan.checkpoints
     n.checkpoints q43.0 in
-    let ending : (v : EndState) → other.scan.ending ≡ some v → own.scan.ending ≡ some v =
+    let ending : (v : EndState) → other.scan.ending ≡ Some v → own.scan.ending ≡ Some v =
     known_same same_end same_end_eq own.scan.ending other.scan.ending n.ending q43.1.0 in
     let ok = scan→ other.scan (scan_of other (and_right (question4 own) (question4 other) s.four)) in
     let mine = scan→ own.scan (scan_of own (and_left (question4 own) (question4 other) s.four)) in

@@ -1,8 +1,8 @@
 -- Covering goes on. Assumes nothing.
+use Rattle.std.specs.Prelude.{Option, None, Some}
 use mathlib.Core.Path.{◌≡◌, refl, sym, subst, ◌∙◌}
 use mathlib.Core.Bool.{Bool, true, false, not, ◌&&◌}
 use mathlib.Core.List.{List, [], ◌∷◌}
-use mathlib.Core.Option.{Option, none, some}
 use Prim.Native.Nat.{ℕ, ◌-◌, ◌≤◌}
 use native.Mathlib.Omega.{arith}
 use lib.Dec.{eqb}
@@ -136,10 +136,10 @@ agree_on : {A : Type 0} (same : A → A → Bool) → ((a b : A) → same a b �
     → (is_some q ≡ true → is_some p ≡ true)
     → agree same o p ≡ true → agree same p q ≡ true → agree same o q ≡ true
 unfolding agree is_some
-agree_on same eq none p q f a b = refl
-agree_on same eq (some x) p none f a b = refl
-agree_on same eq (some x) none (some z) f a b = never {b = false} (f refl) refl
-agree_on same eq (some x) (some y) (some z) f a b = subst (λ w. same w z ≡ true) (sym (eq x y a)) b
+agree_on same eq None p q f a b = refl
+agree_on same eq (Some x) p None f a b = refl
+agree_on same eq (Some x) None (Some z) f a b = never {b = false} (f refl) refl
+agree_on same eq (Some x) (Some y) (Some z) f a b = subst (λ w. same w z ≡ true) (sym (eq x y a)) b
 
 -- lists that agree over the shorter length, the last being no longer than the middle one
 agrees_on : {A : Type 0} (same : A → A → Bool) → ((a b : A) → same a b ≡ true → a ≡ b) → (xs ys zs : List A)

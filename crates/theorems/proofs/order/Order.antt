@@ -1,9 +1,9 @@
 -- Change request 13: the statements of specs/Order.antt. Assumes nothing.
+use Rattle.std.specs.Prelude.{Option, None, Some}
 use mathlib.Core.Path.{◌≡◌, refl, sym, ap, subst, ◌∙◌}
 use mathlib.Core.Bool.{true, false, cond}
 use mathlib.Core.Logic.{⊎_elim, ◌⊎◌, inr}
 use mathlib.Core.List.{List, [], ◌∷◌, ◌++◌, Memᴰ}
-use mathlib.Core.Option.{Option, none, some}
 use Prim.Native.Nat.{ℕ, ◌≤◌}
 use native.Mathlib.Omega.{arith}
 use lib.Dec.{eqb}
@@ -78,7 +78,7 @@ module _ (p : ℕ → Place) (a : Area) (k most : ℕ) (t : Together p a k most)
     pub interval : q.list.scan.interval ≡ k
     pub limit : q.list.hinting.most ≡ most
     pub fingerprint : q.list.fingerprint ≡ (p i).list.fingerprint
-    pub image : (q.list.image ≡ none) ⊎ ((w : ℕ) × (q.list.image ≡ (p w).list.image))
+    pub image : (q.list.image ≡ None) ⊎ ((w : ℕ) × (q.list.image ≡ (p w).list.image))
     pub read : (w : ℕ) × (q.list.scan.checkpoints ≡ (p w).list.scan.checkpoints)
         × (q.list.scan.ending ≡ (p w).list.scan.ending)
     pub hints_from : (h : Hint) → Memᴰ h (hints_at q) → (w : ℕ) × Memᴰ w ws × Memᴰ h (hints_at (p w))
@@ -165,15 +165,15 @@ module _ (p : ℕ → Place) (a : Area) (k most : ℕ) (t : Together p a k most)
         (λ f. let s = (of_scans.taken f).0 in (d.read.0, s.checkpoints ∙ d.read.1, s.ending ∙ d.read.2))
         (λ f. let s = of_scans.same f in rw s c.read)
 
-    image_after : (list.image ≡ none) ⊎ ((w : ℕ) × (list.image ≡ (p w).list.image))
+    image_after : (list.image ≡ None) ⊎ ((w : ℕ) × (list.image ≡ (p w).list.image))
     unfolding merged or_else
     image_after = either q.list.image r.list.image c.image d.image
       where
-        either : (m n : Option ℕ) → (m ≡ none) ⊎ ((w : ℕ) × (m ≡ (p w).list.image))
-            → (n ≡ none) ⊎ ((w : ℕ) × (n ≡ (p w).list.image))
-            → (or_else m n ≡ none) ⊎ ((w : ℕ) × (or_else m n ≡ (p w).list.image))
-        either none n h g = g
-        either (some v) n h g = h
+        either : (m n : Option ℕ) → (m ≡ None) ⊎ ((w : ℕ) × (m ≡ (p w).list.image))
+            → (n ≡ None) ⊎ ((w : ℕ) × (n ≡ (p w).list.image))
+            → (or_else m n ≡ None) ⊎ ((w : ℕ) × (or_else m n ≡ (p w).list.image))
+        either None n h g = g
+        either (Some v) n h g = h
 
     print_after : list.fingerprint ≡ q.list.fingerprint
     unfolding merged

@@ -1,9 +1,9 @@
 -- What entering a list and jumping in it leave of a shelf. Assumes nothing.
+use Rattle.std.specs.Prelude.{None, Some}
 use mathlib.Core.Path.{◌≡◌, refl, sym, ap, ap₂, ◌∙◌}
 use mathlib.Core.Bool.{Bool, true, false, cond}
 use mathlib.Core.List.{List, [], ◌∷◌, ◌++◌, Memᴰ}
 use mathlib.Core.Logic.{◌⊎◌, inl, inr, ⊎_elim, ◌≢◌}
-use mathlib.Core.Option.{none, some}
 use Prim.Native.Nat.{ℕ, zero, suc, ◌+◌, ◌-◌, ◌<◌, ◌≤◌}
 use native.Mathlib.Omega.{arith}
 use borrow.Author.Tests.{ltb-true, ltb-false, leb-true, leb-false, lt-ltb, le-leb}
@@ -152,7 +152,7 @@ enter_leaves x t a len y e =
       counted = ap (λ (z : After). z.shelf.count) f.is;
       oldest = λ g k m n i. ⊎_elim (λ z. absurd (n z)) (λ j. o.older g k (f.made.oldest g k j i)) (w.2 g m);
       needed =
-          ⊎_elim (λ none. inl (λ g m. ⊎_elim (λ z. z) (λ j. absurd (none g j)) (w.2 g m)))
+          ⊎_elim (λ None. inl (λ g m. ⊎_elim (λ z. z) (λ j. absurd (None g j)) (w.2 g m)))
           (λ h. inr (last_back x t a len w.0 ks f.made.gone o f.long f.made.parted w.2 w.3 h))
           f.made.needed;
     }
@@ -164,20 +164,20 @@ record JumpFacts (x : Shelf) (t : List ShelfRecord) (a : Area) (y : After) : Typ
   is : y ≡ holding x t (jumped x (present_records x t) a)
 
 held→ : (x : Shelf) (t : List ShelfRecord) (b : Bool) (new : List ShelfRecord) (y : After)
-    → held_by x t (cond b (some new) none) ≡ some y → (b ≡ true) × (y ≡ holding x t new)
+    → held_by x t (cond b (Some new) None) ≡ Some y → (b ≡ true) × (y ≡ holding x t new)
 unfolding held_by
 held→ x t true new y e = (refl, cc)
 held→ x t false new y e = let z : ◌≡◌ {A = ℕ} 0 1 = cc in let f : ⊥ = omega arith in absurd f
 
-jump_facts : (x : Shelf) (t : List ShelfRecord) (a : Area) (y : After) → jump x t a ≡ Accepted (some y)
+jump_facts : (x : Shelf) (t : List ShelfRecord) (a : Area) (y : After) → jump x t a ≡ Accepted (Some y)
     → JumpFacts x t a y
 unfolding jump jumping jumped_in among
 jump_facts x t a y e =
-    let b = bind→ (jumping x (length t) (present_records x t) a) (λ o. Accepted (held_by x t o)) (some y) e in
+    let b = bind→ (jumping x (length t) (present_records x t) a) (λ o. Accepted (held_by x t o)) (Some y) e in
     let q = asked→ (questions x (length t) (present_records x t) a []) (Accepted (jumped_in x (present_records x t) a))
     b.value refl b.first in
     let n : jumped_in x (present_records x t) a ≡ b.value = accepted_eq _ _ q.1 in
-    let z : held_by x t b.value ≡ some y = accepted_eq _ _ b.second in
+    let z : held_by x t b.value ≡ Some y = accepted_eq _ _ b.second in
     let h = held→ x t (among a (present_records x t)) (jumped x (present_records x t) a) y (ap (held_by x t) n ∙ z) in
     record { passed = passed x t a q.0.1.0 q.0.1.1.0; there = ltb-true _ _ h.0; is = h.1 }
 
@@ -208,7 +208,7 @@ module _ (stamp : ℕ) where
   sum_stamped (r ∷ rs) zero = refl
   sum_stamped (r ∷ rs) (suc i) = ap (λ (n : ℕ). r.len + n) (sum_stamped rs i)
 
-jump_valid : (x : Shelf) (t : List ShelfRecord) (a : Area) (y : After) → jump x t a ≡ Accepted (some y) → ValidAfter t y
+jump_valid : (x : Shelf) (t : List ShelfRecord) (a : Area) (y : After) → jump x t a ≡ Accepted (Some y) → ValidAfter t y
 unfolding jumped
 jump_valid x t a y e =
     let f = jump_facts x t a y e in
@@ -282,7 +282,7 @@ jump_asked x t a h =
 
 accepts_jump : (x : Shelf) (t : List ShelfRecord) (a : Area) → Asked x t a → (i : ℕ) → i < x.present
     → area_of (get_or t i no_record) ≡ a
-    → (y : After) × (jump x t a ≡ Accepted (some y))
+    → (y : After) × (jump x t a ≡ Accepted (Some y))
 unfolding jumped_in held_by
 accepts_jump x t a h i l e =
     let p = passed x t a (le-leb 64 (length t) h.room) h.shelf in
@@ -293,7 +293,7 @@ accepts_jump x t a h i l e =
     (holding x t (jumped x (present_records x t) a), jump_asked x t a h ∙ rw m)
 
 absent_jump : (x : Shelf) (t : List ShelfRecord) (a : Area) → Asked x t a
-    → ((i : ℕ) → i < x.present → area_of (get_or t i no_record) ≢ a) → jump x t a ≡ Accepted none
+    → ((i : ℕ) → i < x.present → area_of (get_or t i no_record) ≢ a) → jump x t a ≡ Accepted None
 unfolding jumped_in held_by
 absent_jump x t a h f =
     let p = passed x t a (le-leb 64 (length t) h.room) h.shelf in

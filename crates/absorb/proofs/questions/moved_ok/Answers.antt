@@ -1,7 +1,6 @@
 use Rattle.absorb.proofs.questions.Twelve.{moved_is, started}
 use native.Mathlib.Omega.{arith}
 use borrow.Author.Rules.{rules}
-use Rattle.tables.specs.Index.{end_in}
 use Rattle.absorb.proofs.questions.moved_ok.Goals as goal
 
 pub overflow_cast-h : goal.overflow_cast-h
@@ -23,7 +22,7 @@ pub returns-then-goes : goal.returns-then-goes
 returns-then-goes c =
     grind (
       arith,
-      moved_is c.args.x c.args.checkpoints.now c.args.malformed.now c.args.r c.args.theirs.now c.args.given.now c.args.i c.args.front (end_in c.args.end)
+      moved_is c.args.x c.args.checkpoints.now c.args.malformed.now c.args.r c.args.theirs.now c.args.given.now c.args.i c.args.front c.args.end
           c.joined_last-last.ensures c.counted-count.ensures c.ending_ok-ends.ensures c.continues-goes.ensures c.list_ok-lists.ensures,
     )
 
@@ -31,6 +30,6 @@ pub returns-else-goes : goal.returns-else-goes
 returns-else-goes c =
     grind (
       arith,
-      moved_is c.args.x c.args.checkpoints.now c.args.malformed.now c.args.r c.args.theirs.now c.args.given.now c.args.i c.args.front (end_in c.args.end)
+      moved_is c.args.x c.args.checkpoints.now c.args.malformed.now c.args.r c.args.theirs.now c.args.given.now c.args.i c.args.front c.args.end
           c.joined_last-last.ensures c.counted-count.ensures c.ending_ok-ends.ensures c.continues-goes.ensures c.list_ok-lists.ensures,
     )

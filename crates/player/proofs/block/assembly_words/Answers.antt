@@ -6,15 +6,15 @@ use Rattle.player.specs.Block.{assembly_words}
 use borrow.Author.Rules.{rules}
 use Rattle.player.proofs.block.assembly_words.Goals as goal
 
-pub returns-in-Replayed : goal.returns-in-Replayed
+pub returns-in-None : goal.returns-in-None
 unfolding assembly_words
-returns-in-Replayed c = rw c.in-Replayed.is
+returns-in-None c = rw c.in-None.is
 
-pub returns-in-Stored : goal.returns-in-Stored
+pub returns-in-Some : goal.returns-in-Some
 unfolding assembly_words
-returns-in-Stored c =
+returns-in-Some c =
     rw (
-      c.in-Stored.is,
+      c.in-Some.is,
       c.kind_number.ensures,
-      c.unsigned.ensures ∙ ap unsigned32 (to_z-of_z w32 c.in-Stored.p.remaining (search rules)),
+      c.unsigned.ensures ∙ ap unsigned32 (to_z-of_z w32 c.in-Some.p.remaining (search rules)),
     )
