@@ -4,17 +4,18 @@ ghost use Rattle.std.specs.Prelude.{◌≡◌, List, ℕ, length, take};
 ghost use Rattle.rules.specs.Values.{max_malformed};
 ghost use Rattle.rules.specs.Record.{below};
 ghost use Rattle.tables.specs.Index.{tables};
-ghost use Rattle.tables.specs.Recorder.{recorder_tables};
+ghost use Rattle.tables.specs.Loans.{recorder_tables_in};
 ghost use Rattle.tables.specs.Tables.{given_in};
 ghost use Rattle.absorb.specs.Steps.{written, Kept, absorbed_in, AbsorbReady, TakesBelow, TakenBelow, numbers_by};
 
-use crate::tests::{count_below, or_else};
+use crate::tests::count_below;
 use merge::numbers::image_of;
 use merge::take::{append_checkpoints, take_malformed, take_parts};
 use parts::Counts;
 use recorder::end_of;
 use rules::{AreaIndex, EndState, MAX_MALFORMED_WARNINGS, Recorder};
 use sections::frontier_of;
+use tables::lent::RecorderTables;
 
 // ---- malformed LSNs
 // How many of the given LSNs are taken: those below front, at most 4,096.
@@ -77,25 +78,26 @@ pub fn commit(
     store: &mut [u8],
     parts: &mut [u8],
     malformed: &mut [u8],
-    new_checkpoints: &[u8],
-    new_frames: &[u8],
-    new_store: &[u8],
-    new_parts: &[u8],
+    u: &RecorderTables,
 ) -> AreaIndex
-    requires { AbsorbReady x checkpoints.old frames.old store.old parts.old malformed.old r (recorder_tables new_checkpoints.now new_frames.now new_store.now new_parts.now) given.now }
-    ensures { (hints confirmed : List ℕ) → Kept x hints confirmed → written result (tables checkpoints.new frames.new store.new parts.new malformed.new hints confirmed) ≡ absorbed_in x (tables checkpoints.old frames.old store.old parts.old malformed.old hints confirmed) r (recorder_tables new_checkpoints.now new_frames.now new_store.now new_parts.now) image given.now }
+    requires { AbsorbReady x checkpoints.old frames.old store.old parts.old malformed.old r
+        (recorder_tables_in u.now) given.now }
+    ensures { (hints confirmed : List ℕ) → Kept x hints confirmed
+        → written result (tables checkpoints.new frames.new store.new parts.new malformed.new hints confirmed)
+        ≡ absorbed_in x (tables checkpoints.old frames.old store.old parts.old malformed.old hints confirmed) r
+        (recorder_tables_in u.now) image given.now }
 {
     let skip = x.checkpoints - r.first;
-    let end = or_else(end_of(r.mode), x.ending);
+    let end = end_of(r.mode).or(x.ending);
     let n = append_checkpoints(
         checkpoints,
         x.checkpoints,
-        new_checkpoints,
+        u.checkpoints,
         r.checkpoints,
         skip,
     );
     let c = take_parts(
-        x, r.frames, r.parts, new_frames, new_store, new_parts, frames, store, parts,
+        x, r.frames, r.parts, u.frames, u.store, u.parts, frames, store, parts,
     );
     let m = take_below(x, n, end, given, malformed);
     numbers(x, image, n, c, m, end)

@@ -10,15 +10,16 @@ ghost use Rattle.std.specs.Prelude.{◌≡◌, cond, ◌+◌, ◌≤◌, eqb};
 ghost use Rattle.rules.specs.declared.Mode.TheVariants.{Stopped};
 ghost use Rattle.rules.specs.Record.{drained};
 ghost use Rattle.tables.specs.Index.{tables};
-ghost use Rattle.tables.specs.Recorder.{recorder_tables};
+ghost use Rattle.tables.specs.Loans.{recorder_tables_in};
 ghost use Rattle.recorder.specs.Recorder.{mode_of};
-ghost use Rattle.absorb.specs.Absorb.{absorbed_out, absorb_in};
+ghost use Rattle.absorb.specs.Absorb.{absorbed, absorbed_out, absorb_in};
 ghost use Rattle.absorb.specs.Steps.{drained_of};
 
 use crate::committed::commit;
-use crate::refusal::{absorb_refuses, is_stopped};
+use crate::refusal::{check_absorb, is_stopped};
 use recorder::with_mode;
 use rules::{Absorbed, AreaIndex, Mode, Recorder};
+use tables::lent::{RecorderTables, Tables};
 
 // ---- the recorder afterwards
 // 8 stops the recorder; another refusal leaves it.
@@ -59,8 +60,21 @@ fn drain(r: Recorder) -> Recorder
     }
 }
 
+// What is answered where nothing is absorbed, for a refusal number or for 0.
+fn nothing_absorbed(x: AreaIndex, r: Recorder, number: u32) -> Absorbed
+    ensures { result ≡ absorbed number x (cond (eqb number 8) (mode_of r Stopped) r) }
+{
+    Absorbed {
+        number,
+        index: x,
+        recorder: stop_recording(r, number),
+    }
+}
+
 // ---- the call
-// What the recorder r has, only read, into the index x; image is the image that was read, and given the malformed LSNs of the reading.
+// What the recorder r has, only read in u, into the index x; image is the image that was read, and given the malformed
+// LSNs of the reading.
+// An own struct and no Result: 8 stops the recorder, so that an answer stands beside the refusal.
 pub fn absorb(
     x: AreaIndex,
     r: Recorder,
@@ -73,36 +87,28 @@ pub fn absorb(
     malformed: &mut [u8],
     hints: &[u8],
     confirmed: &[u8],
-    new_checkpoints: &[u8],
-    new_frames: &[u8],
-    new_store: &[u8],
-    new_parts: &[u8],
+    u: &RecorderTables,
 ) -> Absorbed
-    ensures { absorbed_out result (tables checkpoints.new frames.new store.new parts.new malformed.new hints.now confirmed.now) ≡ absorb_in x (tables checkpoints.old frames.old store.old parts.old malformed.old hints.now confirmed.now) image given.now r (recorder_tables new_checkpoints.now new_frames.now new_store.now new_parts.now) }
+    ensures { absorbed_out result
+        (tables checkpoints.new frames.new store.new parts.new malformed.new hints.now confirmed.now)
+        ≡ absorb_in x
+        (tables checkpoints.old frames.old store.old parts.old malformed.old hints.now confirmed.now)
+        image given.now r (recorder_tables_in u.now) }
 {
-    let number = absorb_refuses(
-        x,
-        r,
-        image,
-        given,
-        checkpoints,
-        frames,
-        store,
-        parts,
-        malformed,
+    let t = Tables {
+        checkpoints: &*checkpoints,
+        frames: &*frames,
+        store: &*store,
+        parts: &*parts,
+        malformed: &*malformed,
         hints,
         confirmed,
-        new_checkpoints,
-        new_frames,
-        new_store,
-        new_parts,
-    );
-    if number != 0 || is_stopped(r.mode) {
-        return Absorbed {
-            number,
-            index: x,
-            recorder: stop_recording(r, number),
-        };
+    };
+    if let Err(e) = check_absorb(x, r, image, given, &t, u) {
+        return nothing_absorbed(x, r, u32::from(e));
+    }
+    if is_stopped(r.mode) {
+        return nothing_absorbed(x, r, 0);
     }
     let index = commit(
         x,
@@ -114,10 +120,7 @@ pub fn absorb(
         store,
         parts,
         malformed,
-        new_checkpoints,
-        new_frames,
-        new_store,
-        new_parts,
+        u,
     );
     Absorbed {
         number: 0,

@@ -3,7 +3,7 @@ ghost use Rattle.std.specs.Prelude.{◌≡◌, ◌||◌, ◌+◌, ◌-◌, ◌*�
 ghost use Rattle.tables.specs.Tables.{lsns_in};
 ghost use Rattle.absorb.specs.Steps.{nine_in, eleven_in, list_in, moved_in, twelve_in, Joinable};
 
-use crate::tests::{continues, count_below, joined_last, opens_with, or_else, same_counts};
+use crate::tests::{continues, count_below, joined_last, opens_with, same_counts};
 use merge::questions::{same_area, same_end};
 use recorder::end_of;
 use rules::{Area, AreaIndex, EndState, MAX_MALFORMED_WARNINGS, MAX_U32, Recorder};
@@ -94,7 +94,7 @@ pub fn question12(
     ensures { result ≡ twelve_in x checkpoints.now malformed.now r theirs.now given.now }
 {
     let i = x.checkpoints - r.first;
-    let end = or_else(end_of(r.mode), x.ending);
+    let end = end_of(r.mode).or(x.ending);
     let count = x.checkpoints + r.checkpoints.saturating_sub(i);
     let before = frontier_of(x.area, x.interval, x.checkpoints, x.ending);
     let front = frontier_of(x.area, x.interval, count, end);

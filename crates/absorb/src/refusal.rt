@@ -1,17 +1,16 @@
 // What an absorb asks of an index and a recorder in their tables: 1 to 4 of both, and 8 to 12.
 ghost use Rattle.std.specs.Prelude.{◌≡◌, ◌≤◌};
 ghost use Rattle.rules.specs.Record.{is_stopped};
-ghost use Rattle.tables.specs.Index.{tables};
-ghost use Rattle.tables.specs.Recorder.{recorder_tables};
+ghost use Rattle.rules.specs.Refusals.{number_in};
+ghost use Rattle.tables.specs.Loans.{recorder_tables_in, tables_in};
 ghost use Rattle.absorb.specs.Steps.{absorb_refusal, ten_in, later_number, Readable};
 
 use crate::questions::{question9, question11, question12};
-use index::refuses;
-use index::room::lowest;
+use index::room::lower;
 use merge::questions::same_image;
-use recorder::recorder_refuses;
-use rules::{AreaIndex, Mode, Recorder};
+use rules::{AreaIndex, Mode, Recorder, Refusal};
 use sections::frontier_of;
+use tables::lent::{RecorderTables, Tables};
 
 #[tactic(auto, unfolding(rules::specs::Record::is_stopped))]
 pub fn is_stopped(mode: Mode) -> bool
@@ -30,9 +29,9 @@ fn question10(x: AreaIndex, r: Recorder) -> bool
     r.from <= frontier_of(x.area, x.interval, x.checkpoints, x.ending) && r.first <= x.checkpoints
 }
 
-// The number of the first of questions 8 to 12 answered no, 0 for none.
-#[tactic(auto, unfolding(crate::specs::Steps::later_number, rules::specs::Tests::first_no))]
-fn later_number(
+// Questions 8 to 12.
+#[tactic(auto, unfolding(crate::specs::Steps::later_number, rules::specs::Tests::first_no, rules::specs::Refusals::number_in, rules::specs::Refusals::refusal_number))]
+fn check_later(
     x: AreaIndex,
     r: Recorder,
     image: Option<u64>,
@@ -40,72 +39,55 @@ fn later_number(
     checkpoints: &[u8],
     malformed: &[u8],
     theirs: &[u8],
-) -> u32
+) -> Result<(), Refusal>
     requires { Readable x checkpoints.now malformed.now r theirs.now }
-    ensures { result ≡ later_number x checkpoints.now malformed.now r theirs.now image
+    ensures { number_in result ≡ later_number x checkpoints.now malformed.now r theirs.now image
         given.now }
 {
     if !same_image(x.image, image) {
-        return 8;
+        return Err(Refusal::AbsorbImage);
     }
     if !question9(x, r) {
-        return 9;
+        return Err(Refusal::AbsorbArea);
     }
     if !question10(x, r) {
-        return 10;
+        return Err(Refusal::AbsorbJoins);
     }
     if !question11(x, r, checkpoints, theirs) {
-        return 11;
+        return Err(Refusal::AbsorbAgrees);
     }
     if !question12(x, r, given, checkpoints, malformed, theirs) {
-        return 12;
+        return Err(Refusal::AbsorbResult);
     }
-    0
+    Ok(())
 }
 
 // ---- all questions of an absorb
-// The number of the first question that refuses an absorb of r into x, 0 for none; a stopped recorder is no refusal
-// after 4.
-pub fn absorb_refuses(
+// Do the questions allow an absorb of r into x? A stopped recorder is no refusal after 4.
+#[tactic(auto, using(crate::proofs::refusal::Refusal::first_refuses, rules::proofs::Refusals::number_ne0), unfolding(rules::specs::Refusals::number_in))]
+pub fn check_absorb(
     x: AreaIndex,
     r: Recorder,
     image: Option<u64>,
     given: &[u8],
-    checkpoints: &[u8],
-    frames: &[u8],
-    store: &[u8],
-    parts: &[u8],
-    malformed: &[u8],
-    hints: &[u8],
-    confirmed: &[u8],
-    new_checkpoints: &[u8],
-    new_frames: &[u8],
-    new_store: &[u8],
-    new_parts: &[u8],
-) -> u32
-    ensures { result ≡ absorb_refusal x
-        (tables checkpoints.now frames.now store.now parts.now
-        malformed.now hints.now confirmed.now) image given.now r
-        (recorder_tables new_checkpoints.now new_frames.now new_store.now
-        new_parts.now) }
+    t: &Tables,
+    u: &RecorderTables,
+) -> Result<(), Refusal>
+    ensures { number_in result ≡ absorb_refusal x (tables_in t.now) image given.now r (recorder_tables_in u.now) }
 {
-    let own = refuses(
-        x,
-        checkpoints,
-        frames,
-        store,
-        parts,
-        malformed,
-        hints,
-        confirmed,
-    );
-    let theirs = recorder_refuses(r, new_checkpoints, new_frames, new_store, new_parts);
-    let number = lowest(own, theirs);
-    if number != 0 {
-        return number;
-    }
+    let own = index::check(x, t);
+    let theirs = recorder::check(r, u);
+    lower(own, theirs)?;
     if is_stopped(r.mode) {
-        return 0;
+        return Ok(());
     }
-    later_number(x, r, image, given, checkpoints, malformed, new_checkpoints)
+    check_later(
+        x,
+        r,
+        image,
+        given,
+        t.checkpoints,
+        t.malformed,
+        u.checkpoints,
+    )
 }

@@ -1,14 +1,14 @@
 // What questions 11 and 12 compare in the tables of an index and a recorder, and the end of the joined list.
 ghost use Rattle.std.specs.Prelude.{◌≡◌, cond, ◌++◌, ◌+◌, ◌*◌, ◌≤◌, ◌<◌, length, take, drop};
 ghost use Rattle.field.specs.Number.{same_bytes};
-ghost use Rattle.rules.specs.Tests.{or_else, agrees};
+ghost use Rattle.rules.specs.Tests.{agrees};
 ghost use Rattle.rules.specs.Values.{last_checkpoint};
 ghost use Rattle.rules.specs.Record.{same_counts, below};
 ghost use Rattle.laws.specs.Twelve.{not_below, continues};
 ghost use Rattle.tables.specs.Tables.{checkpoints_in, lsns_in};
 
 use field::same;
-use rules::{Checkpoint, EndState};
+use rules::Checkpoint;
 use sections::last_checkpoint;
 use tables::{get_checkpoint, read_checkpoint, read_lsn};
 
@@ -60,18 +60,6 @@ pub fn joined_last(t: &[u8], n: usize, other: &[u8], m: usize, i: usize) -> Chec
         last_checkpoint(t, n)
     } else {
         last_checkpoint(other, m)
-    }
-}
-
-// ---- the end state
-// The first, or the second where the first is open.
-#[tactic(auto, unfolding(rules::specs::Tests::or_else))]
-pub fn or_else(a: Option<EndState>, b: Option<EndState>) -> Option<EndState>
-    ensures { result ≡ or_else a b }
-{
-    match a {
-        None => b,
-        Some(_) => a,
     }
 }
 

@@ -10,7 +10,7 @@ use borrow.Author.Tests.{eq-eqb, ne_eqb}
 use Rattle.field.specs.Records.{records}
 use Rattle.field.proofs.Records.{records_length}
 use Rattle.rules.specs.declared.AreaIndex.{AreaIndex}
-use Rattle.rules.specs.Tests.{is_some, or_else, Accepted, after}
+use Rattle.rules.specs.Tests.{is_some, or_else, Accepted, after, Refused}
 use Rattle.rules.specs.Values.{Scan, is_checked, same_checkpoint, same_end}
 use Rattle.rules.specs.File.{decode_checkpoint, decode_confirmation}
 use Rattle.rules.specs.Merge.{further, merged_scan, merged_fingerprint, merged}
@@ -24,10 +24,9 @@ use Rattle.merge.proofs.questions.Refusal.{further_is, asked_after}
 use Rattle.merge.proofs.questions.Ready.{hinting_is, areas}
 use Rattle.merge.proofs.questions.Held.{lent, room}
 use Rattle.parts.specs.Parts.{part_tables}
-use Rattle.adds.specs.Adds.{same_list, same_known, same_fingerprint, brings_of, brings, adds_of, adds_in}
+use Rattle.adds.specs.Adds.{same_list, same_known, same_fingerprint, brings_of, brings, adds_in}
 use Rattle.adds.specs.Answers.{HintsAnswered, ConfirmedAnswered}
 use Rattle.rules.specs.declared.Brings.{Brings}
-use Rattle.rules.specs.declared.Added.TheVariants as added
 use Rattle.adds.specs.Steps.{PartsRead, parts_change, some_stored, brings_in}
 use Rattle.adds.proofs.Fields.{checkpoints_change, ending_change, malformed_change}
 use Rattle.adds.proofs.Parts.{parts_change_lemma}
@@ -126,10 +125,10 @@ module _ (x : AreaIndex) (t : Tables) (y : AreaIndex) (u : Tables) {n : ℕ} (e 
   unfolding brings brings_in
   call_is = asked_after x t y u (brings_of (index_in x t) (merged (index_in x t) (index_in y u))) e
 
-  pub adds_refused : (n ≡ 0 → ⊥) → adds_of (added.Refused n) ≡ adds_in x t y u
-  unfolding adds_of after
+  pub adds_refused : (n ≡ 0 → ⊥) → Refused n ≡ adds_in x t y u
+  unfolding after
   adds_refused h = sym (call_is ∙ rw (ne_eqb n 0 h))
 
-  pub adds_done : {b : Brings} → n ≡ 0 → b ≡ brings_in x t y u → adds_of (added.Brings b) ≡ adds_in x t y u
-  unfolding adds_of after
+  pub adds_done : {b : Brings} → n ≡ 0 → b ≡ brings_in x t y u → Accepted b ≡ adds_in x t y u
+  unfolding after
   adds_done h q = sym (call_is ∙ rw (eq-eqb n 0 h, ← q))

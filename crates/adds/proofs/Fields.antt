@@ -17,6 +17,7 @@ use Rattle.field.proofs.Records.{records_same}
 use Rattle.rules.specs.declared.Fingerprint.{Fingerprint}
 use Rattle.rules.specs.declared.Fingerprint.TheVariants.{Unknown, Checked}
 use Rattle.rules.specs.declared.Fingerprint.TheVariants as fingerprint
+use Rattle.std.specs.Option as option
 use Rattle.rules.specs.Tests.{is_some, or_else}
 use Rattle.rules.specs.Values.{Scan, count, complete, stated, same_checkpoint, same_end}
 use Rattle.rules.specs.File.{decode_lsn, encode_lsn}
@@ -110,8 +111,8 @@ fingerprint_change Unknown (Checked w) = refl
 fingerprint_change (fingerprint.Held v) g = rw (eqb_self v)
 fingerprint_change (Checked v) g = rw (eqb_self v)
 
-pub image_change : (a b : Option ℕ) → not (same_known eqb a (or_else a b)) ≡ (not (is_some a) && is_some b)
-unfolding same_known or_else is_some
+pub image_change : (a b : Option ℕ) → not (same_known eqb a (or_else a b)) ≡ (not (option.is_some a) && option.is_some b)
+unfolding same_known or_else
 image_change None None = refl
 image_change None (Some w) = refl
 image_change (Some v) b = rw (eqb_self v)

@@ -8,8 +8,6 @@ use Rattle.rules.specs.declared.Fingerprint.TheVariants.{Unknown, Checked}
 use Rattle.rules.specs.declared.Fingerprint.TheVariants as fingerprint
 use Rattle.rules.specs.declared.Held.{Held}
 use Rattle.rules.specs.declared.Brings.{Brings}
-use Rattle.rules.specs.declared.Added.{Added}
-use Rattle.rules.specs.declared.Added.TheVariants as added
 use Rattle.rules.specs.Tests.{all, Answer, Refused, Accepted, after}
 use Rattle.rules.specs.Values.{Frame, Index, Lengths, same_kind, same_checkpoint, same_end}
 use Rattle.rules.specs.Merge.{merged, merge_number}
@@ -76,10 +74,6 @@ unfoldable pub brings : Lengths → Index → Lengths → Index → Answer Bring
 brings l own m other = after (merge_number l own m other) (Accepted (brings_of own (merged own other)))
 
 -- ---- in the tables
-unfoldable pub adds_of : Added → Answer Brings
-adds_of (added.Refused n) = Refused n
-adds_of (added.Brings b) = Accepted b
-
 -- adds
 abbrev pub adds_in : AreaIndex → Tables → AreaIndex → Tables → Answer Brings
 adds_in x t y u = kinded (kinds_in x t && kinds_in y u) (brings (room_of t) (index_in x t) (room_of u) (index_in y u))

@@ -137,6 +137,7 @@ fn weigh(own: &[u8], n: usize, other: &[u8], m: usize) -> Weighed
     let mut s = nothing_weighed();
     let mut i = 0;
     let mut j = 0;
+    // Two cursors, each in its own list: the turn says which goes on, and no range does.
     while i + j < n + m {
         let t = next_hint(own, n, other, m, i, j);
         s = weigh_one(s, t.new, t.replaced, t.hint);
@@ -208,6 +209,7 @@ fn absorbs(own: &[u8], n: usize, other: &[u8], m: usize, first: usize) -> bool
 {
     let mut i = 0;
     let mut j = first;
+    // Two cursors: the one in the own list goes on by a turn of its own.
     while j < m {
         if n <= i {
             return false;

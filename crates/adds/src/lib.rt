@@ -7,22 +7,23 @@ ghost use Rattle.std.specs.Prelude.{◌≡◌, ◌&&◌, not, ◌+◌, ◌*◌, 
 ghost use Rattle.rules.specs.Tests.{or_else};
 ghost use Rattle.rules.specs.PartRule.{stores};
 ghost use Rattle.rules.specs.Merge.{merged_fingerprint};
+ghost use Rattle.rules.specs.Refusals.{answer_in};
 ghost use Rattle.tables.specs.Tables.{lsns_in, frames_in, parts_in};
-ghost use Rattle.tables.specs.Index.{tables};
+ghost use Rattle.tables.specs.Loans.{tables_in};
 ghost use Rattle.merge.specs.Steps.{Joins};
 ghost use Rattle.parts.specs.Parts.{part_tables, stored_in};
 ghost use Rattle.parts.specs.Steps.{CountsReady, Lent, held_piece};
-ghost use Rattle.adds.specs.Adds.{same_list, same_known, same_fingerprint, adds_of, adds_in};
+ghost use Rattle.adds.specs.Adds.{same_list, same_known, same_fingerprint, adds_in};
 ghost use Rattle.adds.specs.Steps.{some_stored, PartsRead, parts_change, brings_in};
 
 use crate::compare::{changes_confirmed, changes_hints};
 use field::same;
 use index::{is_checked, is_complete, is_stated};
 use merge::goes_further::further;
-use merge::numbers::has_id;
-use merge::questions::merge_refuses;
+use merge::questions::check_merge;
 use parts::{Counts, Piece, Source, source_at, stores, used_bytes};
-use rules::{Added, AreaIndex, Brings, Fingerprint, Held};
+use rules::{AreaIndex, Brings, Fingerprint, Held, Refusal};
+use tables::lent::Tables;
 use tables::{read_header, read_held};
 
 // ---- fingerprint and image id
@@ -39,7 +40,7 @@ fn fills_fingerprint(a: Fingerprint, b: Fingerprint) -> bool
 fn fills_image(a: Option<u64>, b: Option<u64>) -> bool
     ensures { result ≡ not (same_known eqb a (or_else a b)) }
 {
-    !has_id(a) && has_id(b)
+    a.is_none() && b.is_some()
 }
 
 // ---- malformed LSNs
@@ -174,38 +175,12 @@ fn changes_parts(
 
 // ---- the call
 // What a merge of y into x, which nothing refuses, would bring.
-fn brought(
-    x: AreaIndex,
-    y: AreaIndex,
-    checkpoints: &[u8],
-    frames: &[u8],
-    store: &[u8],
-    parts: &[u8],
-    malformed: &[u8],
-    hints: &[u8],
-    confirmed: &[u8],
-    other_checkpoints: &[u8],
-    other_frames: &[u8],
-    other_store: &[u8],
-    other_parts: &[u8],
-    other_malformed: &[u8],
-    other_hints: &[u8],
-    other_confirmed: &[u8],
-) -> Brings
-    requires { Joins x
-        (tables checkpoints.now frames.now store.now parts.now malformed.now hints.now
-        confirmed.now) y
-        (tables other_checkpoints.now other_frames.now other_store.now other_parts.now
-        other_malformed.now other_hints.now other_confirmed.now) }
-    ensures { result ≡ brings_in x
-        (tables checkpoints.now frames.now store.now parts.now
-        malformed.now hints.now confirmed.now) y
-        (tables other_checkpoints.now other_frames.now other_store.now
-        other_parts.now other_malformed.now other_hints.now
-        other_confirmed.now) }
+fn brought(x: AreaIndex, y: AreaIndex, t: &Tables, other: &Tables) -> Brings
+    requires { Joins x (tables_in t.now) y (tables_in other.now) }
+    ensures { result ≡ brings_in x (tables_in t.now) y (tables_in other.now) }
 {
     let go = further(x, y);
-    let lsns = same_lsns(malformed, x.malformed, other_malformed, y.malformed);
+    let lsns = same_lsns(t.malformed, x.malformed, other.malformed, y.malformed);
     Brings {
         checkpoints: go && x.checkpoints < y.checkpoints,
         ending: go && is_complete(y),
@@ -213,21 +188,21 @@ fn brought(
             go,
             x,
             y,
-            other_frames,
-            other_store,
-            other_parts,
-            frames,
-            store,
-            parts,
+            other.frames,
+            other.store,
+            other.parts,
+            t.frames,
+            t.store,
+            t.parts,
         ),
         malformed: go && !lsns,
-        hints: changes_hints(x.most, hints, x.hints, other_hints, y.hints),
+        hints: changes_hints(x.most, t.hints, x.hints, other.hints, y.hints),
         confirmed: changes_confirmed(
             is_checked(x.fingerprint),
             x.most,
-            confirmed,
+            t.confirmed,
             x.confirmed,
-            other_confirmed,
+            other.confirmed,
             y.confirmed,
         ),
         fingerprint: fills_fingerprint(x.fingerprint, y.fingerprint),
@@ -236,68 +211,9 @@ fn brought(
 }
 
 // What merging the other list y into the own one x would bring.
-pub fn adds(
-    x: AreaIndex,
-    y: AreaIndex,
-    checkpoints: &[u8],
-    frames: &[u8],
-    store: &[u8],
-    parts: &[u8],
-    malformed: &[u8],
-    hints: &[u8],
-    confirmed: &[u8],
-    other_checkpoints: &[u8],
-    other_frames: &[u8],
-    other_store: &[u8],
-    other_parts: &[u8],
-    other_malformed: &[u8],
-    other_hints: &[u8],
-    other_confirmed: &[u8],
-) -> Added
-    ensures { adds_of result ≡ adds_in x
-        (tables checkpoints.now frames.now store.now parts.now
-        malformed.now hints.now confirmed.now) y
-        (tables other_checkpoints.now other_frames.now other_store.now
-        other_parts.now other_malformed.now other_hints.now
-        other_confirmed.now) }
+pub fn adds(x: AreaIndex, y: AreaIndex, t: &Tables, other: &Tables) -> Result<Brings, Refusal>
+    ensures { answer_in result ≡ adds_in x (tables_in t.now) y (tables_in other.now) }
 {
-    let number = merge_refuses(
-        x,
-        y,
-        checkpoints,
-        frames,
-        store,
-        parts,
-        malformed,
-        hints,
-        confirmed,
-        other_checkpoints,
-        other_frames,
-        other_store,
-        other_parts,
-        other_malformed,
-        other_hints,
-        other_confirmed,
-    );
-    if number != 0 {
-        return Added::Refused(number);
-    }
-    Added::Brings(brought(
-        x,
-        y,
-        checkpoints,
-        frames,
-        store,
-        parts,
-        malformed,
-        hints,
-        confirmed,
-        other_checkpoints,
-        other_frames,
-        other_store,
-        other_parts,
-        other_malformed,
-        other_hints,
-        other_confirmed,
-    ))
+    check_merge(x, y, t, other)?;
+    Ok(brought(x, y, t, other))
 }

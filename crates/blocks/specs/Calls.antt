@@ -4,8 +4,6 @@ use Rattle.rules.specs.declared.Area.{Area}
 use Rattle.rules.specs.declared.AreaIndex.{AreaIndex}
 use Rattle.rules.specs.declared.HintRecorder.{HintRecorder}
 use Rattle.rules.specs.declared.Recorder.{Recorder}
-use Rattle.rules.specs.declared.Saved.{Saved}
-use Rattle.rules.specs.declared.Saved.TheVariants as saved
 use Rattle.rules.specs.File.{over}
 use Rattle.rules.specs.Tests.{Answer, Refused, Accepted}
 use Rattle.blocks.specs.Blocks.{index_read, recorder_read, hint_recorder_read, words_in, block_of, is_block}
@@ -60,10 +58,10 @@ abbrev pub two : ℕ → ℕ → List ℕ
 two a b = a ∷ b ∷ 0 ∷ 0 ∷ 0 ∷ 0 ∷ 0 ∷ 0 ∷ 0 ∷ 0 ∷ 0 ∷ 0 ∷ 0 ∷ 0 ∷ 0 ∷ 0 ∷ 0 ∷ 0 ∷ 0 ∷ 0 ∷ 0 ∷ 0 ∷ 0 ∷ 0 ∷ []
 
 -- the length saved, or the refusal number
-unfoldable pub saved_number : Saved → ℕ
-saved_number (saved.Refused n) = n
-saved_number (saved.Length n) = n
+unfoldable pub saved_number : Answer ℕ → ℕ
+saved_number (Refused n) = n
+saved_number (Accepted n) = n
 
 -- with the output as block
-abbrev pub saved_into : Saved → List ℕ → Called
+abbrev pub saved_into : Answer ℕ → List ℕ → Called
 saved_into answer out = called (saved_number answer) out

@@ -1,11 +1,12 @@
 // What the calls for C share: numbers from blocks and from arguments, and words and numbers of answers.
 ghost use Rattle.std.specs.Prelude.{◌≡◌, ◌≤◌, length};
 ghost use Rattle.rules.specs.File.{bit};
+ghost use Rattle.rules.specs.Refusals.{answer_in};
 ghost use Rattle.blocks.specs.Calls.{head_index, head_recorder, head_hint_recorder, given_area, one_word, saved_number};
 
 use crate::read::{hint_recorder_from, index_from, recorder_from};
 use crate::read_words;
-use rules::{Area, AreaIndex, AreaKey, HintRecorder, Recorder, Saved};
+use rules::{Area, AreaIndex, AreaKey, HintRecorder, Recorder, Refusal};
 
 // ---- from blocks
 #[tactic(auto, unfolding(crate::specs::Calls::head_index))]
@@ -73,12 +74,12 @@ pub fn one_word(v: u64) -> [u64; 24]
 }
 
 // The length, or the refusal number.
-#[tactic(auto, unfolding(crate::specs::Calls::saved_number))]
-pub fn saved_number(saved: Saved) -> u64
-    ensures { result ≡ saved_number saved }
+#[tactic(auto, unfolding(crate::specs::Calls::saved_number, rules::specs::Refusals::answer_in))]
+pub fn saved_number(saved: Result<u64, Refusal>) -> u64
+    ensures { result ≡ saved_number (answer_in saved) }
 {
     match saved {
-        Saved::Refused(n) => u64::from(n),
-        Saved::Length(n) => n,
+        Ok(length) => length,
+        Err(e) => u64::from(e),
     }
 }

@@ -13,12 +13,13 @@ use Rattle.field.proofs.Records.{records_length}
 use Rattle.field.proofs.Format.{bytes_of_length, records_pushed}
 use Rattle.rules.specs.declared.AreaIndex.{AreaIndex}
 use Rattle.rules.specs.declared.Confirmation.{Confirmation}
-use Rattle.rules.specs.Tests.{each, ask, first_no, after}
+use Rattle.rules.specs.Tests.{each, ask, first_no, after, Accepted, Refused}
 use Rattle.rules.specs.Values.{lim, is_checked}
 use Rattle.rules.specs.Questions.{area_ok, question3, question4, hinting_room, hinting_ok}
 use Rattle.rules.specs.File.{decode_confirmation, encode_confirmation}
 use Rattle.rules.specs.Hints.{question14, in_area, keeps_nothing, keep, keep_all, keep_confirmation}
 use Rattle.rules.proofs.Tests.{all→, and_left, and_right}
+use Rattle.std.specs.Prelude.{None, Some}
 use Rattle.laws.proofs.Layouts.{confirmation_layout}
 use Rattle.laws.specs.Passes.{Begins}
 use Rattle.laws.proofs.hint_lists.Keeping.{confirmed_rises}
@@ -31,7 +32,6 @@ use Rattle.index.proofs.Questions.{passes}
 use Rattle.index.proofs.Left.{with_confirmed_table, confirmed_left}
 use Rattle.index.proofs.Back.{numbers_back}
 use Rattle.confirmations.specs.Steps.{Rising, Room, with_count}
-use Rattle.rules.specs.declared.Kept.TheVariants as kept
 use Rattle.confirmations.specs.Confirmations.{given, kept_out, kept_out_of, keep_in}
 
 or_true : (b : Bool) → (b || true) ≡ true
@@ -94,18 +94,18 @@ module _ (x : AreaIndex) (t : Tables) (lsn threshold digest : ℕ) {n : ℕ} (e 
   unfolding each
   later = refl
 
-  pub keep_no : (n ≡ 0 → ⊥) → kept_out (kept.Refused n) t ≡ keep_in x t c
+  pub keep_no : (n ≡ 0 → ⊥) → kept_out (Refused n) t ≡ keep_in x t c
   unfolding keep_in kept_out_of after keep_confirmation
   keep_no h = sym (rw (kinded_index x t (ask (question14 x.area c) 14 ∷ []) later e _, ne_eqb n 0 h))
 
   module _ (z : n ≡ 0) {q : Bool} (g : q ≡ (in_area x.area lsn && ltb threshold lim)) where
-    pub keep_14 : not q ≡ true → kept_out (kept.Refused 14) t ≡ keep_in x t c
+    pub keep_14 : not q ≡ true → kept_out (Refused 14) t ≡ keep_in x t c
     unfolding keep_in kept_out_of after keep_confirmation first_no question14
     keep_14 h =
         sym (rw (kinded_index x t (ask (question14 x.area c) 14 ∷ []) later e _, eq-eqb n 0 z, ← g, not-true q h))
 
     module _ (h : not q ≡ false) where
-      keep_nothing : keeps_nothing (is_checked x.fingerprint) x.most ≡ true → kept_out kept.Nothing t ≡ keep_in x t c
+      keep_nothing : keeps_nothing (is_checked x.fingerprint) x.most ≡ true → kept_out (Accepted None) t ≡ keep_in x t c
       unfolding keep_in kept_out_of after keep_confirmation first_no question14
       keep_nothing k =
           sym (rw (
@@ -117,17 +117,17 @@ module _ (x : AreaIndex) (t : Tables) (lsn threshold digest : ℕ) {n : ℕ} (e 
           ))
 
       pub keep_unchecked : {f : Bool} → f ≡ is_checked x.fingerprint → not f ≡ true
-          → kept_out kept.Nothing t ≡ keep_in x t c
+          → kept_out (Accepted None) t ≡ keep_in x t c
       keep_unchecked {f} w m = keep_nothing (rw (← w, not-true f m))
 
-      pub keep_zero : x.most ≡ 0 → kept_out kept.Nothing t ≡ keep_in x t c
+      pub keep_zero : x.most ≡ 0 → kept_out (Accepted None) t ≡ keep_in x t c
       keep_zero m = keep_nothing (rw (eq-eqb x.most 0 m) (or_true (not (is_checked x.fingerprint))))
 
       pub keep_yes : {f : Bool} {k : ℕ} {cs : List ℕ} → f ≡ is_checked x.fingerprint → not f ≡ false
           → (x.most ≡ 0 → ⊥) → TableBytes t
           → Begins 16 encode_confirmation (keep true x.most (confirmations_in x.confirmed t.confirmed) c) k
           t.confirmed cs
-          → kept_out (kept.Index (with_count x k)) (with_confirmed_table t cs) ≡ keep_in x t c
+          → kept_out (Accepted (Some (with_count x k))) (with_confirmed_table t cs) ≡ keep_in x t c
       unfolding keep_in kept_out_of after keep_confirmation first_no question14
       keep_yes {f} {k} {cs} w u m b s =
           let new = keep true x.most (confirmations_in x.confirmed t.confirmed) c in

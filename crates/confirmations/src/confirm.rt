@@ -99,6 +99,7 @@ fn merge_down(t: &mut [u8], a: usize, e: usize, o: &[u8], b: usize, n: usize) ->
     let mut p = a;
     let mut q = b;
     let mut k: usize = 0;
+    // Two cursors, each in its own list: the turn says which goes on, and no range does.
     while p + q < e + n {
         let first = take_first(t, p, e, o, q, n);
         write_confirmation(t, k, first.confirmation);

@@ -7,6 +7,7 @@ ghost use Rattle.std.specs.Prelude.{◌≡◌, true, ◌&&◌, ltb};
 ghost use Rattle.rules.specs.Values.{lim};
 ghost use Rattle.rules.specs.File.{encode_confirmation};
 ghost use Rattle.rules.specs.Hints.{in_area, keep};
+ghost use Rattle.rules.specs.Refusals.{answer_in};
 ghost use Rattle.laws.specs.Passes.{Begins};
 ghost use Rattle.tables.specs.Tables.{confirmations_in};
 ghost use Rattle.tables.specs.Index.{tables};
@@ -14,8 +15,9 @@ ghost use Rattle.confirmations.specs.Confirmations.{given, kept_out, keep_in};
 ghost use Rattle.confirmations.specs.Steps.{Room, with_count};
 
 use crate::confirm::{merge_confirmations, write_confirmation};
-use index::{is_checked, refuses};
-use rules::{Area, AreaIndex, CONFIRMED, Confirmation, Kept, MAX_NEXT_ACCEPTABLE};
+use index::{check, is_checked};
+use rules::{Area, AreaIndex, CONFIRMED, Confirmation, MAX_NEXT_ACCEPTABLE, Refusal};
+use tables::lent::Tables;
 
 // 14: LSN in the area, threshold < LIM?
 #[tactic(auto, unfolding(rules::specs::Hints::in_area))]
@@ -43,6 +45,7 @@ fn with_count(x: AreaIndex, n: u32) -> AreaIndex
 }
 
 // The confirmation kept by its rule.
+#[tactic(auto, using(crate::proofs::Keeping::keep_no, rules::proofs::Refusals::number_ne0), unfolding(rules::specs::Refusals::answer_in, rules::specs::Refusals::number_in))]
 pub fn keep_confirmation(
     x: AreaIndex,
     lsn: u64,
@@ -55,30 +58,27 @@ pub fn keep_confirmation(
     malformed: &[u8],
     hints: &[u8],
     confirmed: &mut [u8],
-) -> Kept
-    ensures { kept_out result (tables checkpoints.now frames.now store.now parts.now
+) -> Result<Option<AreaIndex>, Refusal>
+    ensures { kept_out (answer_in result) (tables checkpoints.now frames.now store.now parts.now
         malformed.now hints.now confirmed.new)
         ≡ keep_in x (tables checkpoints.now frames.now store.now parts.now
         malformed.now hints.now confirmed.old) (given lsn threshold digest) }
 {
-    let number = refuses(
-        x,
+    let t = Tables {
         checkpoints,
         frames,
         store,
         parts,
         malformed,
         hints,
-        confirmed,
-    );
-    if number != 0 {
-        return Kept::Refused(number);
-    }
+        confirmed: &*confirmed,
+    };
+    check(x, &t)?;
     if !question14(x.area, lsn, threshold) {
-        return Kept::Refused(14);
+        return Err(Refusal::Confirmation);
     }
     if !is_checked(x.fingerprint) || x.most == 0 {
-        return Kept::Nothing;
+        return Ok(None);
     }
     let c = Confirmation {
         lsn: lsn as u32,
@@ -86,5 +86,5 @@ pub fn keep_confirmation(
         digest,
     };
     let count = keep_one(x.most, x.confirmed, confirmed, c);
-    Kept::Index(with_count(x, count))
+    Ok(Some(with_count(x, count)))
 }

@@ -21,6 +21,7 @@ fn read_whole(source: &mut File, file: &mut [u8]) -> Content
     ensures { result.n ≤ length file.new }
 {
     let mut n = 0;
+    // A read says how many bytes came, so no range counts the reads.
     while n < file.len() {
         match source.read(&mut file[n..]) {
             Ok(0) => break,

@@ -8,7 +8,7 @@ use borrow.Author.Tests.{leb-true, le-leb, lt-leb, lt-ltb, le-ltb, ne_eqb, eq-eq
 use lib.Dec.{leb}
 use lib.ListN.{length}
 use Rattle.rules.specs.declared.AreaIndex.{AreaIndex}
-use Rattle.rules.specs.Tests.{each, Ask, ask, first_no, Accepted, after}
+use Rattle.rules.specs.Tests.{each, Ask, ask, first_no, Accepted, after, Refused}
 use Rattle.rules.specs.Questions.{both, four_of, ask_four}
 use Rattle.rules.specs.Values.{Index, max32}
 use Rattle.rules.specs.File.{saved_length}
@@ -17,7 +17,6 @@ use Rattle.rules_disc.specs.Disc.{entry, slot_of, contents_of, entries_from, ent
 use Rattle.tables.specs.Index.{Tables, room_of, index_in, kinds_in, kinded_number, refusal, lowest}
 use Rattle.index.proofs.Four.{Later, kinded_more, kinded_index, lowest_both}
 use Rattle.merge.proofs.questions.Refusal.{lowest_zero}
-use Rattle.rules.specs.declared.Saved.TheVariants as answer
 use Rattle.save.specs.Save.{SaveOut, made, save_out}
 use Rattle.disc_save.specs.DiscSave.{save_one_in, save_both_in}
 use Rattle.disc_save.specs.Steps.{saved_as}
@@ -32,16 +31,16 @@ unfolding each
 rest_later xs o = refl
 
 module _ (xs : List Index) (o : List ℕ) where
-  pub as_broken : {r : Bool} → r ≡ entries_ok 0 (contents_of xs) → r ≡ false → made (answer.Refused 54) o ≡ saved_as xs o
+  pub as_broken : {r : Bool} → r ≡ entries_ok 0 (contents_of xs) → r ≡ false → made (Refused 54) o ≡ saved_as xs o
   unfolding saved_as first_no after save_out
   as_broken e h = sym (rw (← e, h))
 
   module _ {r : Bool} (e : r ≡ entries_ok 0 (contents_of xs)) (h : r ≡ true) {k : ℕ} (l : k ≡ disc_length xs) where
-    pub as_short : length o < k → made (answer.Refused 40) o ≡ saved_as xs o
+    pub as_short : length o < k → made (Refused 40) o ≡ saved_as xs o
     unfolding saved_as first_no after save_out
     as_short s = sym (rw (← e, h, ← l, lt-leb k (length o) s))
 
-    pub as_done : {o' : List ℕ} → k ≤ length o → Written (disc_bytes xs) k o o' → made (answer.Length k) o' ≡ saved_as xs o
+    pub as_done : {o' : List ℕ} → k ≤ length o → Written (disc_bytes xs) k o o' → made (Accepted k) o' ≡ saved_as xs o
     unfolding saved_as first_no after save_out
     as_done s w = rw w.bytes (sym (rw (← e, h, ← l, le-leb k (length o) s, w.size)))
 
@@ -82,7 +81,7 @@ module _ (x : AreaIndex) (t : Tables) (o : List ℕ) {n : ℕ} (e : n ≡ refusa
   unfolding save_one_in save_one save_lists
   one_is = rw (kinded_index x t (rest (index_in x t ∷ []) o) (rest_later (index_in x t ∷ []) o) e (disc_bytes (index_in x t ∷ [])))
 
-  pub one_refused : (n ≡ 0 → ⊥) → made (answer.Refused n) o ≡ save_one_in x t o
+  pub one_refused : (n ≡ 0 → ⊥) → made (Refused n) o ≡ save_one_in x t o
   unfolding save_out after
   one_refused h = sym (one_is ∙ simp (ne_eqb n 0 h))
 
@@ -91,24 +90,24 @@ module _ (x : AreaIndex) (t : Tables) (o : List ℕ) {n : ℕ} (e : n ≡ refusa
   one_saved z d = d ∙ sym (one_is ∙ simp (eq-eqb n 0 z))
 
 -- ---- both lists
-module _ (x : AreaIndex) (t : Tables) (y : AreaIndex) (u : Tables) (o : List ℕ) {m k n : ℕ} (e : m ≡ refusal x t) (f : k ≡ refusal y u) (l : n ≡ lowest m k) where
+module _ (x : AreaIndex) (t : Tables) (y : AreaIndex) (u : Tables) (o : List ℕ) {n : ℕ} (l : n ≡ lowest (refusal x t) (refusal y u)) where
   abbrev lists : List Index
   lists = by_slot (index_in x t) (index_in y u)
 
   four_is : n ≡ kinded_number (kinds_in x t && kinds_in y u) (first_no (ask_four (both (four_of (room_of t) (index_in x t)) (four_of (room_of u) (index_in y u))) []))
   unfolding refusal
-  four_is = l ∙ rw (e, f) (sym (lowest_both (kinds_in x t) (kinds_in y u) (four_of (room_of t) (index_in x t)) (four_of (room_of u) (index_in y u))))
+  four_is = l ∙ sym (lowest_both (kinds_in x t) (kinds_in y u) (four_of (room_of t) (index_in x t)) (four_of (room_of u) (index_in y u)))
 
   both_is : save_both_in x t y u o ≡ save_out (after n (after (first_no (rest lists o)) (Accepted (disc_bytes lists)))) o
   unfolding save_both_in save_both save_lists
   both_is = rw (kinded_more (kinds_in x t && kinds_in y u) _ (rest lists o) (rest_later lists o) four_is (disc_bytes lists))
 
-  pub both_refused : (n ≡ 0 → ⊥) → made (answer.Refused n) o ≡ save_both_in x t y u o
+  pub both_refused : (n ≡ 0 → ⊥) → made (Refused n) o ≡ save_both_in x t y u o
   unfolding save_out after
   both_refused h = sym (both_is ∙ simp (ne_eqb n 0 h))
 
   pub both_pass : n ≡ 0 → (refusal x t ≡ 0) × (refusal y u ≡ 0)
-  both_pass z = lowest_zero (refusal x t) (refusal y u) (sym (l ∙ rw (e, f)) ∙ z)
+  both_pass z = lowest_zero (refusal x t) (refusal y u) (sym l ∙ z)
 
   pub both_saved : {s : SaveOut} → n ≡ 0 → s ≡ saved_as lists o → s ≡ save_both_in x t y u o
   unfolding saved_as after

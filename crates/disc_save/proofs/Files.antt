@@ -1,9 +1,9 @@
 -- The disc file as stretches of an output. Assumes nothing.
-use mathlib.Core.Path.{◌≡◌, refl, sym, ap, ◌∙◌}
+use mathlib.Core.Path.{◌≡◌, sym, ◌∙◌}
 use mathlib.Core.List.{List, [], ◌∷◌, ◌++◌, append_assoc, append-nil}
 use Prim.Native.Nat.{ℕ, ◌+◌, ◌-◌, ◌≤◌}
 use native.Mathlib.Omega.{arith}
-use lib.ListN.{length, take, drop, length-take, length-drop}
+use lib.ListN.{length, take, drop}
 use Rattle.field.specs.Number.{encode}
 use Rattle.field.specs.Records.{bytes_of}
 use Rattle.rules.specs.declared.AreaIndex.{AreaIndex}
@@ -11,26 +11,18 @@ use Rattle.rules.specs.Values.{Index}
 use Rattle.rules.specs.File.{saved, saved_length, over}
 use Rattle.laws.proofs.Length.{saved_length_is}
 use Rattle.rules_disc.specs.Disc.{entry, encode_entry, slot_of, entries_from, disc_bytes}
-use Rattle.tables.specs.Index.{Tables, index_in, refusal}
+use Rattle.std.specs.Prelude.{ℕ}
+use Rattle.tables.specs.Index.{Tables, index_in}
 use Rattle.save.specs.Output.{Put}
 use Rattle.save.proofs.output.Stretches.{lent, put_both, put_over}
-use Rattle.rules.specs.declared.Saved.{Saved}
-use Rattle.rules.specs.declared.Saved.TheVariants as answer
-use Rattle.save.specs.Save.{SaveOut, made, save_in}
-use Rattle.save.proofs.Saving.{save_done}
 use Rattle.disc_save.specs.Steps.{table_of_two}
 
 -- ---- a list in its stretch
 module _ (x : AreaIndex) (t : Tables) (o : List ℕ) (at to len : ℕ) where
-  pub put_list_is : {r : Saved} {y : List ℕ} → refusal x t ≡ 0 → len ≡ saved_length (index_in x t) → to ≡ at + len → to ≤ length o
-      → made r y ≡ save_in x t (take (to - at) (drop at o))
+  pub put_list_is : {y : List ℕ} → len ≡ saved_length (index_in x t) → to ≡ at + len → to ≤ length o
+      → y ≡ over (saved (index_in x t)) (take (to - at) (drop at o))
       → Put (saved (index_in x t)) len o at to (take at o ++ (y ++ drop (to - at) (drop at o)))
-  put_list_is {r} {y} z l e h c =
-      let s = take (to - at) (drop at o) in
-      let n : length s ≡ len = length-take (to - at) (drop at o) ∙ rw length-drop (omega arith) in
-      let w : made (answer.Length len) (over (saved (index_in x t)) s) ≡ save_in x t s = save_done x t s {n = refusal x t} refl z l (omega (arith, n)) refl in
-      let v : y ≡ over (saved (index_in x t)) s = ap (λ (k : SaveOut). k.out) (c ∙ sym w) in
-      lent (saved (index_in x t)) len o at to (sym (saved_length_is (index_in x t)).0 ∙ sym l) e h v
+  put_list_is l e h v = lent (saved (index_in x t)) len o at to (sym (saved_length_is (index_in x t)).0 ∙ sym l) e h v
 
 -- ---- the file
 one_shape : (x : Index) {s m : ℕ} → s ≡ slot_of x → m ≡ saved_length x → (encode 4 1 ++ encode_entry (entry s 16 m)) ++ saved x ≡ disc_bytes (x ∷ [])

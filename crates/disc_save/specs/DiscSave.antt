@@ -2,6 +2,7 @@
 use Rattle.std.specs.Prelude.{ℕ, ◌&&◌, cond, List, [], ◌∷◌, length, eqb}
 use Rattle.rules.specs.declared.AreaIndex.{AreaIndex}
 use Rattle.rules_disc.specs.Disc.{save_one, save_both, contents_of, entries_ok, disc_length, by_slot}
+use Rattle.rules.specs.Tests.{Answer, Refused, Accepted, after}
 use Rattle.rules.specs.Values.{Index}
 use Rattle.tables.specs.Index.{Tables, room_of, index_in, kinds_in, kinded, refusal, lowest}
 use Rattle.save.specs.Save.{SaveOut, save_out}
@@ -28,3 +29,13 @@ one_length x t = length_after (refusal x t) (index_in x t ∷ [])
 
 unfoldable pub both_length : AreaIndex → Tables → AreaIndex → Tables → ℕ
 both_length x t y u = length_after (lowest (refusal x t) (refusal y u)) (by_slot (index_in x t) (index_in y u))
+
+-- ---- the same as answers
+unfoldable pub length_answer : ℕ → List Index → Answer ℕ
+length_answer n xs = after n (cond (entries_ok 0 (contents_of xs)) (Accepted (disc_length xs)) (Refused 54))
+
+unfoldable pub one_length_in : AreaIndex → Tables → Answer ℕ
+one_length_in x t = length_answer (refusal x t) (index_in x t ∷ [])
+
+unfoldable pub both_length_in : AreaIndex → Tables → AreaIndex → Tables → Answer ℕ
+both_length_in x t y u = length_answer (lowest (refusal x t) (refusal y u)) (by_slot (index_in x t) (index_in y u))

@@ -1,5 +1,6 @@
 // What is asked before any list is merged: 1 to 4 of the own list, 44, each file, each pair.
 ghost use Rattle.std.specs.Prelude.{◌≡◌, ◌+◌, ◌*◌, ◌≤◌, length};
+ghost use Rattle.rules.specs.Refusals.{number_in};
 ghost use Rattle.tables.specs.Index.{tables};
 ghost use Rattle.rules_drawer.specs.Drawer.{lengths_in};
 ghost use Rattle.drawer.specs.Ask.{blank, unasked, refused_by, size_ok, FileAsked, Few, FilesAsked, checkpoints_at, Joinable, join_each, join_pairs, numbered, SetAsked};
@@ -8,8 +9,8 @@ use field::read_u64;
 use index::refuses;
 use inspect::Found;
 use load::{Decided, decide};
-use merge::questions::join_number;
-use rules::{Area, AreaIndex, AreaKey, Fingerprint, HEADER};
+use merge::questions::check_join;
+use rules::{Area, AreaIndex, AreaKey, Fingerprint, HEADER, Refusal};
 use tables::behind;
 
 // The most files of one set.
@@ -107,14 +108,13 @@ fn refused(asked: Asked, number: u32) -> Asked
     }
 }
 
-// The answer with the number of the first failing pair, 0 for none.
-fn with_pairs(asked: Asked, number: u32) -> Asked
-    ensures { result ≡ numbered asked number }
+// The answer with the refusal of the first failing pair.
+fn with_pairs(asked: Asked, pairs: Result<(), Refusal>) -> Asked
+    ensures { result ≡ numbered asked (number_in pairs) }
 {
-    if number != 0 {
-        refused(asked, number)
-    } else {
-        asked
+    match pairs {
+        Ok(()) => asked,
+        Err(e) => refused(asked, u32::from(e)),
     }
 }
 
@@ -235,38 +235,35 @@ fn checkpoints_of(files: &[u8], e: Entry) -> &[u8]
     behind(files, e.from + HEADER)
 }
 
-// The number of the first of the lists from number first on that x cannot be merged with, 0 for none.
-fn join_each(x: AreaIndex, checkpoints: &[u8], asked: Asked, files: &[u8], first: usize) -> u32
+// Can x be merged with each of the lists from number first on? The refusal of the first where it cannot.
+fn join_each(
+    x: AreaIndex,
+    checkpoints: &[u8],
+    asked: Asked,
+    files: &[u8],
+    first: usize,
+) -> Result<(), Refusal>
     requires { (x.checkpoints * 24 ≤ length checkpoints.now) × Joinable files.now asked }
-    ensures { result ≡ join_each x checkpoints.now asked files.now first }
+    ensures { number_in result ≡ join_each x checkpoints.now asked files.now first }
 {
     for k in first..asked.count {
         let e = asked.entries[k];
-        let number = join_number(x, e.index, checkpoints, checkpoints_of(files, e));
-        if number != 0 {
-            return number;
-        }
+        check_join(x, e.index, checkpoints, checkpoints_of(files, e))?;
     }
-    0
+    Ok(())
 }
 
-// The number of the first failing pair, by the earlier list, then by the later; the own list x stands first. 0 for none.
-fn join_pairs(x: AreaIndex, checkpoints: &[u8], asked: Asked, files: &[u8]) -> u32
+// The refusal of the first failing pair, by the earlier list, then by the later; the own list x stands first.
+fn join_pairs(x: AreaIndex, checkpoints: &[u8], asked: Asked, files: &[u8]) -> Result<(), Refusal>
     requires { (x.checkpoints * 24 ≤ length checkpoints.now) × Joinable files.now asked }
-    ensures { result ≡ join_pairs x checkpoints.now asked files.now }
+    ensures { number_in result ≡ join_pairs x checkpoints.now asked files.now }
 {
-    let number = join_each(x, checkpoints, asked, files, 0);
-    if number != 0 {
-        return number;
-    }
+    join_each(x, checkpoints, asked, files, 0)?;
     for i in 0..asked.count {
         let e = asked.entries[i];
-        let number = join_each(e.index, checkpoints_of(files, e), asked, files, i + 1);
-        if number != 0 {
-            return number;
-        }
+        join_each(e.index, checkpoints_of(files, e), asked, files, i + 1)?;
     }
-    0
+    Ok(())
 }
 
 // ---- all questions
@@ -332,6 +329,5 @@ pub fn ask(
     if !asked.ok {
         return asked;
     }
-    let number = join_pairs(x, checkpoints, asked, files);
-    with_pairs(asked, number)
+    with_pairs(asked, join_pairs(x, checkpoints, asked, files))
 }

@@ -6,7 +6,6 @@ ghost use Rattle.examples.specs.Same.{absence_number, same_first};
 
 use crate::lines;
 use crate::tally::Tally;
-use field::and;
 use rules::{Absence, First, TimeBytes};
 
 // Writes a first record: its number and offset, or why there is none.
@@ -44,13 +43,14 @@ fn absence_number(a: Absence) -> u8
     }
 }
 
+#[tactic(auto, using(std::proofs::lemmas::Bool::Decides::nat_tests))]
 fn same_number(m: TimeBytes, b: First) -> bool
     ensures { result ≡ same_first (Number m) b }
 {
     let First::Number(n) = b else {
         return false;
     };
-    and(m.number == n.number, m.offset == n.offset)
+    m.number == n.number && m.offset == n.offset
 }
 
 fn same_absence(a: Absence, b: First) -> bool

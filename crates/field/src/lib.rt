@@ -1,7 +1,7 @@
 // Numbers in bytes, copies and comparisons, and lists of records in bytes.
 #![tactic(auto)]
 
-ghost use Rattle.std.specs.Prelude.{◌≡◌, ◌+◌, ◌*◌, ◌≤◌, ◌<◌, ◌%◌, min, ◌++◌, ◌&&◌, ◌||◌, not, length, take, drop, replicate};
+ghost use Rattle.std.specs.Prelude.{◌≡◌, ◌+◌, ◌≤◌, ◌++◌, length, take, drop, replicate};
 ghost use Rattle.field.specs.Number.{number_at, put, same_bytes};
 
 // The number in the four bytes of s from at on.
@@ -72,28 +72,4 @@ pub fn same(a: &[u8], b: &[u8]) -> bool
     ensures { result ≡ same_bytes a.now b.now }
 {
     a == b
-}
-
-pub fn and(a: bool, b: bool) -> bool
-    ensures { result ≡ (a && b) }
-{
-    a && b
-}
-
-pub fn or(a: bool, b: bool) -> bool
-    ensures { result ≡ (a || b) }
-{
-    a || b
-}
-
-pub fn not(a: bool) -> bool
-    ensures { result ≡ not a }
-{
-    !a
-}
-
-pub fn min_u64(a: u64, b: u64) -> u64
-    ensures { result ≡ min a b }
-{
-    a.min(b)
 }

@@ -9,7 +9,6 @@ use Rattle.rules.specs.declared.AreaIndex.{AreaIndex}
 use Rattle.rules.specs.Values.{no_hint, hint_reach, is_checked}
 use Rattle.rules.specs.Sections.{confirmed_lsn}
 use Rattle.rules.specs.Hints.{near, confirmed_at, larger, largest_of, hint_place, first_from, hinted_locally, hinted_later}
-use Rattle.rules.specs.Tests.{Answer, Accepted}
 use Rattle.rules_jump.specs.Names.{NamedHint, named_at, start_rule}
 use Rattle.rules.specs.Hints as rules
 use Rattle.laws.specs.Order.{Rises}
@@ -55,10 +54,9 @@ unfoldable pub hinted_from : Area → List Hint → ℕ → ℕ → ℕ → rule
 hinted_from a hs i end playtime =
     hinted_later (first_from end (drop (suc i) hs)) end (slice_index_or hs i no_hint) (hinted_locally a hs i end playtime)
 
--- the answer behind the questions
-unfoldable pub answer_in : AreaIndex → List ℕ → List ℕ → ℕ → ℕ → ℕ → Answer (Option NamedHint)
-answer_in x hints confirmed first end playtime =
-    Accepted
-    (named_at x.area (kept_in x.hints hints) end playtime
+-- the read behind the questions
+unfoldable pub read_for : AreaIndex → List ℕ → List ℕ → ℕ → ℕ → ℕ → Option NamedHint
+read_for x hints confirmed first end playtime =
+    named_at x.area (kept_in x.hints hints) end playtime
     (start_rule (is_checked x.fingerprint) (kept_in x.hints hints) (confirmations_in x.confirmed confirmed) first)
-    (hint_place (is_checked x.fingerprint) (kept_in x.hints hints) (confirmations_in x.confirmed confirmed) first))
+    (hint_place (is_checked x.fingerprint) (kept_in x.hints hints) (confirmations_in x.confirmed confirmed) first)

@@ -7,16 +7,18 @@ mod nearest;
 ghost use Rattle.std.specs.Prelude.{◌≡◌, ◌*◌, ◌<◌, ◌≤◌, length, drop};
 ghost use Rattle.rules.specs.Hints.{first_from};
 ghost use Rattle.tables.specs.Tables.{kept_in};
-ghost use Rattle.tables.specs.Index.{tables};
-ghost use Rattle.hint.specs.Hint.{named_of, answer_of, hint_in};
+ghost use Rattle.tables.specs.Loans.{tables_in};
+ghost use Rattle.hint.specs.Hint.{named_of, read_of, answer_of, hint_in};
 ghost use Rattle.rules_jump.specs.Names.{named, named_end};
-ghost use Rattle.hint.specs.Steps.{HintReads, later_end, hinted_from, answer_in};
+ghost use Rattle.rules.specs.Refusals.{answer_in};
+ghost use Rattle.hint.specs.Steps.{HintReads, later_end, hinted_from, read_for};
 
 use crate::density::local_end;
 use crate::nearest::hint_place;
-use index::{is_checked, refuses};
-use rules::{Area, AreaIndex, HINT_REACH, Hinted};
-use rules_jump::{HintAnswer, HintEnd, HintStart, NamedHint};
+use index::{check, is_checked};
+use rules::{Area, AreaIndex, HINT_REACH, Hinted, Refusal};
+use rules_jump::{HintEnd, HintStart, NamedHint};
+use tables::lent::Tables;
 use tables::read_hint;
 
 // The upper end through the first of the hints from place i on that is numbered end or more, if at most 64 frames
@@ -94,16 +96,16 @@ fn hinted_from(
 }
 
 // The questions apart.
-fn hint_in(
+fn read_for(
     x: AreaIndex,
     first: u32,
     end: u32,
     playtime: u32,
     hints: &[u8],
     confirmed: &[u8],
-) -> HintAnswer
+) -> Option<NamedHint>
     requires { HintReads x hints.now confirmed.now }
-    ensures { answer_of result ≡ answer_in x hints.now confirmed.now first end playtime }
+    ensures { read_of result ≡ read_for x hints.now confirmed.now first end playtime }
 {
     let n = x.hints as usize;
     let found = hint_place(
@@ -114,44 +116,24 @@ fn hint_in(
         is_checked(x.fingerprint),
         first,
     );
-    match found.place {
-        None => HintAnswer::Nothing,
-        Some(i) => HintAnswer::Hinted(hinted_from(x.area, hints, n, i, end, playtime, found.start)),
-    }
+    let i = found.place?;
+    Some(hinted_from(x.area, hints, n, i, end, playtime, found.start))
 }
 
 // The hint to begin at for frames first to end, and the end of the read.
+#[tactic(auto, using(crate::proofs::Answers::hint_no, rules::proofs::Refusals::number_ne0), unfolding(crate::specs::Hint::answer_of, rules::specs::Refusals::answer_in, rules::specs::Refusals::number_in))]
 pub fn hint(
     x: AreaIndex,
     first: u32,
     end: u32,
     playtime: u32,
-    checkpoints: &[u8],
-    frames: &[u8],
-    store: &[u8],
-    parts: &[u8],
-    malformed: &[u8],
-    hints: &[u8],
-    confirmed: &[u8],
-) -> HintAnswer
-    ensures { answer_of result ≡ hint_in x (tables checkpoints.now frames.now store.now
-        parts.now malformed.now hints.now confirmed.now) first end playtime }
+    t: &Tables,
+) -> Result<Option<NamedHint>, Refusal>
+    ensures { answer_of (answer_in result) ≡ hint_in x (tables_in t.now) first end playtime }
 {
-    let number = refuses(
-        x,
-        checkpoints,
-        frames,
-        store,
-        parts,
-        malformed,
-        hints,
-        confirmed,
-    );
-    if number != 0 {
-        return HintAnswer::Refused(number);
-    }
+    check(x, t)?;
     if end < first {
-        return HintAnswer::Refused(16);
+        return Err(Refusal::HintRange);
     }
-    hint_in(x, first, end, playtime, hints, confirmed)
+    Ok(read_for(x, first, end, playtime, t.hints, t.confirmed))
 }

@@ -1,5 +1,5 @@
 -- The hint recorder in its table. Assumes nothing.
-use Rattle.std.specs.Prelude.{Option, ℕ, None, Some}
+use Rattle.std.specs.Prelude.{Option, None, Some}
 use mathlib.Core.Path.{◌≡◌, refl, sym, ◌∙◌}
 use mathlib.Core.Bool.{Bool, true, false, not}
 use mathlib.Core.List.{List, [], ◌∷◌, ◌++◌}
@@ -19,7 +19,7 @@ use Rattle.rules.specs.declared.First.TheVariants as first
 use Rattle.rules.specs.declared.Hint.{Hint}
 use Rattle.rules.specs.declared.HintRecorder.{HintRecorder}
 use Rattle.rules.specs.declared.TimeBytes.{TimeBytes}
-use Rattle.rules.specs.Tests.{each, ask, first_no, after}
+use Rattle.rules.specs.Tests.{each, ask, first_no, after, Accepted, Refused}
 use Rattle.rules.specs.File.{decode_hint, encode_hint, over}
 use Rattle.rules.specs.FirstRecord.{first_record}
 use Rattle.rules.specs.Create.{hint_recorder}
@@ -30,20 +30,8 @@ use Rattle.tables.specs.Index.{Tables, refusal}
 use Rattle.index.proofs.Four.{Later, kinded_index}
 use Rattle.tables.specs.HintRecorder.{hint_recorder_in}
 use Rattle.hint_recorder.specs.Steps.{tailless, emptied, Roomy, Steps, refusal_of, flushed_record, hint_seen}
-use Rattle.rules.specs.declared.Saw.TheVariants as saw
-use Rattle.rules.specs.declared.Seen.TheVariants as seen
-use Rattle.rules.specs.declared.Taken.TheVariants as taken
-use Rattle.rules.specs.declared.Created.TheVariants as created
 use Rattle.hint_recorder.specs.HintRecorder.{seen_out, seen_out_of, saw_out, saw_out_of, see_in, flush_in}
 use Rattle.hint_recorder.specs.HintRecorder.{taken_from, take_in, created_from, created_in}
-
-last_back : (l : Option ℕ) → l ≡ l
-last_back None = refl
-last_back (Some n) = refl
-
-tail_back : (u : Option Hint) → u ≡ u
-tail_back None = refl
-tail_back (Some h) = refl
 
 -- ---- 3 and 4
 pub short_list : (r : HintRecorder) (t : List ℕ) → length t / 8 < 65536 → 3 ≡ refusal_of r t
@@ -91,7 +79,7 @@ module _ (r : HintRecorder) (t : List ℕ) (p : Roomy r t) (b : Bytes t) where
       → Steps (record { spacing = r.spacing; last = l; tail = u; count = r.count })
       (record { spacing = r.spacing; last = l; tail = u; list = hs }) t t
   step_none l u =
-      record { numbers = rw (records_length 8 decode_hint r.count t, last_back l, tail_back u); list = list_same }
+      record { numbers = rw (records_length 8 decode_hint r.count t); list = list_same }
 
   -- a hint at the end of the list
   pub step_more : {new : List ℕ} (l : Option ℕ) (u : Option Hint) (h : Hint) → r.count < 65536
@@ -110,7 +98,7 @@ module _ (r : HintRecorder) (t : List ℕ) (p : Roomy r t) (b : Bytes t) where
       ≡ r.count * 8 + 8 = length-append (take (r.count * 8) t) (encode_hint h)
       ∙ omega (arith, k, length-take-le (r.count * 8) t fits) in
       record {
-        numbers = rw (m, last_back l, tail_back u);
+        numbers = rw m;
         list = e ∙ sets-eq (encode_hint h) t (r.count * 8) f ∙ rw (k, by, n);
       }
 
@@ -181,65 +169,56 @@ module _ (r : HintRecorder) (t : List ℕ) (p : Roomy r t) (b : Bytes t) where
 
 -- ---- the calls
 module _ (r : HintRecorder) (t : List ℕ) {n : ℕ} (e : n ≡ refusal_of r t) where
-  pub see_no : (lsn : ℕ) (sector : List ℕ) → (n ≡ 0 → ⊥) → saw_out (saw.Refused n) t ≡ see_in r t lsn sector
+  pub see_no : (lsn : ℕ) (sector : List ℕ) → (n ≡ 0 → ⊥) → saw_out (Refused n) t ≡ see_in r t lsn sector
   unfolding see_in see saw_out_of after refusal_of
   see_no lsn sector h = sym (rw (← e, ne_eqb n 0 h))
 
-  pub flush_no : (n ≡ 0 → ⊥) → seen_out (seen.Refused n) t ≡ flush_in r t
+  pub flush_no : (n ≡ 0 → ⊥) → seen_out (Refused n) t ≡ flush_in r t
   unfolding flush_in flush seen_out_of after refusal_of
   flush_no h = sym (rw (← e, ne_eqb n 0 h))
 
-  pub take_no : (n ≡ 0 → ⊥) → taken.Refused n ≡ take_in r t
+  pub take_no : (n ≡ 0 → ⊥) → Refused n ≡ take_in r t
   unfolding take_in take_list taken_from after refusal_of
   take_no h = sym (rw (← e, ne_eqb n 0 h))
 
   module _ (z : n ≡ 0) where
     pub see_yes : {k : HintRecorder} {new : List ℕ} {f : First} (lsn : ℕ) (sector : List ℕ) → f ≡ first_record sector
         → Steps k (seen_record (hint_recorder_in r t) lsn f) t new
-        → saw_out (saw.Sector (record { first = f; recorder = k })) new ≡ see_in r t lsn sector
+        → saw_out (Accepted (record { first = f; recorder = k })) new ≡ see_in r t lsn sector
     unfolding see_in see saw_out_of after refusal_of
     see_yes lsn sector f s = sym (rw (← e, eq-eqb n 0 z, ← f, ← s.numbers, ← s.list))
 
     pub flush_yes : {k : HintRecorder} {new : List ℕ} → Steps k (flushed_record (hint_recorder_in r t)) t new
-        → seen_out (seen.Recorder k) new ≡ flush_in r t
+        → seen_out (Accepted k) new ≡ flush_in r t
     unfolding flush_in flush seen_out_of after refusal_of
     flush_yes s = sym (rw (← e, eq-eqb n 0 z, ← s.numbers, ← s.list))
 
     pub take_yes : {k : HintRecorder} → k ≡ emptied r
-        → taken.List (record { count = r.count; recorder = k }) ≡ take_in r t
+        → Accepted (record { count = r.count; recorder = k }) ≡ take_in r t
     unfolding take_in take_list taken_from after refusal_of
-    take_yes w =
-        sym (rw (
-          w,
-          ← e,
-          eq-eqb n 0 z,
-          records_length 8 decode_hint r.count t,
-          last_back r.last,
-          tail_back
-              r.tail,
-        ))
+    take_yes w = sym (rw (w, ← e, eq-eqb n 0 z, records_length 8 decode_hint r.count t))
 
 no_later : Later []
 unfolding each
 no_later = refl
 
 module _ (x : AreaIndex) (t : Tables) {n : ℕ} (e : n ≡ refusal x t) where
-  pub created_no : (n ≡ 0 → ⊥) → created.Refused n ≡ created_in x t
+  pub created_no : (n ≡ 0 → ⊥) → Refused n ≡ created_in x t
   unfolding created_in hint_recorder created_from after first_no
   created_no h = sym (rw (kinded_index x t [] no_later e _, ne_eqb n 0 h))
 
   module _ (z : n ≡ 0) where
-    pub created_unspaced : x.spacing ≡ 0 → created.Nothing ≡ created_in x t
+    pub created_unspaced : x.spacing ≡ 0 → Accepted None ≡ created_in x t
     unfolding created_in hint_recorder created_from after first_no
     created_unspaced h = sym (rw (kinded_index x t [] no_later e _, eq-eqb n 0 z, eq-eqb x.spacing 0 h))
 
-    pub created_none : (x.spacing ≡ 0 → ⊥) → x.most ≡ 0 → created.Nothing ≡ created_in x t
+    pub created_none : (x.spacing ≡ 0 → ⊥) → x.most ≡ 0 → Accepted None ≡ created_in x t
     unfolding created_in hint_recorder created_from after first_no
     created_none g h =
         sym (rw (kinded_index x t [] no_later e _, eq-eqb n 0 z, ne_eqb x.spacing 0 g, eq-eqb x.most 0 h))
 
     pub created_yes : (x.spacing ≡ 0 → ⊥) → (x.most ≡ 0 → ⊥)
-        → created.Recorder (record { spacing = x.spacing; last = None; tail = None; count = 0 })
+        → Accepted (Some (record { spacing = x.spacing; last = None; tail = None; count = 0 }))
         ≡ created_in x t
     unfolding created_in hint_recorder created_from after first_no
     created_yes g h =

@@ -1,5 +1,5 @@
 -- What the functions of a hint recorder need of each other.
-use Rattle.std.specs.Prelude.{ℕ, ◌*◌, ◌/◌, ◌≤◌, ◌≡◌, cond, ◌&&◌, List, [], ltb, length, None, Option, Some}
+use Rattle.std.specs.Prelude.{ℕ, ◌*◌, ◌/◌, ◌≤◌, ◌≡◌, cond, ◌&&◌, List, [], ltb, length, None, Option}
 use Rattle.rules.specs.declared.HintRecorder.{HintRecorder}
 use Rattle.field.specs.Records.{bytes_of}
 use Rattle.rules.specs.declared.Hint.{Hint}

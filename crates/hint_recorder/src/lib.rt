@@ -5,30 +5,32 @@ mod spacing;
 
 ghost use Rattle.std.specs.Prelude.{◌≡◌};
 ghost use Rattle.rules.specs.Hints.{seen_record};
-ghost use Rattle.tables.specs.Index.{tables};
+ghost use Rattle.rules.specs.Refusals.{answer_in, number_in};
 ghost use Rattle.tables.specs.HintRecorder.{hint_recorder_in};
 ghost use Rattle.hint_recorder.specs.HintRecorder.{seen_out, saw_out, see_in, flush_in, take_in, created_in};
 ghost use Rattle.hint_recorder.specs.Steps.{refusal_of, Roomy, Steps, flushed_record, hint_seen};
+ghost use Rattle.tables.specs.Loans.{tables_in};
 
 use crate::spacing::{cleared, emptied, has_room, is_spaced};
 use first_record::first_record;
 use rules::{
-    AreaIndex, Created, First, HINT, Hint, HintRecorder, MAX_LIST, MAX_U32, Saw, Seen, SeenSector,
-    Taken, TakenList,
+    AreaIndex, First, HINT, Hint, HintRecorder, MAX_LIST, MAX_U32, Refusal, SeenSector, TakenList,
 };
+use tables::lent::Tables;
 use tables::write_given;
 
-// Questions 3 and 4 of a hint recorder: the number of the first answered no, 0 for none.
-fn refuses(r: HintRecorder, list: &[u8]) -> u32
-    ensures { result ≡ refusal_of r list.now }
+// Questions 3 and 4 of a hint recorder.
+#[tactic(auto, using(crate::proofs::Recorder::short_list, crate::proofs::Recorder::long_count, crate::proofs::Recorder::asked_both), unfolding(rules::specs::Refusals::number_in, rules::specs::Refusals::refusal_number))]
+fn check_list(r: HintRecorder, list: &[u8]) -> Result<(), Refusal>
+    ensures { number_in result ≡ refusal_of r list.now }
 {
     if list.len() / HINT < MAX_LIST as usize {
-        return 3;
+        return Err(Refusal::Room);
     }
     if MAX_LIST < r.count {
-        return 4;
+        return Err(Refusal::Content);
     }
-    0
+    Ok(())
 }
 
 // A hint listed, under the bound, or made the tail.
@@ -74,17 +76,15 @@ impl Step {
 }
 
 // A sector seen at an LSN: its first record is told, also where it is passed over.
-pub fn see(r: HintRecorder, lsn: u64, sector: &[u8], list: &mut [u8]) -> Saw
-    ensures { saw_out result list.new ≡ see_in r list.old lsn sector.now }
+#[tactic(auto, using(crate::proofs::Recorder::see_no, rules::proofs::Refusals::number_ne0), unfolding(rules::specs::Refusals::answer_in, rules::specs::Refusals::number_in))]
+pub fn see(r: HintRecorder, lsn: u64, sector: &[u8], list: &mut [u8]) -> Result<SeenSector, Refusal>
+    ensures { saw_out (answer_in result) list.new ≡ see_in r list.old lsn sector.now }
 {
-    let number = refuses(r, list);
-    if number != 0 {
-        return Saw::Refused(number);
-    }
+    check_list(r, list)?;
     let first = first_record(sector);
     let step = Step { recorder: r };
     let recorder = step.seen(lsn, first, list).recorder;
-    Saw::Sector(SeenSector { first, recorder })
+    Ok(SeenSector { first, recorder })
 }
 
 // The tail listed, under the same bound, and cleared.
@@ -102,64 +102,39 @@ fn flushed(r: HintRecorder, list: &mut [u8]) -> HintRecorder
     cleared(r.spacing, r.last, r.count + 1)
 }
 
-pub fn flush(r: HintRecorder, list: &mut [u8]) -> Seen
-    ensures { seen_out result list.new ≡ flush_in r list.old }
+#[tactic(auto, using(crate::proofs::Recorder::flush_no, rules::proofs::Refusals::number_ne0), unfolding(rules::specs::Refusals::answer_in, rules::specs::Refusals::number_in))]
+pub fn flush(r: HintRecorder, list: &mut [u8]) -> Result<HintRecorder, Refusal>
+    ensures { seen_out (answer_in result) list.new ≡ flush_in r list.old }
 {
-    let number = refuses(r, list);
-    if number != 0 {
-        return Seen::Refused(number);
-    }
-    Seen::Recorder(flushed(r, list))
+    check_list(r, list)?;
+    Ok(flushed(r, list))
 }
 
 // The list taken: its hints are the first of the table, and the recorder has none then.
-pub fn take(r: HintRecorder, list: &[u8]) -> Taken
-    ensures { result ≡ take_in r list.now }
+#[tactic(auto, using(crate::proofs::Recorder::take_no, rules::proofs::Refusals::number_ne0), unfolding(rules::specs::Refusals::answer_in, rules::specs::Refusals::number_in))]
+pub fn take(r: HintRecorder, list: &[u8]) -> Result<TakenList, Refusal>
+    ensures { answer_in result ≡ take_in r list.now }
 {
-    let number = refuses(r, list);
-    if number != 0 {
-        return Taken::Refused(number);
-    }
-    Taken::List(TakenList {
+    check_list(r, list)?;
+    Ok(TakenList {
         count: r.count,
         recorder: emptied(r),
     })
 }
 
 // The hint recorder of an index.
-pub fn hint_recorder(
-    x: AreaIndex,
-    checkpoints: &[u8],
-    frames: &[u8],
-    store: &[u8],
-    parts: &[u8],
-    malformed: &[u8],
-    hints: &[u8],
-    confirmed: &[u8],
-) -> Created
-    ensures { result ≡ created_in x (tables checkpoints.now frames.now store.now
-        parts.now malformed.now hints.now confirmed.now) }
+#[tactic(auto, using(crate::proofs::Recorder::created_no, rules::proofs::Refusals::number_ne0), unfolding(rules::specs::Refusals::answer_in, rules::specs::Refusals::number_in))]
+pub fn hint_recorder(x: AreaIndex, t: &Tables) -> Result<Option<HintRecorder>, Refusal>
+    ensures { answer_in result ≡ created_in x (tables_in t.now) }
 {
-    let number = index::refuses(
-        x,
-        checkpoints,
-        frames,
-        store,
-        parts,
-        malformed,
-        hints,
-        confirmed,
-    );
-    if number != 0 {
-        return Created::Refused(number);
-    }
+    index::check(x, t)?;
     if x.spacing == 0 || x.most == 0 {
-        return Created::Nothing;
+        return Ok(None);
     }
-    Created::Recorder(HintRecorder {
+    Ok(Some(HintRecorder {
         spacing: x.spacing,
         last: None,
         tail: None,
         count: 0,
-    })
+    }))
 }

@@ -1,11 +1,12 @@
-// Questions 1 and 2, the space that 3 asks of the tables of hints, and the lower of two refusal numbers.
+// Questions 1 and 2, the space that 3 asks of the tables of hints, and the lower of two refusals.
 #![tactic(auto, using(std::proofs::lemmas::Bool::Decides::nat_tests), unfolding(rules::specs::Questions::area_ok, rules::specs::Questions::numbers_ok, rules::specs::Questions::hinting_room, rules::specs::Tests::all, tables::specs::Index::hint_room, tables::specs::Index::lowest))]
 
 ghost use Rattle.std.specs.Prelude.{◌≡◌, ◌/◌, ◌<◌, leb, length};
 ghost use Rattle.rules.specs.Questions.{area_ok, numbers_ok};
+ghost use Rattle.rules.specs.Refusals.{number_in};
 ghost use Rattle.tables.specs.Index.{hint_room, lowest};
 
-use rules::{Area, MAX_INTERVAL, MAX_U32, MERGE_ROOM};
+use rules::{Area, MAX_INTERVAL, MAX_U32, MERGE_ROOM, Refusal};
 
 // Question 1 of an area.
 pub fn question1(area: Area) -> bool
@@ -47,4 +48,22 @@ pub fn lowest(m: u32, n: u32) -> u32
         return m;
     }
     m.min(n)
+}
+
+// Of the answers of two lists the refusal with the lower number; an acceptance where both accept.
+#[tactic(auto, using(std::proofs::lemmas::Bool::Decides::nat_tests, rules::proofs::Refusals::number_ne0), unfolding(tables::specs::Index::lowest, rules::specs::Refusals::number_in))]
+pub fn lower(own: Result<(), Refusal>, other: Result<(), Refusal>) -> Result<(), Refusal>
+    ensures { number_in result ≡ lowest (number_in own) (number_in other) }
+{
+    let Err(m) = own else {
+        return other;
+    };
+    let Err(n) = other else {
+        return own;
+    };
+    if u32::from(m) <= u32::from(n) {
+        own
+    } else {
+        other
+    }
 }

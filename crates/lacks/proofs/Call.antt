@@ -13,7 +13,7 @@ use Rattle.rules.specs.declared.Area.{Area}
 use Rattle.rules.specs.declared.AreaIndex.{AreaIndex}
 use Rattle.rules.specs.declared.Checkpoint.{Checkpoint}
 use Rattle.rules.specs.declared.Held.{Held}
-use Rattle.rules.specs.Tests.{walk, Accepted, after}
+use Rattle.rules.specs.Tests.{walk, Accepted, after, Refused}
 use Rattle.rules.specs.Values.{count}
 use Rattle.rules.specs.Sections.{part_ok, malformed_ok, hints_ok, confirmations_ok, own_lsn, any_lsn}
 use Rattle.rules.specs.Sections.{hint_lsn, hint_ok, confirmed_lsn, confirmation_ok}
@@ -33,11 +33,10 @@ use Rattle.merge.proofs.questions.Ready.{scan_is, hinting_is}
 use Rattle.rules_lacks.specs.declared.Lacks.{Lacks}
 use Rattle.lacks.specs.declared.Missing.{Missing}
 use Rattle.rules_lacks.specs.Lacks.{same_hint, confirms_also, lacking, lacks}
-use Rattle.rules_lacks.specs.declared.Lacked.TheVariants as lacked
 use Rattle.lacks.specs.Pass.{missed}
 use Rattle.lacks.specs.Parts.{part_key, PartsWithin, stands_in, PartsLent}
 use Rattle.lacks.specs.Steps.{lacks_by, counts_in}
-use Rattle.lacks.specs.Lacks.{lacked_of, lacks_in}
+use Rattle.lacks.specs.Lacks.{lacks_in}
 use Rattle.lacks.proofs.Pass.{missed_rising, hint_key, confirmed_key}
 use Rattle.lacks.proofs.Parts.{parts_rise, parts_missed}
 
@@ -123,11 +122,11 @@ module _ (x : AreaIndex) (t : Tables) (y : AreaIndex) (u : Tables) {n : ℕ} (e 
   unfolding lacks
   call_is = asked_after x t y u (lacking (index_in x t) (index_in y u)) e
 
-  pub lacks_refused : (n ≡ 0 → ⊥) → lacked_of (lacked.Refused n) ≡ lacks_in x t y u
-  unfolding lacked_of after
+  pub lacks_refused : (n ≡ 0 → ⊥) → Refused n ≡ lacks_in x t y u
+  unfolding after
   lacks_refused h = sym (call_is ∙ rw (ne_eqb n 0 h))
 
   pub lacks_done : {b : Lacks} {c : Missing} → n ≡ 0 → c ≡ counts_in x t y u → b ≡ lacks_by x y c
-      → lacked_of (lacked.Lacks b) ≡ lacks_in x t y u
-  unfolding lacked_of after
+      → Accepted b ≡ lacks_in x t y u
+  unfolding after
   lacks_done h g q = sym (call_is ∙ rw (eq-eqb n 0 h, q, g, counted x t y u))

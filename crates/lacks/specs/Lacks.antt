@@ -1,16 +1,10 @@
 -- What another list holds and the own one does not, in tables.
 use Rattle.std.specs.Prelude.{◌&&◌}
 use Rattle.rules.specs.declared.AreaIndex.{AreaIndex}
-use Rattle.rules.specs.Tests.{Answer, Refused, Accepted}
+use Rattle.rules.specs.Tests.{Answer}
 use Rattle.tables.specs.Index.{Tables, room_of, index_in, kinds_in, kinded}
 use Rattle.rules_lacks.specs.declared.Lacks.{Lacks}
 use Rattle.rules_lacks.specs.Lacks.{lacks}
-use Rattle.rules_lacks.specs.declared.Lacked.{Lacked}
-use Rattle.rules_lacks.specs.declared.Lacked.TheVariants as lacked
-
-unfoldable pub lacked_of : Lacked → Answer Lacks
-lacked_of (lacked.Refused n) = Refused n
-lacked_of (lacked.Lacks l) = Accepted l
 
 -- lacks
 abbrev pub lacks_in : AreaIndex → Tables → AreaIndex → Tables → Answer Lacks

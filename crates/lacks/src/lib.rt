@@ -3,12 +3,13 @@
 
 ghost use Rattle.std.specs.Prelude.{◌≡◌, cond, ◌+◌, ◌-◌, ◌*◌, ◌<◌, ◌≤◌, length, take, drop};
 ghost use Rattle.tables.specs.Tables.{parts_in};
-ghost use Rattle.tables.specs.Index.{tables};
+ghost use Rattle.tables.specs.Loans.{tables_in};
 ghost use Rattle.parts.specs.Steps.{offset_to};
 ghost use Rattle.merge.specs.Steps.{Joins};
 ghost use Rattle.rules_lacks.specs.Lacks.{same_hint, confirms_also, same_signed};
+ghost use Rattle.rules.specs.Refusals.{answer_in};
 ghost use Rattle.lacks.specs.Steps.{lacks_by, counts_in};
-ghost use Rattle.lacks.specs.Lacks.{lacked_of, lacks_in};
+ghost use Rattle.lacks.specs.Lacks.{lacks_in};
 ghost use Rattle.lacks.specs.Pass.{first_stands, missed, common};
 ghost use Rattle.lacks.specs.Sections.{width_of, item_key, stands_for, items_in, item_at};
 ghost use Rattle.lacks.specs.Parts.{nearest_to, FramesLent, PairIs, PairAt, same_part_by, part_key, PartWithin};
@@ -17,12 +18,12 @@ ghost use Rattle.lacks.specs.Parts.{PartsWithin, stands_in, StepIs, unpaired_yet
 use field::read_u32;
 use index::{is_complete, is_stated};
 use merge::keys::skip;
-use merge::numbers::has_id;
-use merge::questions::merge_refuses;
+use merge::questions::check_merge;
 use parts::Source;
 use parts::admits::alike;
-use rules::{AreaIndex, Confirmation, Held, Hint};
-use rules_lacks::{Lacked, Lacks};
+use rules::{AreaIndex, Confirmation, Held, Hint, Refusal};
+use rules_lacks::Lacks;
+use tables::lent::Tables;
 use tables::{get_header, read_confirmation, read_held, read_hint, read_lsn};
 
 // How many of what lies in tables.
@@ -342,7 +343,7 @@ fn missing_parts(
 
 // ---- the call
 // What is lacking, by the counts and the numbers.
-#[tactic(auto, unfolding(crate::specs::Steps::lacks_by))]
+#[tactic(auto, unfolding(crate::specs::Steps::lacks_by, rules::specs::Tests::is_some))]
 fn lacks_by(x: AreaIndex, y: AreaIndex, c: Missing) -> Lacks
     ensures { result ≡ lacks_by x y c }
 {
@@ -354,139 +355,53 @@ fn lacks_by(x: AreaIndex, y: AreaIndex, c: Missing) -> Lacks
         hints: c.hints,
         confirmed: c.confirmed,
         fingerprint: is_stated(y.fingerprint) && !is_stated(x.fingerprint),
-        image: has_id(y.image) && !has_id(x.image),
+        image: y.image.is_some() && x.image.is_none(),
         budget: x.budget < y.budget,
         most: x.most < y.most,
     }
 }
 
 // How many of each thing the list x lacks of y, where nothing refuses a merge.
-fn counts(
-    x: AreaIndex,
-    y: AreaIndex,
-    checkpoints: &[u8],
-    frames: &[u8],
-    store: &[u8],
-    parts: &[u8],
-    malformed: &[u8],
-    hints: &[u8],
-    confirmed: &[u8],
-    other_checkpoints: &[u8],
-    other_frames: &[u8],
-    other_store: &[u8],
-    other_parts: &[u8],
-    other_malformed: &[u8],
-    other_hints: &[u8],
-    other_confirmed: &[u8],
-) -> Missing
-    requires { Joins x
-        (tables checkpoints.now frames.now store.now parts.now malformed.now hints.now
-        confirmed.now) y
-        (tables other_checkpoints.now other_frames.now other_store.now other_parts.now
-        other_malformed.now other_hints.now other_confirmed.now) }
-    ensures { result ≡ counts_in x
-        (tables checkpoints.now frames.now store.now parts.now
-        malformed.now hints.now confirmed.now) y
-        (tables other_checkpoints.now other_frames.now other_store.now
-        other_parts.now other_malformed.now other_hints.now
-        other_confirmed.now) }
+fn counts(x: AreaIndex, y: AreaIndex, t: &Tables, other: &Tables) -> Missing
+    requires { Joins x (tables_in t.now) y (tables_in other.now) }
+    ensures { result ≡ counts_in x (tables_in t.now) y (tables_in other.now) }
 {
     Missing {
         checkpoints: y.checkpoints.saturating_sub(x.checkpoints),
         parts: missing_parts(
             x.parts,
-            parts,
+            t.parts,
             x.frames,
-            frames,
-            store,
+            t.frames,
+            t.store,
             y.parts,
-            other_parts,
+            other.parts,
             y.frames,
-            other_frames,
-            other_store,
+            other.frames,
+            other.store,
         ),
         malformed: missing_records(
             Section::Malformed,
-            malformed,
+            t.malformed,
             x.malformed,
-            other_malformed,
+            other.malformed,
             y.malformed,
         ),
-        hints: missing_records(Section::Hints, hints, x.hints, other_hints, y.hints),
+        hints: missing_records(Section::Hints, t.hints, x.hints, other.hints, y.hints),
         confirmed: missing_records(
             Section::Confirmed,
-            confirmed,
+            t.confirmed,
             x.confirmed,
-            other_confirmed,
+            other.confirmed,
             y.confirmed,
         ),
     }
 }
 
 // What the own list x lacks of the other list y.
-pub fn lacks(
-    x: AreaIndex,
-    y: AreaIndex,
-    checkpoints: &[u8],
-    frames: &[u8],
-    store: &[u8],
-    parts: &[u8],
-    malformed: &[u8],
-    hints: &[u8],
-    confirmed: &[u8],
-    other_checkpoints: &[u8],
-    other_frames: &[u8],
-    other_store: &[u8],
-    other_parts: &[u8],
-    other_malformed: &[u8],
-    other_hints: &[u8],
-    other_confirmed: &[u8],
-) -> Lacked
-    ensures { lacked_of result ≡ lacks_in x
-        (tables checkpoints.now frames.now store.now parts.now
-        malformed.now hints.now confirmed.now) y
-        (tables other_checkpoints.now other_frames.now other_store.now
-        other_parts.now other_malformed.now other_hints.now
-        other_confirmed.now) }
+pub fn lacks(x: AreaIndex, y: AreaIndex, t: &Tables, other: &Tables) -> Result<Lacks, Refusal>
+    ensures { answer_in result ≡ lacks_in x (tables_in t.now) y (tables_in other.now) }
 {
-    let number = merge_refuses(
-        x,
-        y,
-        checkpoints,
-        frames,
-        store,
-        parts,
-        malformed,
-        hints,
-        confirmed,
-        other_checkpoints,
-        other_frames,
-        other_store,
-        other_parts,
-        other_malformed,
-        other_hints,
-        other_confirmed,
-    );
-    if number != 0 {
-        return Lacked::Refused(number);
-    }
-    let c = counts(
-        x,
-        y,
-        checkpoints,
-        frames,
-        store,
-        parts,
-        malformed,
-        hints,
-        confirmed,
-        other_checkpoints,
-        other_frames,
-        other_store,
-        other_parts,
-        other_malformed,
-        other_hints,
-        other_confirmed,
-    );
-    Lacked::Lacks(lacks_by(x, y, c))
+    check_merge(x, y, t, other)?;
+    Ok(lacks_by(x, y, counts(x, y, t, other)))
 }

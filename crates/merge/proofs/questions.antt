@@ -1,4 +1,3 @@
-pub mod Questions
 pub mod Refusal
 pub mod Ready
 pub mod Held

@@ -15,11 +15,12 @@ ghost use Rattle.merge.specs.Merge.{merge_in};
 
 use crate::goes_further::further;
 use crate::numbers::numbers;
-use crate::questions::merge_refuses;
+use crate::questions::check_merge;
 use crate::take::{append_checkpoints, join_hints, take_malformed, take_parts};
 use confirmations::confirm::merge_confirmations;
 use index::is_checked;
 use rules::{AreaIndex, Made};
+use tables::lent::Tables;
 
 // ---- the call
 // The merge of y into x, which nothing refuses.
@@ -98,26 +99,26 @@ pub fn merge(
 ) -> Made
     ensures { made_out result (tables checkpoints.new frames.new store.new parts.new malformed.new hints.new confirmed.new) ≡ merge_in x (tables checkpoints.old frames.old store.old parts.old malformed.old hints.old confirmed.old) y (tables other_checkpoints.now other_frames.now other_store.now other_parts.now other_malformed.now other_hints.now other_confirmed.now) }
 {
-    let number = merge_refuses(
-        x,
-        y,
-        checkpoints,
-        frames,
-        store,
-        parts,
-        malformed,
-        hints,
-        confirmed,
-        other_checkpoints,
-        other_frames,
-        other_store,
-        other_parts,
-        other_malformed,
-        other_hints,
-        other_confirmed,
-    );
-    if number != 0 {
-        return Made::Refused(number);
+    let t = Tables {
+        checkpoints: &*checkpoints,
+        frames: &*frames,
+        store: &*store,
+        parts: &*parts,
+        malformed: &*malformed,
+        hints: &*hints,
+        confirmed: &*confirmed,
+    };
+    let other = Tables {
+        checkpoints: other_checkpoints,
+        frames: other_frames,
+        store: other_store,
+        parts: other_parts,
+        malformed: other_malformed,
+        hints: other_hints,
+        confirmed: other_confirmed,
+    };
+    if let Err(e) = check_merge(x, y, &t, &other) {
+        return Made::Refused(u32::from(e));
     }
     Made::Index(commit(
         x,

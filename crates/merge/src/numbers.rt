@@ -1,20 +1,13 @@
 // What a merge takes of the other list by value, and the numbers of the merged list.
 
 ghost use Rattle.std.specs.Prelude.{◌≡◌};
-ghost use Rattle.rules.specs.Tests.{is_some, or_else};
+ghost use Rattle.rules.specs.Tests.{or_else};
 ghost use Rattle.rules.specs.Merge.{merged_fingerprint};
 ghost use Rattle.rules.specs.declared.Fingerprint.TheVariants.{Unknown};
 ghost use Rattle.merge.specs.Numbers.{numbers_by};
 
 use parts::Counts;
 use rules::{AreaIndex, Fingerprint};
-
-#[tactic(auto, unfolding(rules::specs::Tests::is_some))]
-pub fn has_id(a: Option<u64>) -> bool
-    ensures { result ≡ is_some a }
-{
-    matches!(a, Some(_))
-}
 
 // The own image id, or the other's where there is none.
 #[tactic(auto, unfolding(rules::specs::Tests::or_else))]

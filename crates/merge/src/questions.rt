@@ -3,24 +3,24 @@
 ghost use Rattle.std.specs.Prelude.{◌≡◌, ◌*◌, ◌≤◌, eqb, length};
 ghost use Rattle.rules.specs.Tests.{agree};
 ghost use Rattle.rules.specs.Values.{stated, same_area, same_end};
-ghost use Rattle.tables.specs.Index.{tables};
+ghost use Rattle.rules.specs.Refusals.{number_in};
+ghost use Rattle.tables.specs.Loans.{tables_in};
 ghost use Rattle.merge.specs.Merge.{merge_refusal};
 ghost use Rattle.merge.specs.Steps.{area_agrees, image_agrees, reading_agrees, join_number};
 
 use crate::common::same_checkpoints;
-use header::questions::same_key;
+use index::check;
 use index::create::agrees;
-use index::refuses;
-use index::room::lowest;
-use rules::{Area, AreaIndex, EndState, Fingerprint};
-use sections::ask;
+use index::room::lower;
+use rules::{Area, AreaIndex, EndState, Fingerprint, Refusal};
+use tables::lent::Tables;
 
 // ---- 41
-#[tactic(auto, unfolding(rules::specs::Values::same_area, rules::specs::Tests::all))]
+#[tactic(auto, unfolding(rules::specs::Values::same_area, rules::specs::Values::same_key, rules::specs::Tests::all))]
 pub fn same_area(a: Area, b: Area) -> bool
     ensures { result ≡ same_area a b }
 {
-    same_key(a.key, b.key) && a.start == b.start && a.end == b.end
+    a == b
 }
 
 // 41: same area and interval?
@@ -88,61 +88,37 @@ fn question43(x: AreaIndex, y: AreaIndex, checkpoints: &[u8], other: &[u8]) -> b
         && same_end(x.ending, y.ending)
 }
 
-// The number of the first of questions 41 to 43 answered no, 0 for none.
-pub fn join_number(x: AreaIndex, y: AreaIndex, checkpoints: &[u8], other: &[u8]) -> u32
-    requires { (x.checkpoints * 24 ≤ length checkpoints.now) × (y.checkpoints * 24 ≤ length other.now) }
-    ensures { result ≡ join_number x checkpoints.now y other.now }
-{
-    let area = ask(0, question41(x, y), 41);
-    let image = ask(area, question42(x, y), 42);
-    ask(image, question43(x, y, checkpoints, other), 43)
-}
-
-// ---- all questions of a merge
-// The number of the first question that refuses a merge of y into x, 0 for none.
-pub fn merge_refuses(
+// Questions 41 to 43.
+#[tactic(auto, unfolding(crate::specs::Steps::join_number, crate::specs::Steps::area_agrees, crate::specs::Steps::image_agrees, crate::specs::Steps::reading_agrees, rules::specs::Merge::question41, rules::specs::Merge::question42, rules::specs::Tests::first_no, rules::specs::Refusals::number_in, rules::specs::Refusals::refusal_number))]
+pub fn check_join(
     x: AreaIndex,
     y: AreaIndex,
     checkpoints: &[u8],
-    frames: &[u8],
-    store: &[u8],
-    parts: &[u8],
-    malformed: &[u8],
-    hints: &[u8],
-    confirmed: &[u8],
-    other_checkpoints: &[u8],
-    other_frames: &[u8],
-    other_store: &[u8],
-    other_parts: &[u8],
-    other_malformed: &[u8],
-    other_hints: &[u8],
-    other_confirmed: &[u8],
-) -> u32
-    ensures { result ≡ merge_refusal x (tables checkpoints.now frames.now store.now parts.now malformed.now hints.now confirmed.now) y (tables other_checkpoints.now other_frames.now other_store.now other_parts.now other_malformed.now other_hints.now other_confirmed.now) }
+    other: &[u8],
+) -> Result<(), Refusal>
+    requires { (x.checkpoints * 24 ≤ length checkpoints.now) × (y.checkpoints * 24 ≤ length other.now) }
+    ensures { number_in result ≡ join_number x checkpoints.now y other.now }
 {
-    let own = refuses(
-        x,
-        checkpoints,
-        frames,
-        store,
-        parts,
-        malformed,
-        hints,
-        confirmed,
-    );
-    let other = refuses(
-        y,
-        other_checkpoints,
-        other_frames,
-        other_store,
-        other_parts,
-        other_malformed,
-        other_hints,
-        other_confirmed,
-    );
-    let number = lowest(own, other);
-    if number != 0 {
-        return number;
+    if !question41(x, y) {
+        return Err(Refusal::MergeArea);
     }
-    join_number(x, y, checkpoints, other_checkpoints)
+    if !question42(x, y) {
+        return Err(Refusal::MergeIds);
+    }
+    if !question43(x, y, checkpoints, other) {
+        return Err(Refusal::MergeCheckpoints);
+    }
+    Ok(())
+}
+
+// ---- all questions of a merge
+// Questions 1 to 4 of the lists x and y, in t and other, then 41 to 43.
+#[tactic(auto, using(crate::proofs::questions::Refusal::first_refuses, rules::proofs::Refusals::number_ne0), unfolding(rules::specs::Refusals::number_in))]
+pub fn check_merge(x: AreaIndex, y: AreaIndex, t: &Tables, other: &Tables) -> Result<(), Refusal>
+    ensures { number_in result ≡ merge_refusal x (tables_in t.now) y (tables_in other.now) }
+{
+    let own = check(x, t);
+    let theirs = check(y, other);
+    lower(own, theirs)?;
+    check_join(x, y, t.checkpoints, other.checkpoints)
 }

@@ -12,14 +12,13 @@ use Rattle.rules.specs.declared.Checkpoint.{Checkpoint}
 use Rattle.rules.specs.declared.EndState.{EndState}
 use Rattle.rules.specs.declared.Plan.{Plan}
 use Rattle.rules.specs.declared.Plan.TheVariants as variant
-use Rattle.rules.specs.Tests.{each, first_no, Accepted, after}
+use Rattle.rules.specs.Tests.{each, first_no, Accepted, after, Refused}
 use Rattle.rules.specs.Values.{checkpoint_at, lsn_of}
 use Rattle.rules.specs.File.{decode_checkpoint}
 use Rattle.rules.specs.Plan.{last_not_above, assembly_of, plan_from, plan_or, planned, plan}
 use Rattle.tables.specs.Tables.{checkpoints_in, frames_in, parts_in}
-use Rattle.rules.specs.declared.Planned.TheVariants as variants
 use Rattle.tables.specs.Index.{Tables, index_in, refusal}
-use Rattle.plan.specs.Plan.{planned_of, plan_in}
+use Rattle.plan.specs.Plan.{plan_in}
 use Rattle.index.specs.Steps.{Passes}
 use Rattle.plan.specs.Search.{last_in}
 use Rattle.plan.specs.Steps.{PlanReads, resume_in, within_of, plan_of}
@@ -27,7 +26,7 @@ use Rattle.index.proofs.Four.{kinded_index}
 use Rattle.index.proofs.Questions.{range, passes_long, checkpoints_hold}
 use Rattle.plan.proofs.Rising.{rising}
 
-pub ready : {x : AreaIndex} {t : Tables} → Passes x t → PlanReads x t.checkpoints t.frames t.parts
+pub ready : {x : AreaIndex} {t : Tables} → Passes x t → PlanReads x t
 ready {x} {t} p =
     let r = range x.area p.roomy.area in
     let l = passes_long p in
@@ -86,11 +85,11 @@ module _ (x : AreaIndex) (t : Tables) where
     unfolding plan_in plan each
     answer_is e = kinded_index x t [] refl e _
 
-    pub plan_no : {n : ℕ} → n ≡ refusal x t → (n ≡ 0 → ⊥) → planned_of (variants.Refused n) ≡ plan_in x t f
-    unfolding planned_of after
+    pub plan_no : {n : ℕ} → n ≡ refusal x t → (n ≡ 0 → ⊥) → Refused n ≡ plan_in x t f
+    unfolding after
     plan_no {n} e h = sym (answer_is e ∙ rw (ne_eqb n 0 h))
 
     pub plan_yes : {n : ℕ} {p : Plan} → n ≡ refusal x t → n ≡ 0 → p ≡ plan_of x t f
-        → planned_of (variants.Plan p) ≡ plan_in x t f
-    unfolding planned_of plan_of after first_no
+        → Accepted p ≡ plan_in x t f
+    unfolding plan_of after first_no
     plan_yes {n} e h g = sym (answer_is e ∙ rw (eq-eqb n 0 h, g))

@@ -2,15 +2,9 @@
 use Rattle.std.specs.Prelude.{ℕ, ◌+◌, Bool, List, leb, length}
 use Rattle.rules.specs.declared.AreaIndex.{AreaIndex}
 use Rattle.rules.specs.declared.Plan.{Plan}
-use Rattle.rules.specs.declared.Planned.{Planned}
-use Rattle.rules.specs.declared.Planned.TheVariants as variants
-use Rattle.rules.specs.Tests.{Answer, Refused, Accepted}
+use Rattle.rules.specs.Tests.{Answer}
 use Rattle.rules.specs.Plan.{plan}
 use Rattle.tables.specs.Index.{Tables, room_of, index_in, kinds_in, kinded}
-
-unfoldable pub planned_of : Planned → Answer Plan
-planned_of (variants.Refused n) = Refused n
-planned_of (variants.Plan p) = Accepted p
 
 unfoldable pub plan_in : AreaIndex → Tables → ℕ → Answer Plan
 plan_in x t first = kinded (kinds_in x t) (plan (room_of t) (index_in x t) first)

@@ -10,12 +10,12 @@ use Rattle.tables.specs.Index.{Tables, index_in}
 use Rattle.plan.specs.Search.{Rising}
 
 -- what a plan reads of the tables
-pub record PlanReads (x : AreaIndex) (cs fs ps : List ℕ) : Type 0 where
+pub record PlanReads (x : AreaIndex) (t : Tables) : Type 0 where
   pub start : x.area.start ≤ 4294967295
-  pub checkpoints : x.checkpoints * 24 ≤ length cs
-  pub frames : x.frames * 8 ≤ length fs
-  pub parts : x.parts * 24 ≤ length ps
-  pub rising : Rising x.checkpoints cs
+  pub checkpoints : x.checkpoints * 24 ≤ length t.checkpoints
+  pub frames : x.frames * 8 ≤ length t.frames
+  pub parts : x.parts * 24 ≤ length t.parts
+  pub rising : Rising x.checkpoints t.checkpoints
 
 -- a part as a plan names it
 abbrev pub stored_of : List Frame → Held → Option HeldPart

@@ -5,15 +5,17 @@ mod search;
 
 ghost use Rattle.std.specs.Prelude.{◌≡◌, List, ℕ, ◌*◌, ◌≤◌, length};
 ghost use Rattle.rules.specs.Plan.{offset_of, assembly_of, bytes_at};
+ghost use Rattle.rules.specs.Refusals.{answer_in};
 ghost use Rattle.tables.specs.Tables.{frames_in, parts_in};
-ghost use Rattle.tables.specs.Index.{tables};
-ghost use Rattle.plan.specs.Plan.{planned_of, plan_in, lies_in};
+ghost use Rattle.plan.specs.Plan.{plan_in, lies_in};
 ghost use Rattle.plan.specs.Steps.{PlanReads, stored_of, resume_in, within_of, plan_of};
+ghost use Rattle.tables.specs.Loans.{tables_in};
 
 use crate::search::not_above;
-use index::refuses;
-use rules::{AreaIndex, Held, HeldPart, Plan, Planned, Resume};
+use index::check;
+use rules::{AreaIndex, Held, HeldPart, Plan, Refusal, Resume};
 use sections::lsn_at;
+use tables::lent::Tables;
 use tables::{get_checkpoint, get_header, read_held};
 
 // Where the bytes of frame number g begin in the store.
@@ -55,74 +57,48 @@ fn assembly_of(frames: &[u8], f: usize, parts: &[u8], h: usize, j: u32) -> Optio
     None
 }
 
-fn resume(x: AreaIndex, j: u32, checkpoints: &[u8], frames: &[u8], parts: &[u8]) -> Plan
-    requires { PlanReads x checkpoints.now frames.now parts.now }
-    ensures { (store malformed hints confirmed : List ℕ)
-        → result ≡ resume_in x (tables checkpoints.now frames.now store parts.now malformed
-        hints confirmed) j }
+// A jump to checkpoint number j.
+fn resume(x: AreaIndex, j: u32, t: &Tables) -> Plan
+    requires { PlanReads x (tables_in t.now) }
+    ensures { result ≡ resume_in x (tables_in t.now) j }
 {
     Plan::At(Resume {
         number: j,
         lsn: lsn_at(x.area, x.interval, j),
-        checkpoint: get_checkpoint(checkpoints, x.checkpoints as usize, j as usize),
-        assembly: assembly_of(frames, x.frames as usize, parts, x.parts as usize, j),
+        checkpoint: get_checkpoint(t.checkpoints, x.checkpoints as usize, j as usize),
+        assembly: assembly_of(t.frames, x.frames as usize, t.parts, x.parts as usize, j),
     })
 }
 
 // The end state apart.
-fn plan_within(x: AreaIndex, first: u32, checkpoints: &[u8], frames: &[u8], parts: &[u8]) -> Plan
-    requires { PlanReads x checkpoints.now frames.now parts.now }
-    ensures { (store malformed hints confirmed : List ℕ)
-        → result ≡ within_of x (tables checkpoints.now frames.now store parts.now malformed
-        hints confirmed) first }
+fn plan_within(x: AreaIndex, first: u32, t: &Tables) -> Plan
+    requires { PlanReads x (tables_in t.now) }
+    ensures { result ≡ within_of x (tables_in t.now) first }
 {
-    match not_above(checkpoints, x.checkpoints as usize, first) {
+    match not_above(t.checkpoints, x.checkpoints as usize, first) {
         0 => Plan::Start,
-        count => resume(x, (count - 1) as u32, checkpoints, frames, parts),
+        count => resume(x, (count - 1) as u32, t),
     }
 }
 
-fn plan_in(x: AreaIndex, first: u32, checkpoints: &[u8], frames: &[u8], parts: &[u8]) -> Plan
-    requires { PlanReads x checkpoints.now frames.now parts.now }
-    ensures { (store malformed hints confirmed : List ℕ)
-        → result ≡ plan_of x (tables checkpoints.now frames.now store parts.now malformed
-        hints confirmed) first }
+// The questions apart.
+fn plan_in(x: AreaIndex, first: u32, t: &Tables) -> Plan
+    requires { PlanReads x (tables_in t.now) }
+    ensures { result ≡ plan_of x (tables_in t.now) first }
 {
     match x.ending {
         Some(e) if e.threshold <= first => Plan::End(e),
-        _ => plan_within(x, first, checkpoints, frames, parts),
+        _ => plan_within(x, first, t),
     }
 }
 
 // Where to start for frame first.
-pub fn plan(
-    x: AreaIndex,
-    first: u32,
-    checkpoints: &[u8],
-    frames: &[u8],
-    store: &[u8],
-    parts: &[u8],
-    malformed: &[u8],
-    hints: &[u8],
-    confirmed: &[u8],
-) -> Planned
-    ensures { planned_of result ≡ plan_in x (tables checkpoints.now frames.now store.now
-        parts.now malformed.now hints.now confirmed.now) first }
+#[tactic(auto, using(crate::proofs::Steps::plan_no, rules::proofs::Refusals::number_ne0), unfolding(rules::specs::Refusals::answer_in, rules::specs::Refusals::number_in))]
+pub fn plan(x: AreaIndex, first: u32, t: &Tables) -> Result<Plan, Refusal>
+    ensures { answer_in result ≡ plan_in x (tables_in t.now) first }
 {
-    let number = refuses(
-        x,
-        checkpoints,
-        frames,
-        store,
-        parts,
-        malformed,
-        hints,
-        confirmed,
-    );
-    if number != 0 {
-        return Planned::Refused(number);
-    }
-    Planned::Plan(plan_in(x, first, checkpoints, frames, parts))
+    check(x, t)?;
+    Ok(plan_in(x, first, t))
 }
 
 // ---- the second call

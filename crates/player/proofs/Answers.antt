@@ -1,30 +1,30 @@
 -- What each call answers where its blocks are heads or long enough, from what the calls in it ensure. Assumes nothing.
-use mathlib.Core.Path.{◌≡◌}
-use mathlib.Core.Bool.{true}
+use mathlib.Core.Path.{◌≡◌, refl, ◌∙◌}
+use mathlib.Core.Bool.{Bool, true, false, cond}
 use mathlib.Core.List.{List}
 use Prim.Native.Nat.{ℕ, ◌≤◌}
+use lib.Dec.{eqb}
 use lib.ListN.{length}
 use Rattle.rules.specs.declared.Area.{Area}
 use Rattle.rules.specs.declared.AreaIndex.{AreaIndex}
 use Rattle.rules.specs.declared.First.{First}
 use Rattle.rules.specs.FirstRecord.{first_record}
-use Rattle.rules.specs.Tests.{Accepted}
+use Rattle.rules.specs.Tests.{Accepted, Answer, Refused, after}
 use Rattle.blocks.specs.Blocks.{index_words, is_index}
-use Rattle.tables.specs.Index.{Tables, made_out}
+use Rattle.rules.specs.File.{saved_length}
+use Rattle.tables.specs.Index.{Tables, index_in, refusal, made_out}
 use Rattle.rules.specs.declared.Made.{Made}
 use Rattle.index.specs.Index.{made_of, new_in, bound_in}
-use Rattle.plan.specs.Plan.{planned_of, plan_in}
-use Rattle.rules.specs.declared.Planned.{Planned}
+use Rattle.plan.specs.Plan.{plan_in}
 use Rattle.load.specs.Load.{load_in}
 use Rattle.merge.specs.Merge.{merge_in}
-use Rattle.adds.specs.Adds.{adds_of, adds_in}
-use Rattle.rules.specs.declared.Added.{Added}
+use Rattle.adds.specs.Adds.{adds_in}
 use Rattle.add_hints.specs.AddHints.{add_hints_in}
 use Rattle.save.specs.Save.{made, save_in}
-use Rattle.rules.specs.declared.Saved.{Saved}
-use Rattle.rules.specs.declared.FileArea.{FileArea}
 use Rattle.rules.specs.declared.Sized.{Sized}
-use Rattle.sizes.specs.Sizes.{sized_of, new_sizes, file_sizes, file_area_of, file_area, file_length}
+use Rattle.rules.specs.declared.Plan.{Plan}
+use Rattle.rules.specs.declared.Brings.{Brings}
+use Rattle.sizes.specs.Sizes.{sized_of, new_sizes, file_sizes, file_area, file_length, length_in}
 use Rattle.blocks.specs.Calls.{called, into, head_index, saved_number}
 use Rattle.player.specs.Block.{plan_words, first_words, size_words, area_words, brings_words}
 use Rattle.player.specs.Player.{called_over, first_call, sizes_call, file_area_call, file_sizes_call, new_call, load_call, fingerprint_call, plan_call, length_call, save_call, merge_call, adds_call, add_hints_call}
@@ -41,7 +41,7 @@ module _ (b b' : List ℕ) (n : ℕ) (l : 192 ≤ length b) where
   unfolding sizes_call
   sizes_done a x k budget most r p e z = long_enough b _ _ l (rw (e, z) at p)
 
-  pub file_area_done : (file : List ℕ) (r : FileArea) → called n b' ≡ into area_words b (file_area_of r) → file_area_of r ≡ file_area file
+  pub file_area_done : (file : List ℕ) (r : Answer Area) → called n b' ≡ into area_words b r → r ≡ file_area file
       → called n b' ≡ file_area_call b file
   unfolding file_area_call
   file_area_done file r p e = long_enough b _ _ l (rw e at p)
@@ -51,8 +51,8 @@ module _ (b b' : List ℕ) (n : ℕ) (l : 192 ≤ length b) where
   unfolding file_sizes_call
   file_sizes_done a x file limit r p e z = long_enough b _ _ l (rw (e, z) at p)
 
-  pub plan_done : (h : List ℕ) → is_index h ≡ true → (x : AreaIndex) (t : Tables) (frame : ℕ) (r : Planned)
-      → called n b' ≡ into plan_words b (planned_of r) → planned_of r ≡ plan_in x t frame → x ≡ head_index h → called n b' ≡ plan_call h frame b t
+  pub plan_done : (h : List ℕ) → is_index h ≡ true → (x : AreaIndex) (t : Tables) (frame : ℕ) (r : Answer Plan)
+      → called n b' ≡ into plan_words b r → r ≡ plan_in x t frame → x ≡ head_index h → called n b' ≡ plan_call h frame b t
   unfolding plan_call
   plan_done h g x t frame r p e z = is_head_lemma _ _ _ g (long_enough b _ _ l (rw (e, z) at p))
 
@@ -68,8 +68,8 @@ module _ (b b' : List ℕ) (n : ℕ) (l : 192 ≤ length b) where
   load_done a x file limit t t' r p e z = long_enough b _ _ l (rw (← z, ← e, p))
 
   -- ---- two lists
-  pub adds_done : (g : List ℕ) → is_index g ≡ true → (x y : AreaIndex) → y ≡ head_index g → (t u : Tables) (h : List ℕ) → is_index h ≡ true → (r : Added)
-      → called n b' ≡ into brings_words b (adds_of r) → adds_of r ≡ adds_in x t y u → x ≡ head_index h → called n b' ≡ adds_call h g b t u
+  pub adds_done : (g : List ℕ) → is_index g ≡ true → (x y : AreaIndex) → y ≡ head_index g → (t u : Tables) (h : List ℕ) → is_index h ≡ true → (r : Answer Brings)
+      → called n b' ≡ into brings_words b r → r ≡ adds_in x t y u → x ≡ head_index h → called n b' ≡ adds_call h g b t u
   unfolding adds_call
   adds_done g m x y w t u h k r p e z = is_head_lemma _ _ _ k (is_head_lemma _ _ _ m (long_enough b _ _ l (rw (← z, ← w, ← e) p)))
 
@@ -91,11 +91,20 @@ module _ (b b' : List ℕ) (n : ℕ) (l : is_index b ≡ true) where
   merge_done g m x y w t u t' r p e z = is_head_lemma _ _ _ l (is_head_lemma _ _ _ m (rw (← z, ← w, ← e, p)))
 
 -- ---- no block is written
-module _ (h : List ℕ) (l : is_index h ≡ true) (x : AreaIndex) (z : x ≡ head_index h) (t : Tables) where
-  pub length_done : (n : ℕ) → n ≡ file_length x t → n ≡ length_call h t
-  unfolding length_call
-  length_done n e = is_head_lemma _ _ _ l (rw z at e)
+number_told : (b : Bool) (k n : ℕ) → saved_number (cond b (Accepted k) (Refused n)) ≡ cond b k n
+unfolding saved_number
+number_told true k n = refl
+number_told false k n = refl
 
-  pub save_done : (n : ℕ) (o o' : List ℕ) (r : Saved) → made r o' ≡ save_in x t o → n ≡ saved_number r → called n o' ≡ save_call h t o
+length_number : (x : AreaIndex) (t : Tables) → saved_number (length_in x t) ≡ file_length x t
+unfolding length_in file_length after
+length_number x t = number_told (eqb (refusal x t) 0) (saved_length (index_in x t)) (refusal x t)
+
+module _ (h : List ℕ) (l : is_index h ≡ true) (x : AreaIndex) (z : x ≡ head_index h) (t : Tables) where
+  pub length_done : (n : ℕ) (r : Answer ℕ) → r ≡ length_in x t → n ≡ saved_number r → n ≡ length_call h t
+  unfolding length_call
+  length_done n r e q = is_head_lemma _ _ _ l (q ∙ rw (e, length_number x t, z))
+
+  pub save_done : (n : ℕ) (o o' : List ℕ) (r : Answer ℕ) → made r o' ≡ save_in x t o → n ≡ saved_number r → called n o' ≡ save_call h t o
   unfolding save_call
   save_done n o o' r e q = is_head_lemma _ _ _ l (rw (← z, ← e, q))

@@ -2,8 +2,6 @@
 use Rattle.std.specs.Prelude.{ℕ, List, [], ◌∷◌}
 use Rattle.rules.specs.declared.Area.{Area}
 use Rattle.rules_lacks.specs.declared.Lacks.{Lacks}
-use Rattle.rules.specs.declared.Viewed.{Viewed}
-use Rattle.rules.specs.declared.Viewed.TheVariants as viewed
 use Rattle.rules.specs.FirstRecord.{first_record}
 use Rattle.rules.specs.Tests.{Accepted, Answer, Refused}
 use Rattle.rules.specs.File.{bit}
@@ -141,17 +139,13 @@ unfoldable pub fold_call : ℕ → ℕ → ℕ → List ℕ → Called
 fold_call w k s answer = in_block answer (called 3 answer) (into one_word answer (folded_of (fold w k s)))
 
 -- the length, or the refusal number
-unfoldable pub viewed_number : Viewed → ℕ
-viewed_number (viewed.Refused n) = n
-viewed_number (viewed.Length n) = n
-
 unfoldable pub length_number : Answer ℕ → ℕ
 length_number (Refused n) = n
 length_number (Accepted n) = n
 
 -- with the output as block
 abbrev pub view_into : ViewOut → Called
-view_into o = called (viewed_number o.answer) o.out
+view_into o = called (length_number o.answer) o.out
 
 -- 52 where the role is neither, asked before the block's 3
 unfoldable pub view_length_call : ℕ → List ℕ → Tables → ℕ

@@ -1,20 +1,17 @@
 // Answers of calls as a number and a block: 0 and words over the start of the block, or the refusal number and the block as it was.
 ghost use Rattle.std.specs.Prelude.{◌≡◌, ◌≤◌, length};
 ghost use Rattle.rules.specs.Tests.{Accepted};
+ghost use Rattle.rules.specs.Refusals.{answer_in};
 ghost use Rattle.blocks.specs.Blocks.{index_words};
 ghost use Rattle.index.specs.Index.{made_of};
-ghost use Rattle.plan.specs.Plan.{planned_of};
-ghost use Rattle.adds.specs.Adds.{adds_of};
-ghost use Rattle.sizes.specs.Sizes.{sized_of, file_area_of};
+ghost use Rattle.sizes.specs.Sizes.{sized_of};
 ghost use Rattle.blocks.specs.Calls.{called, into};
 ghost use Rattle.player.specs.Block.{plan_array, rule_word, assembly_words, plan_words, first_words, size_words, area_words, brings_words};
 ghost use Rattle.player.specs.Steps.{resume_words};
 
 use blocks::calls::bit_word;
 use blocks::{first_told, index_words, write_words};
-use rules::{
-    Added, Area, Brings, FileArea, First, HeldPart, Made, Plan, Planned, Resume, Sized, TableSizes,
-};
+use rules::{Area, Brings, First, HeldPart, Made, Plan, Refusal, Resume, Sized, TableSizes};
 use rules_jump::{plan_rule, plan_rule_number};
 use tables::part_records::{kind_number, unsigned};
 
@@ -272,14 +269,15 @@ pub fn put_made(head: &mut [u8], made: Made) -> u32
     }
 }
 
-pub fn put_plan(answer: &mut [u8], planned: Planned) -> u32
+#[tactic(auto, unfolding(rules::specs::Refusals::answer_in, blocks::specs::Calls::into))]
+pub fn put_plan(answer: &mut [u8], planned: Result<Plan, Refusal>) -> u32
     requires { 192 ≤ length answer.old }
     ensures { called result answer.new
-        ≡ into plan_words answer.old (planned_of planned) }
+        ≡ into plan_words answer.old (answer_in planned) }
 {
     match planned {
-        Planned::Refused(n) => n,
-        Planned::Plan(p) => {
+        Err(e) => u32::from(e),
+        Ok(p) => {
             write_words(answer, plan_words(p));
             0
         }
@@ -300,28 +298,30 @@ pub fn put_sizes(answer: &mut [u8], sized: Sized) -> u32
     }
 }
 
-pub fn put_area(answer: &mut [u8], area: FileArea) -> u32
+#[tactic(auto, unfolding(rules::specs::Refusals::answer_in, blocks::specs::Calls::into))]
+pub fn put_area(answer: &mut [u8], area: Result<Area, Refusal>) -> u32
     requires { 192 ≤ length answer.old }
     ensures { called result answer.new
-        ≡ into area_words answer.old (file_area_of area) }
+        ≡ into area_words answer.old (answer_in area) }
 {
     match area {
-        FileArea::Refused(n) => n,
-        FileArea::Area(a) => {
+        Err(e) => u32::from(e),
+        Ok(a) => {
             write_words(answer, area_words(a));
             0
         }
     }
 }
 
-pub fn put_brings(answer: &mut [u8], added: Added) -> u32
+#[tactic(auto, unfolding(rules::specs::Refusals::answer_in, blocks::specs::Calls::into))]
+pub fn put_brings(answer: &mut [u8], added: Result<Brings, Refusal>) -> u32
     requires { 192 ≤ length answer.old }
     ensures { called result answer.new
-        ≡ into brings_words answer.old (adds_of added) }
+        ≡ into brings_words answer.old (answer_in added) }
 {
     match added {
-        Added::Refused(n) => n,
-        Added::Brings(b) => {
+        Err(e) => u32::from(e),
+        Ok(b) => {
             write_words(answer, brings_words(b));
             0
         }

@@ -1,14 +1,16 @@
 // What the player's C program calls to know what another list holds and the own one does not.
 ghost use Rattle.std.specs.Prelude.{◌≡◌, ◌≤◌, length};
+ghost use Rattle.rules.specs.Refusals.{answer_in};
 ghost use Rattle.tables.specs.Index.{tables};
-ghost use Rattle.lacks.specs.Lacks.{lacked_of};
 ghost use Rattle.blocks.specs.Calls.{called, into};
 ghost use Rattle.player.specs.Player.{lacks_words, lacks_call};
 
 use blocks::calls::{bit_word, index_in};
 use blocks::read::is_index;
 use blocks::{HEAD_BYTES, write_words};
-use rules_lacks::{Lacked, Lacks};
+use rules::Refusal;
+use rules_lacks::Lacks;
+use tables::lent::Tables;
 
 fn lacks_words(l: Lacks) -> [u64; 24]
     ensures { result ≡ lacks_words l }
@@ -46,14 +48,15 @@ fn lacks_words(l: Lacks) -> [u64; 24]
     ]
 }
 
-fn put_lacks(answer: &mut [u8], lacked: Lacked) -> u32
+#[tactic(auto, unfolding(rules::specs::Refusals::answer_in, blocks::specs::Calls::into))]
+fn put_lacks(answer: &mut [u8], lacked: Result<Lacks, Refusal>) -> u32
     requires { 192 ≤ length answer.old }
     ensures { called result answer.new
-        ≡ into lacks_words answer.old (lacked_of lacked) }
+        ≡ into lacks_words answer.old (answer_in lacked) }
 {
     match lacked {
-        Lacked::Refused(n) => n,
-        Lacked::Lacks(l) => {
+        Err(e) => u32::from(e),
+        Ok(l) => {
             write_words(answer, lacks_words(l));
             0
         }
@@ -102,20 +105,24 @@ pub fn seek_raw_lacks(
     let lacked = lacks::lacks(
         x,
         y,
-        checkpoints,
-        frames,
-        store,
-        parts,
-        malformed,
-        hints,
-        confirmed,
-        other_checkpoints,
-        other_frames,
-        other_store,
-        other_parts,
-        other_malformed,
-        other_hints,
-        other_confirmed,
+        &Tables {
+            checkpoints,
+            frames,
+            store,
+            parts,
+            malformed,
+            hints,
+            confirmed,
+        },
+        &Tables {
+            checkpoints: other_checkpoints,
+            frames: other_frames,
+            store: other_store,
+            parts: other_parts,
+            malformed: other_malformed,
+            hints: other_hints,
+            confirmed: other_confirmed,
+        },
     );
     put_lacks(answer, lacked)
 }

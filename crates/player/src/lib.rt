@@ -20,6 +20,7 @@ use crate::block::{put_area, put_brings, put_first, put_made, put_plan, put_size
 use blocks::HEAD_BYTES;
 use blocks::calls::{area_from, bit_word, index_in, saved_number};
 use blocks::read::is_index;
+use tables::lent::Tables;
 use view::is_workshop;
 
 // ---- sums, sectors and sizes
@@ -268,13 +269,15 @@ pub fn seek_raw_plan(
     let planned = plan::plan(
         x,
         frame,
-        checkpoints,
-        frames,
-        store,
-        parts,
-        malformed,
-        hints,
-        confirmed,
+        &Tables {
+            checkpoints,
+            frames,
+            store,
+            parts,
+            malformed,
+            hints,
+            confirmed,
+        },
     );
     put_plan(answer, planned)
 }
@@ -307,16 +310,19 @@ pub fn seek_raw_saved_length(
         return 3;
     }
     let x = index_in(head);
-    sizes::file_length(
+    let length = sizes::file_length(
         x,
-        checkpoints,
-        frames,
-        store,
-        parts,
-        malformed,
-        hints,
-        confirmed,
-    )
+        &Tables {
+            checkpoints,
+            frames,
+            store,
+            parts,
+            malformed,
+            hints,
+            confirmed,
+        },
+    );
+    saved_number(length)
 }
 
 // Writes the list file. The length, or the refusal number.
@@ -347,13 +353,15 @@ pub fn seek_raw_save(
     let x = index_in(head);
     let saved = save::to_bytes(
         x,
-        checkpoints,
-        frames,
-        store,
-        parts,
-        malformed,
-        hints,
-        confirmed,
+        &Tables {
+            checkpoints,
+            frames,
+            store,
+            parts,
+            malformed,
+            hints,
+            confirmed,
+        },
         out,
     );
     saved_number(saved)
@@ -463,20 +471,24 @@ pub fn seek_raw_adds(
     let added = adds::adds(
         x,
         y,
-        checkpoints,
-        frames,
-        store,
-        parts,
-        malformed,
-        hints,
-        confirmed,
-        other_checkpoints,
-        other_frames,
-        other_store,
-        other_parts,
-        other_malformed,
-        other_hints,
-        other_confirmed,
+        &Tables {
+            checkpoints,
+            frames,
+            store,
+            parts,
+            malformed,
+            hints,
+            confirmed,
+        },
+        &Tables {
+            checkpoints: other_checkpoints,
+            frames: other_frames,
+            store: other_store,
+            parts: other_parts,
+            malformed: other_malformed,
+            hints: other_hints,
+            confirmed: other_confirmed,
+        },
     );
     put_brings(answer, added)
 }

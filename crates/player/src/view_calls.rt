@@ -1,20 +1,23 @@
 // What the player's C program calls for the views of a list.
 ghost use Rattle.std.specs.Prelude.{◌≡◌};
+ghost use Rattle.rules.specs.Refusals.{answer_in};
 ghost use Rattle.tables.specs.Index.{tables};
 ghost use Rattle.blocks.specs.Calls.{called};
-ghost use Rattle.player.specs.Player.{viewed_number, view_length_call, view_call};
+ghost use Rattle.player.specs.Player.{length_number, view_length_call, view_call};
 
 use blocks::calls::index_in;
-use rules::Viewed;
-use view::block_refuses;
+use rules::Refusal;
+use tables::lent::Tables;
+use view::check_block;
 
 // The length, or the refusal number.
-fn viewed_number(viewed: Viewed) -> u64
-    ensures { result ≡ viewed_number viewed }
+#[tactic(auto, unfolding(crate::specs::Player::length_number, rules::specs::Refusals::answer_in))]
+fn length_number(viewed: Result<u64, Refusal>) -> u64
+    ensures { result ≡ length_number (answer_in viewed) }
 {
     match viewed {
-        Viewed::Refused(n) => n as u64,
-        Viewed::Length(n) => n,
+        Err(e) => u64::from(e),
+        Ok(n) => n,
     }
 }
 
@@ -35,23 +38,24 @@ pub fn seek_raw_view_length(
         (tables checkpoints.now frames.now store.now parts.now
         malformed.now hints.now confirmed.now) }
 {
-    let number = block_refuses(role, head);
-    if number != 0 {
-        return number as u64;
+    if let Err(e) = check_block(role, head) {
+        return u64::from(e);
     }
     let x = index_in(head);
     let viewed = view::view_length(
         role,
         x,
-        checkpoints,
-        frames,
-        store,
-        parts,
-        malformed,
-        hints,
-        confirmed,
+        &Tables {
+            checkpoints,
+            frames,
+            store,
+            parts,
+            malformed,
+            hints,
+            confirmed,
+        },
     );
-    viewed_number(viewed)
+    length_number(viewed)
 }
 
 // Writes a view: 1 the listener's, 2 the workshop's. The length, or the refusal number.
@@ -73,22 +77,23 @@ pub fn seek_raw_view(
         malformed.now hints.now confirmed.now)
         out.old }
 {
-    let number = block_refuses(role, head);
-    if number != 0 {
-        return number as u64;
+    if let Err(e) = check_block(role, head) {
+        return u64::from(e);
     }
     let x = index_in(head);
     let viewed = view::view(
         role,
         x,
-        checkpoints,
-        frames,
-        store,
-        parts,
-        malformed,
-        hints,
-        confirmed,
+        &Tables {
+            checkpoints,
+            frames,
+            store,
+            parts,
+            malformed,
+            hints,
+            confirmed,
+        },
         out,
     );
-    viewed_number(viewed)
+    length_number(viewed)
 }

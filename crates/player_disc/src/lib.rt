@@ -13,6 +13,7 @@ use crate::block::{put_contents, put_disc_sizes, put_loaded};
 use blocks::HEAD_BYTES;
 use blocks::calls::{area_from, index_in, saved_number};
 use blocks::read::is_index;
+use tables::lent::Tables;
 use view::is_workshop;
 
 // ---- what a disc file holds
@@ -181,16 +182,19 @@ pub fn seek_raw_disc_saved_length(
         return 3;
     }
     let x = index_in(head);
-    disc_save::length::one_length(
+    let length = disc_save::length::one_length(
         x,
-        checkpoints,
-        frames,
-        store,
-        parts,
-        malformed,
-        hints,
-        confirmed,
-    )
+        &Tables {
+            checkpoints,
+            frames,
+            store,
+            parts,
+            malformed,
+            hints,
+            confirmed,
+        },
+    );
+    saved_number(length)
 }
 
 // The length that saving both lists will write, or the refusal number.
@@ -228,24 +232,29 @@ pub fn seek_raw_disc_saved_length_both(
     }
     let x = index_in(head);
     let y = index_in(other);
-    disc_save::length::both_length(
+    let length = disc_save::length::both_length(
         x,
         y,
-        checkpoints,
-        frames,
-        store,
-        parts,
-        malformed,
-        hints,
-        confirmed,
-        other_checkpoints,
-        other_frames,
-        other_store,
-        other_parts,
-        other_malformed,
-        other_hints,
-        other_confirmed,
-    )
+        &Tables {
+            checkpoints,
+            frames,
+            store,
+            parts,
+            malformed,
+            hints,
+            confirmed,
+        },
+        &Tables {
+            checkpoints: other_checkpoints,
+            frames: other_frames,
+            store: other_store,
+            parts: other_parts,
+            malformed: other_malformed,
+            hints: other_hints,
+            confirmed: other_confirmed,
+        },
+    );
+    saved_number(length)
 }
 
 // Writes the disc file of one list. The length, or the refusal number.
@@ -276,13 +285,15 @@ pub fn seek_raw_disc_save(
     let x = index_in(head);
     let saved = disc_save::save_one(
         x,
-        checkpoints,
-        frames,
-        store,
-        parts,
-        malformed,
-        hints,
-        confirmed,
+        &Tables {
+            checkpoints,
+            frames,
+            store,
+            parts,
+            malformed,
+            hints,
+            confirmed,
+        },
         out,
     );
     saved_number(saved)
@@ -332,20 +343,24 @@ pub fn seek_raw_disc_save_both(
     let saved = disc_save::save_both(
         x,
         y,
-        checkpoints,
-        frames,
-        store,
-        parts,
-        malformed,
-        hints,
-        confirmed,
-        other_checkpoints,
-        other_frames,
-        other_store,
-        other_parts,
-        other_malformed,
-        other_hints,
-        other_confirmed,
+        &Tables {
+            checkpoints,
+            frames,
+            store,
+            parts,
+            malformed,
+            hints,
+            confirmed,
+        },
+        &Tables {
+            checkpoints: other_checkpoints,
+            frames: other_frames,
+            store: other_store,
+            parts: other_parts,
+            malformed: other_malformed,
+            hints: other_hints,
+            confirmed: other_confirmed,
+        },
         out,
     );
     saved_number(saved)

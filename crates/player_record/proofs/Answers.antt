@@ -9,21 +9,19 @@ use Rattle.rules.specs.declared.AreaIndex.{AreaIndex}
 use Rattle.rules.specs.declared.EndState.{EndState}
 use Rattle.rules.specs.declared.Recorder.{Recorder}
 use Rattle.blocks.specs.Blocks.{is_index, is_recorder}
-use Rattle.tables.specs.Index.{Tables, frontier_in, frontier_answer}
-use Rattle.rules.specs.declared.Recorded.{Recorded}
+use Rattle.tables.specs.Index.{Tables, frontier_in}
 use Rattle.tables.specs.Recorder.{RecorderTables}
 use Rattle.recorder.specs.Recorder.{started_in, finished_in, recorder_out, record_in, due_at, checkpoint_lsn}
-use Rattle.rules.specs.declared.Boundary.{Boundary}
-use Rattle.rules.specs.declared.FrontierLsn.{FrontierLsn}
 use Rattle.rules.specs.declared.Absorbed.{Absorbed}
 use Rattle.rules.specs.declared.Assembling as under
+use Rattle.rules.specs.Tests.{Answer}
 use Rattle.absorb.specs.Absorb.{absorbed_out, absorb_in}
-use Rattle.player_record.specs.Block.{called_both, absorbed_into, boundary_of, lsn_words, boundary_words}
+use Rattle.player_record.specs.Block.{called_both, absorbed_into, lsn_words, boundary_words}
 use Rattle.blocks.specs.Calls.{called, into, head_index, head_recorder}
 use Rattle.blocks.proofs.calls.Blocks.{long_enough, is_head_lemma}
 use Rattle.player_record.specs.PlayerRecord.{called_four, recorded_into, recorder_call, record_call, finish_call, due_call, boundary_call, frontier_call, called_absorbed, absorb_call}
 
-module _ (b b' : List ℕ) (n : ℕ) (q : Recorded) (p : called n b' ≡ recorded_into b q) where
+module _ (b b' : List ℕ) (n : ℕ) (q : Answer Recorder) (p : called n b' ≡ recorded_into b q) where
   pub recorder_done : 192 ≤ length b → (h : List ℕ) → is_index h ≡ true → (x : AreaIndex) (t : Tables) (from : ℕ) → q ≡ started_in x t from → x ≡ head_index h
       → called n b' ≡ recorder_call h from b t
   unfolding recorder_call
@@ -40,7 +38,7 @@ module _ (b b' : List ℕ) (n : ℕ) (q : Recorded) (p : called n b' ≡ recorde
   record_done l r t t' lsn threshold malformed f g bytes sector e z w = is_head_lemma _ _ _ l (rw (← z, ← w, ← e, p))
 
 -- ---- boundaries
-module _ (b a a' : List ℕ) (n : ℕ) (l : 192 ≤ length a) (q : Boundary) (p : called n a' ≡ into boundary_words a (boundary_of q)) where
+module _ (b a a' : List ℕ) (n : ℕ) (l : 192 ≤ length a) (q : Answer (Option ℕ)) (p : called n a' ≡ into boundary_words a q) where
   pub due_done : is_recorder b ≡ true → (r : Recorder) → q ≡ due_at r → r ≡ head_recorder b → called n a' ≡ due_call b a
   unfolding due_call
   due_done g r e z = is_head_lemma _ _ _ g (long_enough a _ _ l (rw (e, z) at p))
@@ -49,8 +47,8 @@ module _ (b a a' : List ℕ) (n : ℕ) (l : 192 ≤ length a) (q : Boundary) (p 
   unfolding boundary_call
   boundary_done g x j e z = is_head_lemma _ _ _ g (long_enough a _ _ l (rw (e, z) at p))
 
-pub frontier_done : (h a a' : List ℕ) (n : ℕ) → 192 ≤ length a → (q : FrontierLsn) → called n a' ≡ into lsn_words a (frontier_answer q)
-    → is_index h ≡ true → (x : AreaIndex) → frontier_answer q ≡ frontier_in x → x ≡ head_index h → called n a' ≡ frontier_call h a
+pub frontier_done : (h a a' : List ℕ) (n : ℕ) → 192 ≤ length a → (q : Answer ℕ) → called n a' ≡ into lsn_words a q
+    → is_index h ≡ true → (x : AreaIndex) → q ≡ frontier_in x → x ≡ head_index h → called n a' ≡ frontier_call h a
 unfolding frontier_call
 frontier_done h a a' n l q p g x e z = is_head_lemma _ _ _ g (long_enough a _ _ l (rw (e, z) at p))
 

@@ -3,29 +3,16 @@ use Rattle.std.specs.Prelude.{ℕ, ℤ, eqb, leb, cond, List, [], ◌∷◌, Opt
 use Rattle.rules.specs.declared.FrameKind.{FrameKind}
 use Rattle.rules.specs.declared.FrameKind.TheVariants.{Dst, Dsd}
 use Rattle.rules.specs.declared.HintRecorder.{HintRecorder}
-use Rattle.rules.specs.declared.Recorder.{Recorder}
 use Rattle.rules.specs.File.{bit, over}
 use Rattle.rules.specs.Tests.{Answer, Refused, Accepted}
 use Rattle.rules.specs.Values.{lim}
 use Rattle.rules_jump.specs.Names.{NamedHint, start_rule_number, end_rule_number}
 use Rattle.rules.specs.declared.Absorbed.{Absorbed}
 use Rattle.blocks.specs.Blocks.{block_of, index_words, recorder_words, hint_recorder_words, seen_words}
-use Rattle.rules.specs.declared.Created.{Created}
-use Rattle.rules.specs.declared.Created.TheVariants as created
-use Rattle.rules.specs.declared.Saw.{Saw}
-use Rattle.rules.specs.declared.Saw.TheVariants as saw
-use Rattle.rules.specs.declared.Seen.{Seen}
-use Rattle.rules.specs.declared.Seen.TheVariants as seen
 use Rattle.rules.specs.declared.SeenSector.{SeenSector}
-use Rattle.rules.specs.declared.Taken.{Taken}
-use Rattle.rules.specs.declared.Taken.TheVariants as taken
-use Rattle.rules.specs.declared.Kept.{Kept}
-use Rattle.rules.specs.declared.Kept.TheVariants as kept
-use Rattle.rules.specs.declared.Recorded.{Recorded}
-use Rattle.rules.specs.declared.Recorded.TheVariants as recorded
-use Rattle.rules.specs.declared.Boundary.{Boundary}
-use Rattle.rules.specs.declared.Boundary.TheVariants as boundary
 use Rattle.rules.specs.declared.Assembling as under
+use Rattle.rules.specs.declared.TakenList.{TakenList}
+use Rattle.rules.specs.declared.AreaIndex.{AreaIndex}
 use Rattle.blocks.specs.Calls.{one_word, two}
 
 -- ---- a frame under assembly
@@ -42,29 +29,6 @@ unfoldable pub frame_from : ℕ → ℕ → ℕ → ℕ → ℤ → Option under
 frame_from mark start number kind remaining =
     cond (eqb mark 0) None
     (Some (record { start = start; number = number_from kind number; kind = kind_from kind; remaining = remaining }))
-
--- ---- answers
-unfoldable pub recorded_of : Recorded → Answer Recorder
-recorded_of (recorded.Refused n) = Refused n
-recorded_of (recorded.Recorder r) = Accepted r
-
-unfoldable pub seen_of : Seen → Answer HintRecorder
-seen_of (seen.Refused n) = Refused n
-seen_of (seen.Recorder r) = Accepted r
-
-unfoldable pub saw_of : Saw → Answer SeenSector
-saw_of (saw.Refused n) = Refused n
-saw_of (saw.Sector s) = Accepted s
-
-unfoldable pub created_of : Created → Answer (Option HintRecorder)
-created_of (created.Refused n) = Refused n
-created_of created.Nothing = Accepted None
-created_of (created.Recorder r) = Accepted (Some r)
-
-unfoldable pub boundary_of : Boundary → Answer (Option ℕ)
-boundary_of (boundary.Refused n) = Refused n
-boundary_of boundary.Nothing = Accepted None
-boundary_of (boundary.Lsn l) = Accepted (Some l)
 
 -- ---- words
 -- the hint recorder afterwards, and the first record of the sector
@@ -109,15 +73,15 @@ abbrev pub words_over : List ℕ → List ℕ → List ℕ
 words_over ws b = over (block_of ws) b
 
 -- the answer's first word is how many hints are taken
-unfoldable pub taken_into : List ℕ → List ℕ → Taken → CalledBoth
-taken_into b a (taken.Refused n) = called_both n b a
-taken_into b a (taken.List k) = called_both 0 (words_over (hint_recorder_words k.recorder) b) (words_over (one_word k.count) a)
+unfoldable pub taken_into : List ℕ → List ℕ → Answer TakenList → CalledBoth
+taken_into b a (Refused n) = called_both n b a
+taken_into b a (Accepted k) = called_both 0 (words_over (hint_recorder_words k.recorder) b) (words_over (one_word k.count) a)
 
 -- the answer's first word is 1, or 0 where nothing is kept
-unfoldable pub kept_into : List ℕ → List ℕ → Kept → CalledBoth
-kept_into b a (kept.Refused n) = called_both n b a
-kept_into b a kept.Nothing = called_both 0 b (words_over (one_word 0) a)
-kept_into b a (kept.Index x) = called_both 0 (words_over (index_words x) b) (words_over (one_word 1) a)
+unfoldable pub kept_into : List ℕ → List ℕ → Answer (Option AreaIndex) → CalledBoth
+kept_into b a (Refused n) = called_both n b a
+kept_into b a (Accepted None) = called_both 0 b (words_over (one_word 0) a)
+kept_into b a (Accepted (Some x)) = called_both 0 (words_over (index_words x) b) (words_over (one_word 1) a)
 
 -- 0 writes the head and the recorder's block, 8 the recorder's alone
 unfoldable pub absorbed_into : List ℕ → List ℕ → Absorbed → CalledBoth

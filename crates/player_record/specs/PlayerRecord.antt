@@ -1,17 +1,17 @@
 -- What the calls for C answer on recorders and hints.
 use Rattle.std.specs.Prelude.{ℕ, List, Option}
 use Rattle.rules.specs.declared.EndState.{EndState}
-use Rattle.rules.specs.declared.Recorded.{Recorded}
 use Rattle.rules.specs.declared.Confirmation.{Confirmation}
-use Rattle.rules.specs.Tests.{number_of}
+use Rattle.rules.specs.Tests.{number_of, Answer}
 use Rattle.rules.specs.declared.Assembling as under
+use Rattle.rules.specs.declared.Recorder.{Recorder}
 use Rattle.blocks.specs.Blocks.{recorder_words, hint_recorder_words, is_index, is_recorder, is_hint_recorder}
 use Rattle.tables.specs.Index.{Tables, frontier_in}
 use Rattle.tables.specs.Recorder.{RecorderTables}
 use Rattle.recorder.specs.Recorder.{started_in, finished_in, record_in, due_at, checkpoint_lsn}
 use Rattle.absorb.specs.Absorb.{absorb_in}
 use Rattle.blocks.specs.Calls.{Called, called, into, in_block, in_head, head_index, head_recorder, head_hint_recorder}
-use Rattle.player_record.specs.Block.{CalledBoth, called_both, recorded_of, absorbed_into, boundary_of, lsn_words, boundary_words, seen_of, saw_of, sector_words, created_of, created_words, hint_words, taken_into, kept_into}
+use Rattle.player_record.specs.Block.{CalledBoth, called_both, absorbed_into, lsn_words, boundary_words, sector_words, created_words, hint_words, taken_into, kept_into}
 use Rattle.index.specs.Index.{made_of}
 use Rattle.hint.specs.Hint.{hint_in}
 use Rattle.hint_recorder.specs.HintRecorder.{SeenOut, SawOut, created_in, see_in, flush_in, take_in}
@@ -22,8 +22,8 @@ abbrev pub end_state : ℕ → ℕ → EndState
 end_state threshold malformed = record { threshold = threshold; malformed = malformed }
 
 -- a recorder into its block
-abbrev pub recorded_into : List ℕ → Recorded → Called
-recorded_into block r = into recorder_words block (recorded_of r)
+abbrev pub recorded_into : List ℕ → Answer Recorder → Called
+recorded_into block r = into recorder_words block r
 
 -- with the recorder's tables, where they are written
 pub record CalledFour : Type 0 where
@@ -53,12 +53,12 @@ finish_call block e t = in_head (is_recorder block) (called 3 block) (recorded_i
 -- the due LSN of a recorder
 unfoldable pub due_call : List ℕ → List ℕ → Called
 due_call block answer =
-    in_head (is_recorder block) (called 3 answer) (in_block answer (called 3 answer) (into boundary_words answer (boundary_of (due_at (head_recorder block)))))
+    in_head (is_recorder block) (called 3 answer) (in_block answer (called 3 answer) (into boundary_words answer (due_at (head_recorder block))))
 
 -- the LSN of a list's checkpoint by its number
 unfoldable pub boundary_call : List ℕ → ℕ → List ℕ → Called
 boundary_call head j answer =
-    in_head (is_index head) (called 3 answer) (in_block answer (called 3 answer) (into boundary_words answer (boundary_of (checkpoint_lsn (head_index head) j))))
+    in_head (is_index head) (called 3 answer) (in_block answer (called 3 answer) (into boundary_words answer (checkpoint_lsn (head_index head) j)))
 
 -- how far a list reaches
 unfoldable pub frontier_call : List ℕ → List ℕ → Called
@@ -86,7 +86,7 @@ absorb_call head block image given t u =
 -- the block is the hint recorder's
 unfoldable pub hint_recorder_call : List ℕ → List ℕ → Tables → Called
 hint_recorder_call head block t =
-    in_head (is_index head) (called 3 block) (in_block block (called 3 block) (into created_words block (created_of (created_in (head_index head) t))))
+    in_head (is_index head) (called 3 block) (in_block block (called 3 block) (into created_words block (created_in (head_index head) t)))
 
 -- with the hint recorder's list
 pub record CalledList : Type 0 where
@@ -100,11 +100,11 @@ abbrev pub called_list : ℕ → List ℕ → List ℕ → CalledList
 called_list n b t = with_list (called n b) t
 
 abbrev pub seen_into : List ℕ → SeenOut → CalledList
-seen_into block o = with_list (into hint_recorder_words block (seen_of o.answer)) o.list
+seen_into block o = with_list (into hint_recorder_words block o.answer) o.list
 
 -- words 7 to 10 of the block tell the sector's first record
 abbrev pub saw_into : List ℕ → SawOut → CalledList
-saw_into block o = with_list (into sector_words block (saw_of o.answer)) o.list
+saw_into block o = with_list (into sector_words block o.answer) o.list
 
 unfoldable pub see_call : List ℕ → ℕ → List ℕ → List ℕ → CalledList
 see_call block lsn sector list = in_head (is_hint_recorder block) (called_list 3 block list) (saw_into block (see_in (head_hint_recorder block) list lsn sector))

@@ -2,19 +2,19 @@
 ghost use Rattle.std.specs.Prelude.{◌≡◌, ◌≤◌, length};
 ghost use Rattle.blocks.specs.Blocks.{image_read, recorder_words, hint_recorder_words};
 ghost use Rattle.rules.specs.Tests.{number_of};
-ghost use Rattle.tables.specs.Index.{frontier_answer};
+ghost use Rattle.rules.specs.Refusals.{answer_in};
 ghost use Rattle.index.specs.Index.{made_of};
 ghost use Rattle.hint.specs.Hint.{named_of, answer_of};
 ghost use Rattle.blocks.specs.Calls.{called, into};
-ghost use Rattle.player_record.specs.Block.{kind_from, number_from, frame_from, recorded_of, seen_of, saw_of, sector_words, created_of, created_words, hint_words, found_words, called_both, taken_into, kept_into, absorbed_into, boundary_of, lsn_words, boundary_words};
+ghost use Rattle.player_record.specs.Block.{kind_from, number_from, frame_from, sector_words, created_words, hint_words, found_words, called_both, taken_into, kept_into, absorbed_into, lsn_words, boundary_words};
 
 use blocks::calls::{bit_word, one_word};
 use blocks::{hint_recorder_words, index_words, recorder_words, seen_words, write_words};
 use rules::{
-    Absorbed, Assembling, Boundary, Created, FrameKind, FrontierLsn, Kept, MAX_NEXT_ACCEPTABLE,
-    Made, Recorded, Saw, Seen, Taken,
+    Absorbed, AreaIndex, Assembling, FrameKind, HintRecorder, MAX_NEXT_ACCEPTABLE, Made, Recorder,
+    Refusal, SeenSector, TakenList,
 };
-use rules_jump::{HintAnswer, NamedHint, end_rule_number, start_rule_number};
+use rules_jump::{NamedHint, end_rule_number, start_rule_number};
 
 // ---- a frame under assembly
 // 0 Dst, anything else Dsd; number_from asks whether it is one of the two.
@@ -63,28 +63,30 @@ pub fn image_given(mark: u8, image: u64) -> Option<u64>
 }
 
 // ---- into blocks
-pub fn put_recorded(block: &mut [u8], recorded: Recorded) -> u32
+#[tactic(auto, unfolding(blocks::specs::Calls::into, rules::specs::Refusals::answer_in))]
+pub fn put_recorded(block: &mut [u8], recorded: Result<Recorder, Refusal>) -> u32
     requires { 192 ≤ length block.old }
     ensures { called result block.new
-        ≡ into recorder_words block.old (recorded_of recorded) }
+        ≡ into recorder_words block.old (answer_in recorded) }
 {
     match recorded {
-        Recorded::Refused(n) => n,
-        Recorded::Recorder(r) => {
+        Err(e) => u32::from(e),
+        Ok(r) => {
             write_words(block, recorder_words(r));
             0
         }
     }
 }
 
-pub fn put_seen(block: &mut [u8], seen: Seen) -> u32
+#[tactic(auto, unfolding(rules::specs::Refusals::answer_in, blocks::specs::Calls::into))]
+pub fn put_seen(block: &mut [u8], seen: Result<HintRecorder, Refusal>) -> u32
     requires { 192 ≤ length block.old }
     ensures { called result block.new
-        ≡ into hint_recorder_words block.old (seen_of seen) }
+        ≡ into hint_recorder_words block.old (answer_in seen) }
 {
     match seen {
-        Seen::Refused(n) => n,
-        Seen::Recorder(r) => {
+        Err(e) => u32::from(e),
+        Ok(r) => {
             write_words(block, hint_recorder_words(r));
             0
         }
@@ -92,34 +94,34 @@ pub fn put_seen(block: &mut [u8], seen: Seen) -> u32
 }
 
 // Words 7 to 10 tell the first record of the sector that was seen.
-pub fn put_saw(block: &mut [u8], saw: Saw) -> u32
+#[tactic(auto, unfolding(rules::specs::Refusals::answer_in, blocks::specs::Calls::into))]
+pub fn put_saw(block: &mut [u8], saw: Result<SeenSector, Refusal>) -> u32
     requires { 192 ≤ length block.old }
-    ensures { called result block.new ≡ into sector_words block.old (saw_of saw) }
+    ensures { called result block.new ≡ into sector_words block.old (answer_in saw) }
 {
     match saw {
-        Saw::Refused(n) => n,
-        Saw::Sector(s) => {
-            let r = s.recorder;
-            let first = s.first;
-            write_words(block, seen_words(r, first));
+        Err(e) => u32::from(e),
+        Ok(s) => {
+            write_words(block, seen_words(s.recorder, s.first));
             0
         }
     }
 }
 
 // Where there is no hint recorder, the words are 0.
-pub fn put_created(block: &mut [u8], created: Created) -> u32
+#[tactic(auto, unfolding(rules::specs::Refusals::answer_in, blocks::specs::Calls::into, crate::specs::Block::created_words))]
+pub fn put_created(block: &mut [u8], created: Result<Option<HintRecorder>, Refusal>) -> u32
     requires { 192 ≤ length block.old }
     ensures { called result block.new
-        ≡ into created_words block.old (created_of created) }
+        ≡ into created_words block.old (answer_in created) }
 {
     match created {
-        Created::Refused(n) => n,
-        Created::Nothing => {
+        Err(e) => u32::from(e),
+        Ok(None) => {
             write_words(block, one_word(0));
             0
         }
-        Created::Recorder(r) => {
+        Ok(Some(r)) => {
             write_words(block, hint_recorder_words(r));
             0
         }
@@ -174,18 +176,19 @@ pub fn made_number(made: Made) -> u32
 }
 
 // Where there is no hint, the words are 0.
-pub fn put_hint(answer: &mut [u8], hinted: HintAnswer) -> u32
+#[tactic(auto, unfolding(rules::specs::Refusals::answer_in, hint::specs::Hint::answer_of, blocks::specs::Calls::into, crate::specs::Block::hint_words))]
+pub fn put_hint(answer: &mut [u8], hinted: Result<Option<NamedHint>, Refusal>) -> u32
     requires { 192 ≤ length answer.old }
     ensures { called result answer.new
-        ≡ into hint_words answer.old (answer_of hinted) }
+        ≡ into hint_words answer.old (answer_of (answer_in hinted)) }
 {
     match hinted {
-        HintAnswer::Refused(n) => n,
-        HintAnswer::Nothing => {
+        Err(e) => u32::from(e),
+        Ok(None) => {
             write_words(answer, one_word(0));
             0
         }
-        HintAnswer::Hinted(h) => {
+        Ok(Some(h)) => {
             write_words(answer, found_words(h));
             0
         }
@@ -193,17 +196,17 @@ pub fn put_hint(answer: &mut [u8], hinted: HintAnswer) -> u32
 }
 
 // How many hints are taken is the answer's first word.
-pub fn put_taken(block: &mut [u8], answer: &mut [u8], taken: Taken) -> u32
+#[tactic(auto, unfolding(rules::specs::Refusals::answer_in, crate::specs::Block::taken_into))]
+pub fn put_taken(block: &mut [u8], answer: &mut [u8], taken: Result<TakenList, Refusal>) -> u32
     requires in_bounds { 192 ≤ length block.old }
     requires in_bounds_2 { 192 ≤ length answer.old }
     ensures { called_both result block.new answer.new
-        ≡ taken_into block.old answer.old taken }
+        ≡ taken_into block.old answer.old (answer_in taken) }
 {
     match taken {
-        Taken::Refused(n) => n,
-        Taken::List(k) => {
-            let r = k.recorder;
-            write_words(block, hint_recorder_words(r));
+        Err(e) => u32::from(e),
+        Ok(k) => {
+            write_words(block, hint_recorder_words(k.recorder));
             write_words(answer, one_word(k.count as u64));
             0
         }
@@ -211,19 +214,20 @@ pub fn put_taken(block: &mut [u8], answer: &mut [u8], taken: Taken) -> u32
 }
 
 // The answer's first word is 1 where the confirmation is kept by its rule, 0 where nothing is kept.
-pub fn put_kept(head: &mut [u8], answer: &mut [u8], kept: Kept) -> u32
+#[tactic(auto, unfolding(rules::specs::Refusals::answer_in, crate::specs::Block::kept_into))]
+pub fn put_kept(head: &mut [u8], answer: &mut [u8], kept: Result<Option<AreaIndex>, Refusal>) -> u32
     requires in_bounds { 192 ≤ length head.old }
     requires in_bounds_2 { 192 ≤ length answer.old }
     ensures { called_both result head.new answer.new
-        ≡ kept_into head.old answer.old kept }
+        ≡ kept_into head.old answer.old (answer_in kept) }
 {
     match kept {
-        Kept::Refused(n) => n,
-        Kept::Nothing => {
+        Err(e) => u32::from(e),
+        Ok(None) => {
             write_words(answer, one_word(0));
             0
         }
-        Kept::Index(x) => {
+        Ok(Some(x)) => {
             write_words(head, index_words(x));
             write_words(answer, one_word(1));
             0
@@ -262,14 +266,15 @@ fn lsn_words(lsn: u64) -> [u64; 24]
     ]
 }
 
-pub fn put_frontier(answer: &mut [u8], frontier: FrontierLsn) -> u32
+#[tactic(auto, unfolding(blocks::specs::Calls::into, rules::specs::Refusals::answer_in))]
+pub fn put_frontier(answer: &mut [u8], frontier: Result<u64, Refusal>) -> u32
     requires { 192 ≤ length answer.old }
     ensures { called result answer.new
-        ≡ into lsn_words answer.old (frontier_answer frontier) }
+        ≡ into lsn_words answer.old (answer_in frontier) }
 {
     match frontier {
-        FrontierLsn::Refused(n) => n,
-        FrontierLsn::Lsn(lsn) => {
+        Err(e) => u32::from(e),
+        Ok(lsn) => {
             write_words(answer, lsn_words(lsn));
             0
         }
@@ -277,18 +282,19 @@ pub fn put_frontier(answer: &mut [u8], frontier: FrontierLsn) -> u32
 }
 
 // Where there is no such boundary, the words are 0.
-pub fn put_boundary(answer: &mut [u8], boundary: Boundary) -> u32
+#[tactic(auto, unfolding(blocks::specs::Calls::into, rules::specs::Refusals::answer_in, crate::specs::Block::boundary_words))]
+pub fn put_boundary(answer: &mut [u8], boundary: Result<Option<u64>, Refusal>) -> u32
     requires { 192 ≤ length answer.old }
     ensures { called result answer.new
-        ≡ into boundary_words answer.old (boundary_of boundary) }
+        ≡ into boundary_words answer.old (answer_in boundary) }
 {
     match boundary {
-        Boundary::Refused(n) => n,
-        Boundary::Nothing => {
+        Err(e) => u32::from(e),
+        Ok(None) => {
             write_words(answer, one_word(0));
             0
         }
-        Boundary::Lsn(lsn) => {
+        Ok(Some(lsn)) => {
             write_words(answer, lsn_words(lsn));
             0
         }

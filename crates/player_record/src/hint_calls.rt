@@ -10,6 +10,7 @@ use crate::block::{made_number, put_created, put_hint, put_kept, put_saw, put_se
 use blocks::HEAD_BYTES;
 use blocks::calls::{hint_recorder_in, index_in};
 use blocks::read::{is_hint_recorder, is_index};
+use tables::lent::Tables;
 
 // The hint recorder of a list, into its block; 24 words of 0 where there is none.
 pub fn seek_raw_hint_recorder(
@@ -37,13 +38,15 @@ pub fn seek_raw_hint_recorder(
     let x = index_in(head);
     let made = hint_recorder::hint_recorder(
         x,
-        checkpoints,
-        frames,
-        store,
-        parts,
-        malformed,
-        hints,
-        confirmed,
+        &Tables {
+            checkpoints,
+            frames,
+            store,
+            parts,
+            malformed,
+            hints,
+            confirmed,
+        },
     );
     put_created(block, made)
 }
@@ -204,13 +207,15 @@ pub fn seek_raw_hint(
         first,
         end,
         playtime,
-        checkpoints,
-        frames,
-        store,
-        parts,
-        malformed,
-        hints,
-        confirmed,
+        &Tables {
+            checkpoints,
+            frames,
+            store,
+            parts,
+            malformed,
+            hints,
+            confirmed,
+        },
     );
     put_hint(answer, hinted)
 }

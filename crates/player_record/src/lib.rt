@@ -19,6 +19,7 @@ use blocks::HEAD_BYTES;
 use blocks::calls::{index_in, recorder_in};
 use blocks::read::{is_index, is_recorder};
 use rules::EndState;
+use tables::lent::{RecorderTables, RecorderTablesMut, Tables};
 
 // The recorder of a list, from an LSN on, into its block.
 pub fn seek_raw_recorder(
@@ -45,9 +46,7 @@ pub fn seek_raw_recorder(
         return 3;
     }
     let x = index_in(head);
-    let made = recorder::recorder(
-        x,
-        from,
+    let t = Tables {
         checkpoints,
         frames,
         store,
@@ -55,7 +54,8 @@ pub fn seek_raw_recorder(
         malformed,
         hints,
         confirmed,
-    );
+    };
+    let made = recorder::recorder(x, from, &t);
     put_recorded(block, made)
 }
 
@@ -90,19 +90,13 @@ pub fn seek_raw_record(
     }
     let r = recorder_in(block);
     let frame = frame_from(mark, start, number, kind, remaining);
-    let made = recorder::record::record(
-        r,
-        lsn,
-        threshold,
-        malformed,
-        frame,
-        bytes,
-        sector,
+    let mut t = RecorderTablesMut {
         checkpoints,
         frames,
         store,
         parts,
-    );
+    };
+    let made = recorder::record::record(r, lsn, threshold, malformed, frame, bytes, sector, &mut t);
     put_recorded(block, made)
 }
 
@@ -129,7 +123,13 @@ pub fn seek_raw_finish(
         threshold,
         malformed,
     };
-    let made = recorder::finish(r, e, checkpoints, frames, store, parts);
+    let t = RecorderTables {
+        checkpoints,
+        frames,
+        store,
+        parts,
+    };
+    let made = recorder::finish(r, e, &t);
     put_recorded(block, made)
 }
 
@@ -223,6 +223,12 @@ pub fn seek_raw_absorb(
     let x = index_in(head);
     let r = recorder_in(block);
     let id = image_given(mark, image);
+    let u = RecorderTables {
+        checkpoints: new_checkpoints,
+        frames: new_frames,
+        store: new_store,
+        parts: new_parts,
+    };
     let made = absorb::absorb(
         x,
         r,
@@ -235,10 +241,7 @@ pub fn seek_raw_absorb(
         malformed,
         hints,
         confirmed,
-        new_checkpoints,
-        new_frames,
-        new_store,
-        new_parts,
+        &u,
     );
     put_absorbed(head, block, made)
 }

@@ -12,7 +12,7 @@ use Rattle.rules.specs.declared.EndState.{EndState}
 use Rattle.rules.specs.declared.Mode.{Mode}
 use Rattle.rules.specs.declared.Mode.TheVariants.{Finished}
 use Rattle.rules.specs.declared.Recorder.{Recorder}
-use Rattle.rules.specs.Tests.{each, Answer, Accepted, after, ask, first_no}
+use Rattle.rules.specs.Tests.{each, Answer, Accepted, after, ask, first_no, Refused}
 use Rattle.rules.specs.Values.{boundaries, last_checkpoint}
 use Rattle.rules.specs.Values as values
 use Rattle.rules.specs.Sections.{end_ok, ending_ok}
@@ -24,14 +24,13 @@ use Rattle.rules.proofs.Tests.{test, asked, and_left}
 use Rattle.tables.specs.Index.{Tables, index_in, refusal}
 use Rattle.index.proofs.Four.{kinded_index, kinded_more}
 use Rattle.parts.proofs.Frames.{count}
-use Rattle.rules.specs.declared.Recorded.TheVariants as recorded
 use Rattle.tables.specs.Recorder.{RecorderTables, recorder_room, recorder_in, recorder_kinds, recorder_refusal, recorder_from}
 use Rattle.recorder.specs.Recorder.{recorder_of, started_in, finished_in, mode_of}
 use Rattle.recorder.specs.Steps.{recorder_held, Roomy, Long, empty_of}
 use Rattle.recorder.proofs.Questions.{refusal_is, held_is, spaced, long_by}
 
 -- an answer after a number
-pub answer_after : (n : ℕ) (x : Answer values.Recorder) → recorder_of (after n x) ≡ cond (eqb n 0) (recorder_of x) (recorded.Refused n)
+pub answer_after : (n : ℕ) (x : Answer values.Recorder) → recorder_of (after n x) ≡ cond (eqb n 0) (recorder_of x) (Refused n)
 unfolding after recorder_of
 answer_after n x = test (eqb n 0) (λ e. rw e) (λ e. rw e)
 
@@ -41,16 +40,16 @@ module _ (x : AreaIndex) (t : Tables) (from : ℕ) {n : ℕ} (e : n ≡ refusal 
   unfolding empty_of
   empty_is = rw (records_length 24 decode_checkpoint x.checkpoints t.checkpoints)
 
-  started_is : started_in x t from ≡ cond (eqb n 0) (recorded.Recorder (empty_of x from)) (recorded.Refused n)
+  started_is : started_in x t from ≡ cond (eqb n 0) (Accepted (empty_of x from)) (Refused n)
   unfolding started_in recorder each first_no recorder_of
   started_is =
       ap recorder_of (kinded_index x t [] refl e _) ∙ answer_after n (after 0 (Accepted (empty_recorder (index_in x t).scan from)))
       ∙ rw (answer_after 0 (Accepted (empty_recorder (index_in x t).scan from)), empty_is)
 
-  pub started_no : (n ≡ 0 → ⊥) → recorded.Refused n ≡ started_in x t from
+  pub started_no : (n ≡ 0 → ⊥) → Refused n ≡ started_in x t from
   started_no h = sym (started_is ∙ rw (ne_eqb n 0 h))
 
-  pub started_yes : {r : Recorder} → n ≡ 0 → r ≡ empty_of x from → recorded.Recorder r ≡ started_in x t from
+  pub started_yes : {r : Recorder} → n ≡ 0 → r ≡ empty_of x from → Accepted r ≡ started_in x t from
   started_yes h g = rw g (sym (started_is ∙ rw (eq-eqb n 0 h)))
 
 -- ---- a recorder that passes 1 to 4
@@ -74,7 +73,7 @@ module _ (r : Recorder) (t : RecorderTables) {n : ℕ} (e : n ≡ recorder_refus
     mode_is m =
         rw (records_length 24 decode_checkpoint r.checkpoints t.checkpoints, count r.frames t.frames t.store, records_length 24 decode_held r.parts t.parts)
 
-    two : (g h : Bool) (y : values.Recorder) → recorder_of (after (first_no (ask g 5 ∷ ask h 6 ∷ [])) (Accepted y)) ≡ cond g (cond h (recorded.Recorder (recorder_from y)) (recorded.Refused 6)) (recorded.Refused 5)
+    two : (g h : Bool) (y : values.Recorder) → recorder_of (after (first_no (ask g 5 ∷ ask h 6 ∷ [])) (Accepted y)) ≡ cond g (cond h (Accepted (recorder_from y)) (Refused 6)) (Refused 5)
     unfolding recorder_of after first_no
     two true true y = refl
     two true false y = refl
@@ -83,25 +82,25 @@ module _ (r : Recorder) (t : RecorderTables) {n : ℕ} (e : n ≡ recorder_refus
     finished_is : finished_in r t s
         ≡ cond (eqb n 0)
         (cond (is_running r.mode && eqb (r.first + r.checkpoints) (boundaries r.area r.interval))
-        (cond (end_ok r.area (last_checkpoint (recorder_in r t).checkpoints) s) (recorded.Recorder (mode_of r (Finished s))) (recorded.Refused 6)) (recorded.Refused 5))
-        (recorded.Refused n)
+        (cond (end_ok r.area (last_checkpoint (recorder_in r t).checkpoints) s) (Accepted (mode_of r (Finished s))) (Refused 6)) (Refused 5))
+        (Refused n)
     unfolding finished_in finish each recorder_refusal
     finished_is =
         ap recorder_of (kinded_more (recorder_kinds r t) (recorder_four_of (recorder_room t) (recorder_in r t)) _ refl e _)
         ∙ answer_after n _ ∙ rw (two, mode_is (Finished s), records_length 24 decode_checkpoint r.checkpoints t.checkpoints)
 
-    pub finished_no : (n ≡ 0 → ⊥) → recorded.Refused n ≡ finished_in r t s
+    pub finished_no : (n ≡ 0 → ⊥) → Refused n ≡ finished_in r t s
     finished_no h = sym (finished_is ∙ rw (ne_eqb n 0 h))
 
     module _ (z : n ≡ 0) {g : Bool} (p : g ≡ (is_running r.mode && eqb (r.first + r.checkpoints) (boundaries r.area r.interval))) where
-      pub finished_5 : not g ≡ true → recorded.Refused 5 ≡ finished_in r t s
+      pub finished_5 : not g ≡ true → Refused 5 ≡ finished_in r t s
       finished_5 h = sym (finished_is ∙ rw (eq-eqb n 0 z, ← p, not-true g h))
 
       module _ (m : not g ≡ false) {k : Bool} (q : k ≡ ending_ok r.area (recorder_in r t).checkpoints (Some s)) where
-        pub finished_6 : not k ≡ true → recorded.Refused 6 ≡ finished_in r t s
+        pub finished_6 : not k ≡ true → Refused 6 ≡ finished_in r t s
         unfolding ending_ok
         finished_6 h = sym (finished_is ∙ rw (eq-eqb n 0 z, ← p, not-false g m, ← q, not-true k h))
 
-        pub finished_yes : {y : Recorder} → not k ≡ false → y ≡ mode_of r (Finished s) → recorded.Recorder y ≡ finished_in r t s
+        pub finished_yes : {y : Recorder} → not k ≡ false → y ≡ mode_of r (Finished s) → Accepted y ≡ finished_in r t s
         unfolding ending_ok
         finished_yes h i = rw i (sym (finished_is ∙ rw (eq-eqb n 0 z, ← p, not-false g m, ← q, not-false k h)))

@@ -5,22 +5,24 @@ pub mod boundary;
 mod modes;
 pub mod record;
 
-ghost use Rattle.std.specs.Prelude.{◌≡◌, List, ℕ};
+ghost use Rattle.std.specs.Prelude.{◌≡◌};
 ghost use Rattle.rules.specs.Tests.{is_some};
 ghost use Rattle.rules.specs.Questions.{end_of};
-ghost use Rattle.tables.specs.Index.{tables};
-ghost use Rattle.tables.specs.Recorder.{recorder_tables, recorder_refusal};
+ghost use Rattle.rules.specs.Refusals.{answer_in, number_in};
+ghost use Rattle.tables.specs.Loans.{recorder_tables_in, tables_in};
+ghost use Rattle.tables.specs.Recorder.{recorder_refusal};
 ghost use Rattle.recorder.specs.Recorder.{started_in, finished_in, mode_of};
 ghost use Rattle.recorder.specs.Steps.{recorder_held, stretch_counts, stretch_in, Spaced, Long, empty_of};
 
 use crate::modes::{at_end, mode_of};
 use index::room::{question1, question2};
-use index::{refuses, scan_room};
-use rules::{AreaIndex, EndState, Mode, Recorded, Recorder};
+use index::scan_room;
+use rules::{AreaIndex, EndState, Mode, Recorder, Refusal};
 use sections::part_records::check_parts;
 use sections::records::{check_checkpoints, check_frames};
 use sections::{area_boundaries, ending_ok, last_checkpoint};
 use tables::kinds::check_kinds;
+use tables::lent::{RecorderTables, Tables};
 
 // ---- the end state
 // The end state that a recorder has.
@@ -52,68 +54,61 @@ fn counts_fit(b: u64, first: u32, n: u32, whole: bool, f: u32, h: u32) -> bool
 }
 
 // Checkpoints, frames, parts and end state, their counts apart.
-fn stretch_ok(r: Recorder, checkpoints: &[u8], frames: &[u8], parts: &[u8]) -> bool
-    requires { Long r checkpoints.now frames.now parts.now }
-    ensures { (store : List ℕ) → result ≡ stretch_in r (recorder_tables checkpoints.now frames.now store parts.now) }
+fn stretch_ok(r: Recorder, t: &RecorderTables) -> bool
+    requires { Long r t.now.checkpoints.now t.now.frames.now t.now.parts.now }
+    ensures { result ≡ stretch_in r (recorder_tables_in t.now) }
 {
     let first = r.first as usize;
     let n = r.checkpoints as usize;
     let f = r.frames as usize;
     let h = r.parts as usize;
-    let steps = check_checkpoints(checkpoints, n, r.interval, first);
-    let filling = check_frames(frames, f, r.area, r.budget);
+    let steps = check_checkpoints(t.checkpoints, n, r.interval, first);
+    let filling = check_frames(t.frames, f, r.area, r.budget);
     let held = check_parts(
-        parts,
+        t.parts,
         h,
         r.area,
         r.interval,
         first,
-        checkpoints,
+        t.checkpoints,
         n,
-        frames,
+        t.frames,
         f,
     );
-    let ends = ending_ok(r.area, last_checkpoint(checkpoints, n), end_of(r.mode));
+    let ends = ending_ok(r.area, last_checkpoint(t.checkpoints, n), end_of(r.mode));
     steps && filling.ok && held && ends
 }
 
 // 4, with the kind bytes of the parts; b is the number of boundaries.
-fn held_ok(b: u64, r: Recorder, checkpoints: &[u8], frames: &[u8], parts: &[u8]) -> bool
-    requires { Spaced b r checkpoints.now frames.now parts.now }
-    ensures { (store : List ℕ) → result ≡ recorder_held r
-        (recorder_tables checkpoints.now frames.now store parts.now) }
+fn held_ok(b: u64, r: Recorder, t: &RecorderTables) -> bool
+    requires { Spaced b r t.now.checkpoints.now t.now.frames.now t.now.parts.now }
+    ensures { result ≡ recorder_held r (recorder_tables_in t.now) }
 {
     let whole = is_finished(r.mode);
     counts_fit(b, r.first, r.checkpoints, whole, r.frames, r.parts)
-        && stretch_ok(r, checkpoints, frames, parts)
-        && check_kinds(parts, r.parts as usize)
+        && stretch_ok(r, t)
+        && check_kinds(t.parts, r.parts as usize)
 }
 
 // ---- 1 to 4
-// The number of the first of questions 1 to 4 answered no, 0 for none.
-pub fn recorder_refuses(
-    r: Recorder,
-    checkpoints: &[u8],
-    frames: &[u8],
-    store: &[u8],
-    parts: &[u8],
-) -> u32
-    ensures { result ≡ recorder_refusal r (recorder_tables checkpoints.now frames.now store.now parts.now) }
+// Questions 1 to 4.
+pub fn check(r: Recorder, t: &RecorderTables) -> Result<(), Refusal>
+    ensures { number_in result ≡ recorder_refusal r (recorder_tables_in t.now) }
 {
     if !question1(r.area) {
-        return 1;
+        return Err(Refusal::Area);
     }
     if !question2(r.interval, r.budget) {
-        return 2;
+        return Err(Refusal::Numbers);
     }
     let b = area_boundaries(r.area, r.interval);
-    if !scan_room(b, r.budget, checkpoints, frames, store, parts) {
-        return 3;
+    if !scan_room(b, r.budget, t.checkpoints, t.frames, t.store, t.parts) {
+        return Err(Refusal::Room);
     }
-    if !held_ok(b, r, checkpoints, frames, parts) {
-        return 4;
+    if !held_ok(b, r, t) {
+        return Err(Refusal::Content);
     }
-    0
+    Ok(())
 }
 
 // ---- the recorder of an index
@@ -135,33 +130,12 @@ fn empty(x: AreaIndex, from: u64) -> Recorder
 }
 
 // A complete index gives a stopped recorder.
-pub fn recorder(
-    x: AreaIndex,
-    from: u64,
-    checkpoints: &[u8],
-    frames: &[u8],
-    store: &[u8],
-    parts: &[u8],
-    malformed: &[u8],
-    hints: &[u8],
-    confirmed: &[u8],
-) -> Recorded
-    ensures { result ≡ started_in x (tables checkpoints.now frames.now store.now parts.now malformed.now hints.now confirmed.now) from }
+#[tactic(auto, using(crate::proofs::Calls::started_no, rules::proofs::Refusals::number_ne0), unfolding(rules::specs::Refusals::answer_in, rules::specs::Refusals::number_in))]
+pub fn recorder(x: AreaIndex, from: u64, t: &Tables) -> Result<Recorder, Refusal>
+    ensures { answer_in result ≡ started_in x (tables_in t.now) from }
 {
-    let number = refuses(
-        x,
-        checkpoints,
-        frames,
-        store,
-        parts,
-        malformed,
-        hints,
-        confirmed,
-    );
-    if number != 0 {
-        return Recorded::Refused(number);
-    }
-    Recorded::Recorder(empty(x, from))
+    index::check(x, t)?;
+    Ok(empty(x, from))
 }
 
 // ---- finish
@@ -172,26 +146,17 @@ pub fn with_mode(r: Recorder, mode: Mode) -> Recorder
     Recorder { mode, ..r }
 }
 
-pub fn finish(
-    r: Recorder,
-    e: EndState,
-    checkpoints: &[u8],
-    frames: &[u8],
-    store: &[u8],
-    parts: &[u8],
-) -> Recorded
-    ensures { result ≡ finished_in r (recorder_tables checkpoints.now frames.now store.now parts.now) e }
+#[tactic(auto, using(crate::proofs::Calls::finished_no, rules::proofs::Refusals::number_ne0), unfolding(rules::specs::Refusals::answer_in, rules::specs::Refusals::number_in))]
+pub fn finish(r: Recorder, e: EndState, t: &RecorderTables) -> Result<Recorder, Refusal>
+    ensures { answer_in result ≡ finished_in r (recorder_tables_in t.now) e }
 {
-    let number = recorder_refuses(r, checkpoints, frames, store, parts);
-    if number != 0 {
-        return Recorded::Refused(number);
-    }
+    check(r, t)?;
     if !at_end(r) {
-        return Recorded::Refused(5);
+        return Err(Refusal::RecordDue);
     }
-    let last = last_checkpoint(checkpoints, r.checkpoints as usize);
+    let last = last_checkpoint(t.checkpoints, r.checkpoints as usize);
     if !ending_ok(r.area, last, Some(e)) {
-        return Recorded::Refused(6);
+        return Err(Refusal::RecordFalls);
     }
-    Recorded::Recorder(with_mode(r, Mode::Finished(e)))
+    Ok(with_mode(r, Mode::Finished(e)))
 }

@@ -1,24 +1,28 @@
 // Recording a checkpoint: record.
 ghost use Rattle.std.specs.Prelude.{◌≡◌, List, ℕ, ◌+◌, ◌*◌, ◌≤◌, ◌<◌, length};
 ghost use Rattle.std.proofs.lemmas.List.Edits.{sets};
+ghost use Rattle.field.specs.Records.{Bytes};
 ghost use Rattle.rules.specs.Record.{back_of};
 ghost use Rattle.rules.specs.File.{encode_checkpoint};
+ghost use Rattle.rules.specs.Refusals.{answer_in, number_in};
 ghost use Rattle.parts.specs.Parts.{part_tables, stored_in, held, held_from};
 ghost use Rattle.parts.specs.Steps.{Room};
-ghost use Rattle.tables.specs.Recorder.{recorder_tables, assembling_in};
+ghost use Rattle.tables.specs.Loans.{SameRecorderLoans, recorder_tables_in, recorder_tables_mut_in};
+ghost use Rattle.tables.specs.Recorder.{assembling_in};
 ghost use Rattle.recorder.specs.Recorder.{recorder_out, record_in};
 ghost use Rattle.recorder.specs.Steps.{due_in, rises_in, starts_in, assembled_in, record_number, advanced_of};
 
+use crate::check;
 use crate::modes::is_running;
-use crate::recorder_refuses;
 use field::{write_u32, write_u64};
 use fnv::digest;
 use parts::{Counts, Piece, add_part, used_bytes};
 use rules::{
-    Area, Assembling, Checkpoint, MAX_NEXT_ACCEPTABLE, REPLAY_SECTORS, Recorded, Recorder,
+    Area, Assembling, Checkpoint, MAX_NEXT_ACCEPTABLE, REPLAY_SECTORS, Recorder, Refusal,
     SECTOR_BYTES,
 };
 use sections::last_checkpoint;
+use tables::lent::{RecorderTables, RecorderTablesMut};
 
 // ---- 5 to 7
 // 5: is it the due LSN, inside the area, not finished or stopped, with a sector of 2,048 bytes?
@@ -70,7 +74,7 @@ fn back_of(lsn: u64, frame: Option<Assembling>) -> u32
 
 fn write_checkpoint(t: &mut [u8], j: usize, c: Checkpoint)
     requires { j * 24 + 24 ≤ length t.old }
-    ensures { t.new ≡ sets t.old (j * 24) (encode_checkpoint c) }
+    ensures { (t.new ≡ sets t.old (j * 24) (encode_checkpoint c)) × Bytes t.old }
 {
     let at = j * 24;
     write_u32(t, at, c.threshold);
@@ -111,38 +115,32 @@ fn assemble(
 }
 
 // ---- record
-// The number of the first of questions 1 to 7 answered no, 0 for none; the sector has len bytes.
-#[tactic(auto, unfolding(crate::specs::Steps::record_number, rules::specs::Tests::first_no))]
-fn record_number(
+// Questions 1 to 7; the sector has len bytes.
+#[tactic(auto, unfolding(crate::specs::Steps::record_number, rules::specs::Tests::first_no, rules::specs::Refusals::number_in, rules::specs::Refusals::refusal_number))]
+fn check_record(
     r: Recorder,
     lsn: u64,
     threshold: u32,
     malformed: u64,
     frame: Option<Assembling>,
     len: usize,
-    checkpoints: &[u8],
-    frames: &[u8],
-    store: &[u8],
-    parts: &[u8],
-) -> u32
-    ensures { result ≡ record_number r (recorder_tables checkpoints.now frames.now store.now parts.now) lsn threshold malformed frame len }
+    t: &RecorderTables,
+) -> Result<(), Refusal>
+    ensures { number_in result ≡ record_number r (recorder_tables_in t.now) lsn threshold malformed frame len }
 {
-    let number = recorder_refuses(r, checkpoints, frames, store, parts);
-    if number != 0 {
-        return number;
-    }
+    check(r, t)?;
     if !due(r, lsn, len) {
-        return 5;
+        return Err(Refusal::RecordDue);
     }
     let j = r.first as u64 + r.checkpoints as u64;
-    let last = last_checkpoint(checkpoints, r.checkpoints as usize);
+    let last = last_checkpoint(t.checkpoints, r.checkpoints as usize);
     if !rises(last, j, r.interval, threshold, malformed) {
-        return 6;
+        return Err(Refusal::RecordFalls);
     }
     if !starts(r.area, lsn, frame) {
-        return 7;
+        return Err(Refusal::RecordFrame);
     }
-    0
+    Ok(())
 }
 
 // One checkpoint more.
@@ -160,6 +158,7 @@ fn advanced(r: Recorder, c: Counts) -> Recorder
 }
 
 // A checkpoint at the due LSN; the bytes of the frame under assembly are lent beside it.
+#[tactic(auto, using(crate::proofs::record::Recording::record_no, rules::proofs::Refusals::number_ne0), unfolding(rules::specs::Refusals::answer_in, rules::specs::Refusals::number_in))]
 pub fn record(
     r: Recorder,
     lsn: u64,
@@ -168,33 +167,19 @@ pub fn record(
     frame: Option<Assembling>,
     bytes: &[u8],
     sector: &[u8],
-    checkpoints: &mut [u8],
-    frames: &mut [u8],
-    store: &mut [u8],
-    parts: &mut [u8],
-) -> Recorded
-    ensures { recorder_out result (recorder_tables checkpoints.new frames.new store.new parts.new) ≡ record_in r (recorder_tables checkpoints.old frames.old store.old parts.old) lsn threshold malformed frame bytes.now sector.now }
+    t: &mut RecorderTablesMut,
+) -> Result<Recorder, Refusal>
+    ensures recorded { recorder_out (answer_in result) (recorder_tables_mut_in t.new)
+        ≡ record_in r (recorder_tables_mut_in t.old) lsn threshold malformed frame bytes.now sector.now }
+    ensures same { SameRecorderLoans t.old t.new }
 {
-    let number = record_number(
-        r,
-        lsn,
-        threshold,
-        malformed,
-        frame,
-        sector.len(),
-        checkpoints,
-        frames,
-        store,
-        parts,
-    );
-    if number != 0 {
-        return Recorded::Refused(number);
-    }
+    let lent = t.read();
+    check_record(r, lsn, threshold, malformed, frame, sector.len(), &lent)?;
     let j = r.first + r.checkpoints;
     let held = Counts {
         frames: r.frames,
         parts: r.parts,
-        used: used_bytes(frames, r.frames),
+        used: used_bytes(lent.frames, r.frames),
     };
     let checkpoint = Checkpoint {
         threshold,
@@ -202,7 +187,9 @@ pub fn record(
         malformed,
         digest: digest(sector),
     };
-    let after = assemble(r.budget, held, j, lsn, frame, bytes, frames, store, parts);
-    write_checkpoint(checkpoints, r.checkpoints as usize, checkpoint);
-    Recorded::Recorder(advanced(r, after))
+    let after = assemble(
+        r.budget, held, j, lsn, frame, bytes, t.frames, t.store, t.parts,
+    );
+    write_checkpoint(t.checkpoints, r.checkpoints as usize, checkpoint);
+    Ok(advanced(r, after))
 }

@@ -4,3 +4,4 @@ pub mod Same
 pub mod FirstRecord
 pub mod Frontier
 pub mod Examples
+pub mod Refusals

@@ -15,3 +15,4 @@ pub mod Load
 pub mod Sizes
 pub mod Run
 pub mod examples
+pub mod Refusals

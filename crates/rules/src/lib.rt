@@ -1,6 +1,8 @@
 // Document 01 as definitions on values (specs), the types they speak of, and evaluated examples.
 #![tactic(auto)]
 
+ghost use Rattle.std.specs.Prelude.{◌≡◌};
+
 // LIM: one more than the largest frame number of a first record.
 pub const MAX_NEXT_ACCEPTABLE: u32 = 1166881;
 // The most bytes of a held part.
@@ -58,6 +60,123 @@ pub const CONFIRMED_HEADER: usize = 8;
 
 pub const CONFIRMED: usize = 16;
 
+// Why a call is refused: the question answered no, by its number.
+#[derive(Clone, Copy, Debug, PartialEq, Eq)]
+pub enum Refusal {
+    // the area's slot or range
+    Area = 1,
+    // interval or budget
+    Numbers = 2,
+    // a table or block is too short, or a block is none that a call wrote
+    Room = 3,
+    // the tables do not hold a list
+    Content = 4,
+    // not the due sector, or nothing to finish
+    RecordDue = 5,
+    // the threshold or the malformed count falls or is too large
+    RecordFalls = 6,
+    // the frame under assembly: its start, number or kind
+    RecordFrame = 7,
+    // another image: the recorder is stopped
+    AbsorbImage = 8,
+    // another area or interval
+    AbsorbArea = 9,
+    // the recorder began past the list's end
+    AbsorbJoins = 10,
+    // two readings differ
+    AbsorbAgrees = 11,
+    // the joined list would break a rule
+    AbsorbResult = 12,
+    // too many hints in one delivery, or a frame number too large
+    Hints = 13,
+    // outside the area, or its threshold too large
+    Confirmation = 14,
+    // another fingerprint is held
+    Fingerprint = 15,
+    // the range's end lies below its first frame
+    HintRange = 16,
+    // the file ends too early
+    FileShort = 20,
+    // no list file
+    FileMagic = 21,
+    // the sum does not match
+    FileSum = 22,
+    FileVersion = 23,
+    FileSlot = 24,
+    FileFlags = 25,
+    // of another image or area
+    FileArea = 26,
+    FileInterval = 27,
+    // a field that has to be 0 is not
+    FileReserved = 28,
+    FileBudget = 29,
+    // more than the area or the file can hold
+    FileCounts = 30,
+    FileCheckpoints = 31,
+    // a frame or a held part
+    FileFrames = 32,
+    // a held part's kind
+    FileKind = 33,
+    // the end state
+    FileEnd = 34,
+    FileMalformed = 35,
+    FileHints = 36,
+    FileConfirmations = 37,
+    // bytes behind the list
+    FileLeftOver = 38,
+    // the output is too short
+    Output = 40,
+    // different areas or intervals
+    MergeArea = 41,
+    // different images or fingerprints
+    MergeIds = 42,
+    // a common checkpoint or the end states differ
+    MergeCheckpoints = 43,
+    // a set of no file or of more than 16
+    Set = 44,
+    // a file cannot be read
+    SheetFile = 45,
+    // no line of a coverage sheet
+    SheetLine = 46,
+    // the wider interval of a coarser list
+    CoarseInterval = 47,
+    // the coarser list would not be a list
+    CoarseContent = 48,
+    // the bits that a sum is folded to
+    Fold = 49,
+    // the new list alone exceeds the limit
+    ShelfList = 50,
+    // the count is at its largest
+    ShelfCount = 51,
+    // neither of the two, or a listener's at a workshop's call
+    Role = 52,
+    // no hint has this LSN, or a quarter of M is kept already
+    Keep = 53,
+    // the contents table of a disc file
+    Disc = 54,
+}
+
+impl From<Refusal> for u32 {
+    ghost use Rattle.rules.specs.Refusals.{refusal_number};
+
+    ghost from_gives = { λ e n. n ≡ refusal_number e };
+
+    #[tactic(auto, unfolding(crate::specs::Refusals::refusal_number))]
+    fn from(e: Refusal) -> u32 {
+        e as u32
+    }
+}
+
+impl From<Refusal> for u64 {
+    ghost use Rattle.rules.specs.Refusals.{refusal_number};
+
+    ghost from_gives = { λ e n. n ≡ refusal_number e };
+
+    fn from(e: Refusal) -> u64 {
+        u32::from(e) as u64
+    }
+}
+
 // A frame number, and how far behind the sector's first byte its three bytes begin.
 #[derive(Clone, Copy)]
 pub struct TimeBytes {
@@ -80,7 +199,7 @@ pub enum First {
 }
 
 // What tells areas apart in a file (source: AreaKey): the five numbers that question 26 compares.
-#[derive(Clone, Copy)]
+#[derive(Clone, Copy, PartialEq, Eq)]
 pub struct AreaKey {
     pub slot: u8,
     pub start: u32,
@@ -90,7 +209,7 @@ pub struct AreaKey {
 }
 
 // Area: its key, and its range of sectors, the end excluded.
-#[derive(Clone, Copy)]
+#[derive(Clone, Copy, PartialEq, Eq)]
 pub struct Area {
     pub key: AreaKey,
     pub start: u64,
@@ -98,7 +217,7 @@ pub struct Area {
 }
 
 // Checkpoint (source: next_acceptable and malformed_before for threshold and malformed).
-#[derive(Clone, Copy)]
+#[derive(Clone, Copy, PartialEq, Eq)]
 pub struct Checkpoint {
     pub threshold: u32,
     pub back: u32,
@@ -107,20 +226,20 @@ pub struct Checkpoint {
 }
 
 // The end state of a complete list.
-#[derive(Clone, Copy)]
+#[derive(Clone, Copy, PartialEq, Eq)]
 pub struct EndState {
     pub threshold: u32,
     pub malformed: u64,
 }
 
-#[derive(Clone, Copy)]
+#[derive(Clone, Copy, PartialEq, Eq)]
 pub enum FrameKind {
     Dst,
     Dsd,
 }
 
 // Held part: the first len bytes of frame number frame, for checkpoint number at.
-#[derive(Clone, Copy)]
+#[derive(Clone, Copy, PartialEq, Eq)]
 pub struct Held {
     pub at: u32,
     pub frame: u32,
@@ -131,14 +250,14 @@ pub struct Held {
 }
 
 // A hint; its mark is 1 where it is kept, so that thinning passes over it, and else 0.
-#[derive(Clone, Copy)]
+#[derive(Clone, Copy, PartialEq, Eq)]
 pub struct Hint {
     pub lsn: u32,
     pub number: u32,
     pub mark: u8,
 }
 
-#[derive(Clone, Copy)]
+#[derive(Clone, Copy, PartialEq, Eq)]
 pub struct Confirmation {
     pub lsn: u32,
     pub threshold: u32,
@@ -293,27 +412,6 @@ pub enum Made {
     Index(AreaIndex),
 }
 
-// A list's frontier, or the number 1.
-#[derive(Clone, Copy)]
-pub enum FrontierLsn {
-    Refused(u32),
-    Lsn(u64),
-}
-
-// What plan answers: a refusal number, or where the jump starts.
-#[derive(Clone, Copy)]
-pub enum Planned {
-    Refused(u32),
-    Plan(Plan),
-}
-
-// What saving answers: a refusal number, or the length of the file.
-#[derive(Clone, Copy)]
-pub enum Saved {
-    Refused(u32),
-    Length(u64),
-}
-
 // The bytes of each table.
 #[derive(Clone, Copy)]
 pub struct TableSizes {
@@ -333,42 +431,12 @@ pub enum Sized {
     Sizes(TableSizes),
 }
 
-// What a file is asked for its area: a refusal number, or the area.
-#[derive(Clone, Copy)]
-pub enum FileArea {
-    Refused(u32),
-    Area(Area),
-}
-
-// The refusal number, or the numbers of the recorder that the tables then hold.
-#[derive(Clone, Copy)]
-pub enum Recorded {
-    Refused(u32),
-    Recorder(Recorder),
-}
-
-// The number of question 1 or 2, nothing where there is no such boundary, or its LSN.
-#[derive(Clone, Copy)]
-pub enum Boundary {
-    Refused(u32),
-    Nothing,
-    Lsn(u64),
-}
-
 // The refusal number, 0 where it is accepted, and the numbers of both afterwards.
 #[derive(Clone, Copy)]
 pub struct Absorbed {
     pub number: u32,
     pub index: AreaIndex,
     pub recorder: Recorder,
-}
-
-// The hint recorder of an index; none where spacing or M is 0.
-#[derive(Clone, Copy)]
-pub enum Created {
-    Refused(u32),
-    Nothing,
-    Recorder(HintRecorder),
 }
 
 // What a sector says, and the recorder afterwards.
@@ -378,40 +446,11 @@ pub struct SeenSector {
     pub recorder: HintRecorder,
 }
 
-// The answer of see.
-#[derive(Clone, Copy)]
-pub enum Saw {
-    Refused(u32),
-    Sector(SeenSector),
-}
-
-// A hint recorder after a call, or the number that refuses.
-#[derive(Clone, Copy)]
-pub enum Seen {
-    Refused(u32),
-    Recorder(HintRecorder),
-}
-
 // How many hints are taken, and the recorder afterwards.
 #[derive(Clone, Copy)]
 pub struct TakenList {
     pub count: u32,
     pub recorder: HintRecorder,
-}
-
-// What take answers: a refusal number, or how many hints are taken.
-#[derive(Clone, Copy)]
-pub enum Taken {
-    Refused(u32),
-    List(TakenList),
-}
-
-// The index afterwards, that nothing is kept, or the number that refuses.
-#[derive(Clone, Copy)]
-pub enum Kept {
-    Refused(u32),
-    Nothing,
-    Index(AreaIndex),
 }
 
 // In what the own list would change.
@@ -425,18 +464,4 @@ pub struct Brings {
     pub confirmed: bool,
     pub fingerprint: bool,
     pub image: bool,
-}
-
-// The number that refuses the merge, or what it would bring.
-#[derive(Clone, Copy)]
-pub enum Added {
-    Refused(u32),
-    Brings(Brings),
-}
-
-// What a view answers: a refusal number, or its length.
-#[derive(Clone, Copy)]
-pub enum Viewed {
-    Refused(u32),
-    Length(u64),
 }

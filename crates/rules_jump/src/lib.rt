@@ -94,11 +94,3 @@ pub struct NamedHint {
     pub start: HintStart,
     pub end: HintEnd,
 }
-
-// A refusal number, that no hint is near, or the read.
-#[derive(Clone, Copy)]
-pub enum HintAnswer {
-    Refused(u32),
-    Nothing,
-    Hinted(NamedHint),
-}

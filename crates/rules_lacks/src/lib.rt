@@ -15,10 +15,3 @@ pub struct Lacks {
     pub budget: bool,
     pub most: bool,
 }
-
-// The number that refuses, or what is lacking.
-#[derive(Clone, Copy)]
-pub enum Lacked {
-    Refused(u32),
-    Lacks(Lacks),
-}

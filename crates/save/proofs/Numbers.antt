@@ -81,7 +81,7 @@ module _ (x : AreaIndex) (hints confirmed : List ℕ) where
 
 -- the sections end to end
 pub body_is : (x : AreaIndex) (t : Tables) → header_bytes (header_of (index_in x t))
-    ++ (scan_bytes x t.checkpoints t.frames t.store t.parts t.malformed
+    ++ (scan_bytes x t
     ++ (hint_section (hint_index x t.hints t.confirmed) ++ confirmed_section (hint_index x t.hints t.confirmed))) ≡ body_of (index_in x t)
 unfolding body_of hint_section confirmed_section version_of has_hinting
 body_is x t = simp append_assoc

@@ -8,7 +8,7 @@ use borrow.Author.Tests.{leb-true, ne_eqb, eq-eqb, le-leb, lt-leb}
 use lib.Dec.{leb}
 use lib.ListN.{length}
 use Rattle.rules.specs.declared.AreaIndex.{AreaIndex}
-use Rattle.rules.specs.Tests.{each, ask, first_no, Accepted, after}
+use Rattle.rules.specs.Tests.{each, ask, first_no, Accepted, after, Refused}
 use Rattle.rules.specs.Sections.{frames_ok}
 use Rattle.rules.specs.Questions.{question3, scan_room}
 use Rattle.rules.specs.File.{saved, saved_length, save, over}
@@ -22,15 +22,14 @@ use Rattle.index.specs.Steps.{Passes, scan_in, hinting_in, hint_counts}
 use Rattle.index.proofs.Four.{kinded_index}
 use Rattle.index.proofs.Questions.{passes, passes_long, held_is, hinting_is, hints_long, hint_space}
 use Rattle.tables.specs.Index.{Tables, index_in, kinds_ok, refusal, room_in}
-use Rattle.rules.specs.declared.Saved.TheVariants.{Refused, Length}
 use Rattle.save.specs.Layout.{Framed}
 use Rattle.save.specs.Save.{made, save_out, save_in}
 use Rattle.save.specs.Steps.{Scanned, Hinted}
 
 -- ---- where 1 to 4 hold
-module _ (x : AreaIndex) (t : Tables) {n : ℕ} (e : n ≡ refusal x t) (z : n ≡ 0) where
+module _ (x : AreaIndex) (t : Tables) (z : refusal x t ≡ 0) where
   pass : Passes x t
-  pass = passes x t (sym e ∙ z)
+  pass = passes x t z
 
   held : (scan_in x t && (hinting_in x t.hints t.confirmed && kinds_ok x.parts t.parts)) ≡ true
   held = sym (held_is x t) ∙ pass.held
@@ -56,7 +55,7 @@ module _ (x : AreaIndex) (t : Tables) {n : ℕ} (e : n ≡ refusal x t) (z : n �
         budgeted = (numbers_ok→ x.interval x.budget pass.roomy.numbers).budgeted;
       }
 
-  pub scanned : Scanned x t.checkpoints t.frames t.store t.parts t.malformed
+  pub scanned : Scanned x t
   scanned =
       record {
         long = passes_long pass;
@@ -86,6 +85,6 @@ module _ (x : AreaIndex) (t : Tables) (o : List ℕ) {n : ℕ} (e : n ≡ refusa
     unfolding save_out after
     save_short h = sym (save_is ∙ rw (← l) (simp (eq-eqb n 0 z, lt-leb k (length o) h)))
 
-    pub save_done : {o' : List ℕ} → k ≤ length o → o' ≡ over (saved (index_in x t)) o → made (Length k) o' ≡ save_in x t o
+    pub save_done : {o' : List ℕ} → k ≤ length o → o' ≡ over (saved (index_in x t)) o → made (Accepted k) o' ≡ save_in x t o
     unfolding save_out after
     save_done h c = rw (c, l, (saved_length_is (index_in x t)).0) (sym (save_is ∙ simp (eq-eqb n 0 z, le-leb _ _ (let g : saved_length (index_in x t) ≤ length o = rw (← l) h in g))))

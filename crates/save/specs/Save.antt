@@ -4,20 +4,18 @@ use Rattle.rules.specs.declared.AreaIndex.{AreaIndex}
 use Rattle.rules.specs.Tests.{Answer, Refused, Accepted}
 use Rattle.rules.specs.File.{save, over}
 use Rattle.tables.specs.Index.{Tables, room_of, index_in, kinds_in, kinded}
-use Rattle.rules.specs.declared.Saved.{Saved}
-use Rattle.rules.specs.declared.Saved.TheVariants as answer
 
 -- what it answers, and the output afterwards
 pub record SaveOut : Type 0 where
-  pub answer : Saved
+  pub answer : Answer ℕ
   pub out : List ℕ
 
-abbrev pub made : Saved → List ℕ → SaveOut
+abbrev pub made : Answer ℕ → List ℕ → SaveOut
 made r o = record { answer = r; out = o }
 
 unfoldable pub save_out : Answer (List ℕ) → List ℕ → SaveOut
-save_out (Refused n) old = made (answer.Refused n) old
-save_out (Accepted b) old = made (answer.Length (length b)) (over b old)
+save_out (Refused n) old = made (Refused n) old
+save_out (Accepted b) old = made (Accepted (length b)) (over b old)
 
 -- 1 to 4, 40: is the output long enough? What lies past the length stays.
 unfoldable pub save_in : AreaIndex → Tables → List ℕ → SaveOut

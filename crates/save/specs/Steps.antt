@@ -7,7 +7,7 @@ use Rattle.rules.specs.declared.HintHeader.{HintHeader}
 use Rattle.rules.specs.Values.{Index, used}
 use Rattle.rules.specs.File.{encode_checkpoint, encode_frame, encode_held, encode_lsn, encode_hint, encode_confirmation, version_of}
 use Rattle.tables.specs.Tables.{checkpoints_in, parts_in, lsns_in, kept_in, confirmations_in, frames_in}
-use Rattle.tables.specs.Index.{index_in, kinds_ok, tables}
+use Rattle.tables.specs.Index.{Tables, index_in, kinds_ok, tables}
 use Rattle.index.specs.Steps.{Long}
 use Rattle.save.specs.Layout.{Framed}
 use Rattle.save.specs.Output.{hint_header}
@@ -21,11 +21,11 @@ abbrev pub confirmed_bytes : ℕ → List ℕ → List ℕ
 confirmed_bytes n t = encode 4 n ++ (encode 4 0 ++ bytes_of encode_confirmation (confirmations_in n t))
 
 -- the bytes of a scan's sections, and how many they are where the frames hold u
-abbrev pub scan_bytes : AreaIndex → List ℕ → List ℕ → List ℕ → List ℕ → List ℕ → List ℕ
-scan_bytes x checkpoints frames store parts malformed =
-    bytes_of encode_checkpoint (checkpoints_in x.checkpoints checkpoints)
-    ++ (bytes_of encode_frame (frames_in x.frames frames store)
-    ++ (bytes_of encode_held (parts_in x.parts parts) ++ bytes_of encode_lsn (lsns_in x.malformed malformed)))
+abbrev pub scan_bytes : AreaIndex → Tables → List ℕ
+scan_bytes x t =
+    bytes_of encode_checkpoint (checkpoints_in x.checkpoints t.checkpoints)
+    ++ (bytes_of encode_frame (frames_in x.frames t.frames t.store)
+    ++ (bytes_of encode_held (parts_in x.parts t.parts) ++ bytes_of encode_lsn (lsns_in x.malformed t.malformed)))
 
 abbrev pub scan_size : AreaIndex → ℕ → ℕ
 scan_size x u = x.checkpoints * 24 + ((x.frames * 8 + u) + (x.parts * 24 + x.malformed * 4))
@@ -40,11 +40,11 @@ hinting_size x =
 
 -- ---- what 1 to 4 say that is needed
 -- of a scan's tables
-pub record Scanned (x : AreaIndex) (cs fs st ps ms : List ℕ) : Type 0 where
-  pub long : Long x cs fs ps ms
-  pub framed : Framed x fs
-  pub store : used (frames_in x.frames fs st) ≤ length st
-  pub kinds : kinds_ok x.parts ps ≡ true
+pub record Scanned (x : AreaIndex) (t : Tables) : Type 0 where
+  pub long : Long x t.checkpoints t.frames t.parts t.malformed
+  pub framed : Framed x t.frames
+  pub store : used (frames_in x.frames t.frames t.store) ≤ length t.store
+  pub kinds : kinds_ok x.parts t.parts ≡ true
 
 -- of hints and confirmations
 pub record Hinted (x : AreaIndex) (hs cs : List ℕ) : Type 0 where

@@ -8,11 +8,13 @@ mod write;
 ghost use Rattle.std.specs.Prelude.{◌≡◌, ◌++◌, ◌+◌, ◌*◌, ◌≤◌, length};
 ghost use Rattle.rules.specs.Values.{used};
 ghost use Rattle.rules.specs.File.{hint_section, confirmed_section, body_of, saved, saved_length, over};
+ghost use Rattle.rules.specs.Refusals.{answer_in};
 ghost use Rattle.tables.specs.Tables.{frames_in};
-ghost use Rattle.tables.specs.Index.{index_in, tables, refusal};
+ghost use Rattle.tables.specs.Index.{index_in, refusal};
 ghost use Rattle.save.specs.Output.{Filled, Summed, nothing_written};
 ghost use Rattle.save.specs.Save.{made, save_in};
 ghost use Rattle.save.specs.Steps.{hint_bytes, confirmed_bytes, Scanned, Hinted, scan_size, scan_bytes, hint_index, hinting_size};
+ghost use Rattle.tables.specs.Loans.{tables_in};
 
 use crate::layout::{frame_bytes, header_of, hint_header_of, saved_length, version_of};
 use crate::output::{Written, long_enough, write_hint_header};
@@ -21,12 +23,13 @@ use crate::write::{
 };
 use field::{write_u32, write_u64};
 use header::write_header;
-use index::refuses;
+use index::check;
 use rules::{
-    AreaIndex, CONFIRMED, CONFIRMED_HEADER, HEADER, HINT, HINTS_HEADER, HintHeader, Saved,
+    AreaIndex, CONFIRMED, CONFIRMED_HEADER, HEADER, HINT, HINTS_HEADER, HintHeader, Refusal,
     VERSION_CONFIRMED, VERSION_HINTS,
 };
 use summing::sum_u32;
+use tables::lent::Tables;
 
 // ---- hints and confirmations, each with its header
 fn write_hint_section(out: &mut [u8], h: HintHeader, table: &[u8], sum: u64) -> u64
@@ -73,24 +76,15 @@ fn put_confirmed_section(out: &mut [u8], w: Written, n: u32, table: &[u8]) -> Wr
 
 // ---- the file
 // Checkpoints, frames, parts and malformed LSNs.
-fn put_scan(
-    out: &mut [u8],
-    w: Written,
-    x: AreaIndex,
-    checkpoints: &[u8],
-    frames: &[u8],
-    store: &[u8],
-    parts: &[u8],
-    malformed: &[u8],
-) -> Written
-    requires { Scanned x checkpoints.now frames.now store.now parts.now malformed.now × (w.next + scan_size x (used (frames_in x.frames frames.now store.now)) ≤ length out.old) }
-    ensures { Summed (scan_bytes x checkpoints.now frames.now store.now parts.now malformed.now) (scan_size x (used (frames_in x.frames frames.now store.now))) out.old w result out.new }
+fn put_scan(out: &mut [u8], w: Written, x: AreaIndex, t: &Tables) -> Written
+    requires { Scanned x (tables_in t.now) × (w.next + scan_size x (used (frames_in x.frames t.now.frames.now t.now.store.now)) ≤ length out.old) }
+    ensures { Summed (scan_bytes x (tables_in t.now)) (scan_size x (used (frames_in x.frames t.now.frames.now t.now.store.now))) out.old w result out.new }
 {
-    let bytes = frame_bytes(x, frames);
-    let behind = put_checkpoints(out, w, checkpoints, x.checkpoints);
-    let behind = put_frames(out, behind, frames, store, x.frames, bytes);
-    let behind = put_parts(out, behind, parts, x.parts);
-    put_malformed(out, behind, malformed, x.malformed)
+    let bytes = frame_bytes(x, t.frames);
+    let behind = put_checkpoints(out, w, t.checkpoints, x.checkpoints);
+    let behind = put_frames(out, behind, t.frames, t.store, x.frames, bytes);
+    let behind = put_parts(out, behind, t.parts, x.parts);
+    put_malformed(out, behind, t.malformed, x.malformed)
 }
 
 // The sections that a version from 2 on has, and one from 3 on.
@@ -110,125 +104,35 @@ fn put_hinting(out: &mut [u8], w: Written, x: AreaIndex, hints: &[u8], confirmed
 }
 
 // Everything before the sum.
-fn write_body(
-    out: &mut [u8],
-    x: AreaIndex,
-    checkpoints: &[u8],
-    frames: &[u8],
-    store: &[u8],
-    parts: &[u8],
-    malformed: &[u8],
-    hints: &[u8],
-    confirmed: &[u8],
-) -> Written
-    requires { Scanned x checkpoints.now frames.now store.now parts.now malformed.now × Hinted x hints.now confirmed.now × (saved_length (index_in x (tables checkpoints.now frames.now store.now parts.now malformed.now hints.now confirmed.now)) ≤ length out.old) }
-    ensures { Summed (body_of (index_in x (tables checkpoints.now frames.now store.now parts.now malformed.now hints.now confirmed.now))) (length (body_of (index_in x (tables checkpoints.now frames.now store.now parts.now malformed.now hints.now confirmed.now)))) out.old nothing_written result out.new }
+fn write_body(out: &mut [u8], x: AreaIndex, t: &Tables) -> Written
+    requires { Scanned x (tables_in t.now) × Hinted x t.now.hints.now t.now.confirmed.now × (saved_length (index_in x (tables_in t.now)) ≤ length out.old) }
+    ensures { Summed (body_of (index_in x (tables_in t.now))) (length (body_of (index_in x (tables_in t.now)))) out.old nothing_written result out.new }
 {
     let sum = write_header(out, header_of(x));
     let header = Written { next: HEADER, sum };
-    let scan = put_scan(out, header, x, checkpoints, frames, store, parts, malformed);
-    put_hinting(out, scan, x, hints, confirmed)
+    let scan = put_scan(out, header, x, t);
+    put_hinting(out, scan, x, t.hints, t.confirmed)
 }
 
-fn write_saved(
-    out: &mut [u8],
-    x: AreaIndex,
-    checkpoints: &[u8],
-    frames: &[u8],
-    store: &[u8],
-    parts: &[u8],
-    malformed: &[u8],
-    hints: &[u8],
-    confirmed: &[u8],
-)
-    requires { Scanned x checkpoints.now frames.now store.now parts.now malformed.now × Hinted x hints.now confirmed.now × (saved_length (index_in x (tables checkpoints.now frames.now store.now parts.now malformed.now hints.now confirmed.now)) ≤ length out.old) }
-    ensures { out.new ≡ over (saved (index_in x (tables checkpoints.now frames.now store.now parts.now malformed.now hints.now confirmed.now))) out.old }
+// The file of a list that passes questions 1 to 4.
+pub fn write_saved(out: &mut [u8], x: AreaIndex, t: &Tables)
+    requires { (refusal x (tables_in t.now) ≡ 0) × (saved_length (index_in x (tables_in t.now)) ≤ length out.old) }
+    ensures { out.new ≡ over (saved (index_in x (tables_in t.now))) out.old }
 {
-    let body = write_body(
-        out,
-        x,
-        checkpoints,
-        frames,
-        store,
-        parts,
-        malformed,
-        hints,
-        confirmed,
-    );
+    let body = write_body(out, x, t);
     write_u64(out, body.next, body.sum);
 }
 
-// What follows questions 1 to 4: number is that of the first answered no, 0 for none.
-pub fn saved_after(
-    number: u32,
-    x: AreaIndex,
-    checkpoints: &[u8],
-    frames: &[u8],
-    store: &[u8],
-    parts: &[u8],
-    malformed: &[u8],
-    hints: &[u8],
-    confirmed: &[u8],
-    out: &mut [u8],
-) -> Saved
-    requires { number ≡ refusal x (tables checkpoints.now frames.now store.now parts.now malformed.now hints.now confirmed.now) }
-    ensures { made result out.new ≡ save_in x (tables checkpoints.now frames.now store.now parts.now malformed.now hints.now confirmed.now) out.old }
-{
-    if number != 0 {
-        return Saved::Refused(number);
-    }
-    let length = saved_length(x, frames);
-    if !long_enough(out.len() as u64, length) {
-        return Saved::Refused(40);
-    }
-    write_saved(
-        out,
-        x,
-        checkpoints,
-        frames,
-        store,
-        parts,
-        malformed,
-        hints,
-        confirmed,
-    );
-    Saved::Length(length)
-}
-
 // Questions 1 to 4, then 40: is the output long enough? What lies past the length stays.
-pub fn to_bytes(
-    x: AreaIndex,
-    checkpoints: &[u8],
-    frames: &[u8],
-    store: &[u8],
-    parts: &[u8],
-    malformed: &[u8],
-    hints: &[u8],
-    confirmed: &[u8],
-    out: &mut [u8],
-) -> Saved
-    ensures { made result out.new ≡ save_in x (tables checkpoints.now frames.now store.now parts.now malformed.now hints.now confirmed.now) out.old }
+#[tactic(auto, using(crate::proofs::Saving::save_refused, rules::proofs::Refusals::number_ne0), unfolding(rules::specs::Refusals::answer_in, rules::specs::Refusals::number_in))]
+pub fn to_bytes(x: AreaIndex, t: &Tables, out: &mut [u8]) -> Result<u64, Refusal>
+    ensures { made (answer_in result) out.new ≡ save_in x (tables_in t.now) out.old }
 {
-    let number = refuses(
-        x,
-        checkpoints,
-        frames,
-        store,
-        parts,
-        malformed,
-        hints,
-        confirmed,
-    );
-    saved_after(
-        number,
-        x,
-        checkpoints,
-        frames,
-        store,
-        parts,
-        malformed,
-        hints,
-        confirmed,
-        out,
-    )
+    check(x, t)?;
+    let length = saved_length(x, t.frames);
+    if !long_enough(out.len() as u64, length) {
+        return Err(Refusal::Output);
+    }
+    write_saved(out, x, t);
+    Ok(length)
 }

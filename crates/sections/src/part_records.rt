@@ -1,6 +1,6 @@
 // The check of the held parts of a list, by its checkpoints and its frames.
 ghost use Rattle.std.specs.Prelude.{◌≡◌, List, [], ℕ, ◌+◌, ◌-◌, ◌*◌, ◌≤◌, length, None};
-ghost use Rattle.rules.specs.Values.{no_held, same_kind};
+ghost use Rattle.rules.specs.Values.{no_held};
 ghost use Rattle.rules.specs.Tests.{walk};
 ghost use Rattle.rules.specs.Sections.{follows, belongs, part_ok, parts_ok, reached};
 ghost use Rattle.tables.specs.Tables.{checkpoints_in, parts_in, frame_of, frames_in, before, part_next, part_near, part_here};
@@ -8,28 +8,15 @@ ghost use Rattle.tables.specs.Tables.{checkpoints_in, parts_in, frame_of, frames
 use rules::{Area, Checkpoint, FrameKind, Held, MAX_NEXT_ACCEPTABLE};
 use tables::{FrameHeader, get_checkpoint, get_header, read_held};
 
-#[tactic(auto, unfolding(rules::specs::Values::same_kind))]
-fn same_kind(a: FrameKind, b: FrameKind) -> bool
-    ensures { result ≡ same_kind a b }
-{
-    matches!(
-        (a, b),
-        (FrameKind::Dst, FrameKind::Dst) | (FrameKind::Dsd, FrameKind::Dsd)
-    )
-}
-
 // q is the part before p, unless p is the first.
-#[tactic(auto, using(std::proofs::lemmas::Bool::Decides::nat_tests, tables::proofs::Tests::follows_is))]
+#[tactic(auto, using(std::proofs::lemmas::Bool::Decides::nat_tests, tables::proofs::Tests::follows_is), unfolding(rules::specs::Values::same_kind))]
 fn follows_ok(first: bool, q: Held, p: Held) -> bool
     ensures { result ≡ follows (before first q) p }
 {
     if first {
         return p.frame == 0;
     }
-    let grown = p.frame == q.frame
-        && q.len <= p.len
-        && q.number == p.number
-        && same_kind(q.kind, p.kind);
+    let grown = p.frame == q.frame && q.len <= p.len && q.number == p.number && q.kind == p.kind;
     q.at < p.at && (grown || p.frame as u64 == q.frame as u64 + 1)
 }
 

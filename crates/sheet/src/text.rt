@@ -44,6 +44,7 @@ fn spell(v: u64, text: &mut [u8]) -> usize
 {
     let mut at = 20;
     let mut rest = v;
+    // A digit a turn, from the last on: how many there are is not known before.
     while 10 <= rest {
         at -= 1;
         text[at] = b'0' + (rest % 10) as u8;

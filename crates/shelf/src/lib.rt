@@ -217,6 +217,7 @@ fn make_room(a: Kept, room: u64) -> Kept
     ensures { (Stands result (make_room a.n room (list_of a))) × (result.n < 64) }
 {
     let mut b = a;
+    // Until there is room: how many go is not known before.
     while !roomy(b, room) {
         b = dropped(b, oldest(b));
     }

@@ -25,8 +25,7 @@ use Rattle.inspect.specs.declared.Inspected.TheVariants as inspected
 use Rattle.inspect.specs.Inspect.{found_in, inspection_of, inspection}
 use Rattle.rules.specs.declared.TableSizes.{TableSizes}
 use Rattle.sizes.specs.Steps.{limited_sizes}
-use Rattle.sizes.specs.Sizes.{range_of, sized_of, file_sizes, file_length, before_sum, file_area, file_area_of}
-use Rattle.rules.specs.declared.FileArea.TheVariants as found
+use Rattle.sizes.specs.Sizes.{range_of, sized_of, file_sizes, length_in, before_sum, file_area}
 use Rattle.rules.specs.declared.Sized.TheVariants as sized
 
 -- ---- what inspecting says of the file
@@ -68,12 +67,12 @@ module _ (a : Area) (b : List ℕ) (limit : ℕ) where
 
 -- ---- the length of a list's file
 module _ (x : AreaIndex) (t : Tables) {n : ℕ} (e : n ≡ refusal x t) where
-  pub length_refused : (n ≡ 0 → ⊥) → n ≡ file_length x t
-  unfolding file_length
+  pub length_refused : (n ≡ 0 → ⊥) → Refused n ≡ length_in x t
+  unfolding length_in after
   length_refused h = rw (← e, ne_eqb n 0 h)
 
-  pub length_told : n ≡ 0 → {k : ℕ} → k ≡ saved_length (index_in x t) → k ≡ file_length x t
-  unfolding file_length
+  pub length_told : n ≡ 0 → {k : ℕ} → k ≡ saved_length (index_in x t) → Accepted k ≡ length_in x t
+  unfolding length_in after
   length_told z q = rw (← e, z, q)
 
 -- ---- the area that a file is of
@@ -83,26 +82,26 @@ unasked true = refl
 unasked false = refl
 
 module _ (b : List ℕ) where
-  pub no_length : length b < 8 → file_area_of (found.Refused 20) ≡ file_area b
-  unfolding file_area_of file_area file_number before_sum first_no after
+  pub no_length : length b < 8 → Refused 20 ≡ file_area b
+  unfolding file_area file_number before_sum first_no after
   no_length h = rw (lt-leb 8 (length b) h)
 
   body_length : 8 ≤ length b → length (body_in b) ≡ length b - 8
   body_length h = length-take (length b - 8) b ∙ omega arith
 
   module _ (h : 8 ≤ length b) where
-    pub no_body : length b - 8 < 80 → file_area_of (found.Refused 21) ≡ file_area b
-    unfolding file_area_of file_area file_number before_sum first_no after
+    pub no_body : length b - 8 < 80 → Refused 21 ≡ file_area b
+    unfolding file_area file_number before_sum first_no after
     no_body g = rw (le-leb 8 (length b) h, body_length h, lt-leb 80 (length b - 8) g)
 
     module _ (g : 80 ≤ length b - 8) {r : Header} (i : r ≡ read_header (take (length b - 8 - 0) b)) where
       e : r ≡ read_header (body_in b)
       e = i ∙ ap (λ n. read_header (take n b)) (let z : length b - 8 - 0 ≡ length b - 8 = omega arith in z)
 
-      pub no_magic : (r.magic ≡ 6361698709525447251 → ⊥) → file_area_of (found.Refused 21) ≡ file_area b
-      unfolding file_area_of file_area file_number before_sum first_no after decode
+      pub no_magic : (r.magic ≡ 6361698709525447251 → ⊥) → Refused 21 ≡ file_area b
+      unfolding file_area file_number before_sum first_no after decode
       no_magic n = rw (le-leb 8 (length b) h, body_length h, le-leb 80 (length b - 8) g, ← e, ne_eqb r.magic 6361698709525447251 n)
 
-      pub area_there : {a : Area} → r.magic ≡ 6361698709525447251 → a ≡ range_of (key_of r) → file_area_of (found.Area a) ≡ file_area b
-      unfolding file_area_of file_area file_number before_sum first_no after decode
+      pub area_there : {a : Area} → r.magic ≡ 6361698709525447251 → a ≡ range_of (key_of r) → Accepted a ≡ file_area b
+      unfolding file_area file_number before_sum first_no after decode
       area_there m q = rw (le-leb 8 (length b) h, body_length h, le-leb 80 (length b - 8) g, ← e, eq-eqb r.magic 6361698709525447251 m, unasked (eqb (fnv64 (body_in b)) (sum_in b)), q)

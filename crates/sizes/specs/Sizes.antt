@@ -11,8 +11,6 @@ use Rattle.tables.specs.Index.{Tables, index_in, refusal}
 use Rattle.rules.specs.declared.TableSizes.{TableSizes}
 use Rattle.rules.specs.declared.Sized.{Sized}
 use Rattle.rules.specs.declared.Sized.TheVariants as sized
-use Rattle.rules.specs.declared.FileArea.{FileArea}
-use Rattle.rules.specs.declared.FileArea.TheVariants as found
 use Rattle.rules.specs.declared.AreaKey.{AreaKey}
 
 -- for area, interval, budget and M
@@ -57,6 +55,10 @@ sized_of (sized.Sizes s) = Accepted s
 unfoldable pub file_length : AreaIndex → Tables → ℕ
 file_length x t = cond (eqb (refusal x t) 0) (saved_length (index_in x t)) (refusal x t)
 
+-- the same as an answer
+unfoldable pub length_in : AreaIndex → Tables → Answer ℕ
+length_in x t = after (refusal x t) (Accepted (saved_length (index_in x t)))
+
 -- ---- the area of a file
 -- loading's number where it is that of a question before 22
 unfoldable pub before_sum : ℕ → ℕ
@@ -69,7 +71,3 @@ range_of k = record { key = k; start = k.start; end = max k.start (min (k.end + 
 -- 20 and 21
 unfoldable pub file_area : List ℕ → Answer Area
 file_area b = after (before_sum (file_number b)) (Accepted (range_of (key_of (read_header (body_in b)))))
-
-unfoldable pub file_area_of : FileArea → Answer Area
-file_area_of (found.Refused n) = Refused n
-file_area_of (found.Area a) = Accepted a

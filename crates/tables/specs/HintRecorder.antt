@@ -1,6 +1,5 @@
 -- How the numbers of a hint recorder and its lent table stand for its value.
-use Rattle.std.specs.Prelude.{ℕ, List, length, Option, None, Some}
-use Rattle.rules.specs.declared.Hint.{Hint}
+use Rattle.std.specs.Prelude.{ℕ, List, length}
 use Rattle.rules.specs.declared.HintRecorder.{HintRecorder}
 use Rattle.rules.specs.Values as values
 use Rattle.tables.specs.Tables.{hints_in}

@@ -1,11 +1,8 @@
 -- How the numbers of an index and its seven lent tables stand for its value.
-use Rattle.std.specs.Prelude.{ℕ, ◌/◌, ◌-◌, ◌*◌, min, Bool, ◌&&◌, cond, List, [], ◌∷◌, ◌++◌, length, replicate, leb, ltb, eqb, Option, None, Some}
+use Rattle.std.specs.Prelude.{ℕ, ◌/◌, ◌-◌, ◌*◌, min, Bool, ◌&&◌, cond, List, [], ◌∷◌, ◌++◌, length, replicate, leb, ltb, eqb}
 use Rattle.rules.specs.declared.AreaIndex.{AreaIndex}
-use Rattle.rules.specs.declared.EndState.{EndState}
 use Rattle.field.specs.Number.{number_at}
 use Rattle.field.specs.Records.{records, bytes_of}
-use Rattle.rules.specs.declared.FrontierLsn.{FrontierLsn}
-use Rattle.rules.specs.declared.FrontierLsn.TheVariants as front
 use Rattle.rules.specs.declared.Made.{Made}
 use Rattle.rules.specs.declared.Made.TheVariants as made
 use Rattle.rules.specs.Values.{Lengths, Index, Frame, frontier_of}
@@ -170,10 +167,6 @@ made_out_of put t (Accepted x) = made_out (made.Index (numbers_from x)) (put x)
 unfoldable pub frontier_in : AreaIndex → Answer ℕ
 frontier_in x =
     after (first_no (ask (area_ok x.area) 1 ∷ [])) (Accepted (frontier_of x.area x.interval x.checkpoints x.ending))
-
-unfoldable pub frontier_answer : FrontierLsn → Answer ℕ
-frontier_answer (front.Refused n) = Refused n
-frontier_answer (front.Lsn n) = Accepted n
 
 -- the lower of two numbers, where 0 is none
 unfoldable pub lowest : ℕ → ℕ → ℕ

@@ -41,13 +41,11 @@ use Rattle.index.proofs.Back.{numbers_back}
 use Rattle.index.proofs.Lent.{put_back}
 use Rattle.index.proofs.Questions.{passes}
 use Rattle.plan.specs.Plan.{plan_in}
-use Rattle.rules.specs.declared.Recorded.TheVariants as recordedAs
 use Rattle.tables.specs.Recorder.{RecorderTables, recorder_room, recorder_in, recorder_kinds, recorder_from, recorder_over, assembling_in}
 use Rattle.recorder.specs.Recorder.{recorder_of, started_in, finished_in, recorder_out, record_out, record_in, boundary_at}
 use Rattle.absorb.specs.Absorb.{absorbed, kinded_both, absorb_in}
 use Rattle.absorb.specs.Absorb as absorbing
 use Rattle.tables.specs.Tables.{given_in, hints_of}
-use Rattle.rules.specs.declared.Saw.TheVariants as sawAs
 use Rattle.rules.specs.declared.Assembling as under
 use Rattle.hint_recorder.specs.HintRecorder.{created_in, see_in, flush_in, take_in}
 use Rattle.hint_recorder.specs.HintRecorder as hinting
@@ -82,14 +80,14 @@ use Rattle.theorems.proofs.disc.AcceptsInTables.{disc_save_accepts_in, disc_load
 never_0 : {P : Type 0} (ns : List ℕ) (m n : ℕ) → m ≡ n → m ≡ 0 → among ns 0 ≡ false → among ns n ≡ true → P
 never_0 ns m n e z f h = let q : n ≡ 0 = sym e ∙ z in never (rw q at h) f
 
-saw_refused : (t : List ℕ) (a : Answer rules.SeenSector) (n : ℕ) → (hinting.saw_out_of t a).answer ≡ sawAs.Refused n
+saw_refused : (t : List ℕ) (a : Answer rules.SeenSector) (n : ℕ) → (hinting.saw_out_of t a).answer ≡ Refused n
     → number_of a ≡ n
 unfolding hinting.saw_out_of number_of
 saw_refused t (Refused m) n e = cc
 saw_refused t (Accepted v) n e = let z : ◌≡◌ {A = ℕ} 0 1 = cc in let f : ⊥ = omega arith in absurd f
 
 see_accepted : (r : HintRecorder) (t : List ℕ) (lsn : ℕ) (sector : List ℕ) → ValidHintRecorderIn r t → (n : ℕ)
-    → (see_in r t lsn sector).answer ≢ sawAs.Refused n
+    → (see_in r t lsn sector).answer ≢ Refused n
 unfolding see_in among
 see_accepted r t lsn sector v n e =
     never_0 (3 ∷ 4 ∷ []) _ n (saw_refused t (see (length t / 8) (hint_recorder_in r t) lsn sector) n e)
@@ -132,7 +130,7 @@ record_accepted : (r : Recorder) (u : RecorderTables) (lsn threshold malformed :
     question5 v lsn sector ≡ true → question6 v threshold malformed ≡ true → question7 v lsn a ≡ true
     → let w = recorded v lsn threshold malformed a sector in
     record_in r u lsn threshold malformed f b sector
-    ≡ recorder_out (recordedAs.Recorder (recorder_from w)) (recorder_over w u)
+    ≡ recorder_out (Accepted (recorder_from w)) (recorder_over w u)
 unfolding record_in record_out
 record_accepted r u lsn threshold malformed f b sector v q5 q6 q7 =
     rw (
@@ -145,7 +143,7 @@ record_accepted r u lsn threshold malformed f b sector v q5 q6 q7 =
 finish_accepted : (r : Recorder) (u : RecorderTables) (e : EndState) → ValidRecorderIn r u → let v = recorder_in r u in
     is_running r.mode ≡ true → next_number v ≡ boundaries r.area r.interval
     → end_ok r.area (last_checkpoint v.checkpoints) e ≡ true
-    → finished_in r u e ≡ recordedAs.Recorder (recorder_from (with_mode v (Finished e)))
+    → finished_in r u e ≡ Accepted (recorder_from (with_mode v (Finished e)))
 unfolding finished_in recorder_of
 finish_accepted r u e v m n q =
     rw (
@@ -159,8 +157,8 @@ module _ (x : AreaIndex) (t : Tables) (image : Option ℕ) (given : List ℕ) (r
   both_kinds : (kinds_in x t && recorder_kinds r u) ≡ true
   both_kinds = rw (v.kinds, w.kinds) refl
 
-  absorb_accepted : is_stopped r.mode ≡ false → let i = index_in x t in let s = recorder_in r u in let id = id_in
-      image in let ms = given_in given in
+  absorb_accepted : is_stopped r.mode ≡ false → let i = index_in x t in let s = recorder_in r u in let id = image
+      in let ms = given_in given in
       question8 i id ≡ true → question9 i s ≡ true → question10 i s ≡ true → question11 i s ≡ true
       → question12 i s id ms ≡ true
       → let y = absorbed_index i s id ms in

@@ -32,7 +32,6 @@ use Rattle.index.proofs.Lent.{sized_in}
 use Rattle.index.proofs.Standing.{stands, stands_cleared, kinds_from}
 use Rattle.add_hints.specs.AddHints.{touched, add_hints_in}
 use Rattle.keep_hint.specs.KeepHint.{keep_hint_in}
-use Rattle.rules.specs.declared.Kept.TheVariants as kept
 use Rattle.confirmations.specs.Confirmations.{keep_in}
 use Rattle.confirmations.specs.Confirmations as keeping
 use Rattle.load.specs.Load.{load_in}
@@ -80,7 +79,7 @@ put→ put t (Accepted v) y t' h = (
 )
 
 kept→ : (t : Tables) (r : Answer (Option Index)) (y : AreaIndex) (t' : Tables) → keeping.kept_out_of t r
-    ≡ keeping.kept_out (kept.Index y) t'
+    ≡ keeping.kept_out (Accepted (Some y)) t'
     → (v : Index) × (r ≡ Accepted (Some v)) × (numbers_from v ≡ y) × (tables_from v t ≡ t')
 unfolding keeping.kept_out_of
 kept→ t (Refused n) y t' h = let a = ap (λ (o : keeping.KeptOut). o.answer) h in let z : ◌≡◌ {A = ℕ} 0 1 = cc
@@ -88,7 +87,7 @@ kept→ t (Refused n) y t' h = let a = ap (λ (o : keeping.KeptOut). o.answer) h
 kept→ t (Accepted None) y t' h = let a = ap (λ (o : keeping.KeptOut). o.answer) h in let z : ◌≡◌ {A = ℕ} 0 1 = cc
     in let f : ⊥ = omega arith in absurd f
 kept→ t (Accepted (Some v)) y t' h =
-    let a : kept.Index (numbers_from v) ≡ kept.Index y = ap (λ (o : keeping.KeptOut). o.answer) h
+    let a : Accepted (Some (numbers_from v)) ≡ Accepted (Some y) = ap (λ (o : keeping.KeptOut). o.answer) h
     in (v, refl, cc, ap (λ (o : keeping.KeptOut). o.tables) h)
 
 -- ---- new: no list lies in the tables
@@ -183,7 +182,7 @@ kept_is false i v e = cc
 
 confirmed_in : (x : AreaIndex) (t : Tables) (c : Confirmation) (y : AreaIndex) (t' : Tables) → LentIn x t
     → c.digest ≤ max64
-    → keep_in x t c ≡ keeping.kept_out (kept.Index y) t' → Stands y t'
+    → keep_in x t c ≡ keeping.kept_out (Accepted (Some y)) t' → Stands y t'
 unfolding keep_in keep_confirmation sized
 confirmed_in x t c y t' a l e =
     let j = index_in x t in

@@ -8,7 +8,7 @@ use borrow.Author.Tests.{le-leb}
 use lib.Dec.{eqb, leb}
 use lib.ListN.{length}
 use Rattle.rules.specs.declared.HintRecorder.{HintRecorder}
-use Rattle.rules.specs.Tests.{Accepted, ask, first_no, after, number_of, all}
+use Rattle.rules.specs.Tests.{Accepted, ask, first_no, after, number_of, all, Refused}
 use Rattle.rules.specs.Values.{Index, Hinting, boundaries}
 use Rattle.rules.specs.Questions.{recorder_question3, scan_room}
 use Rattle.rules.specs.Create.{empty_hint_recorder, hint_recorder}
@@ -16,9 +16,8 @@ use Rattle.rules.specs.File.{saved, saved_length, save}
 use Rattle.rules.proofs.Tests.{test}
 use Rattle.laws.proofs.Length.{saved_length_is}
 use Rattle.tables.specs.Index.{index_in, or_four, kinded_number, kinded, refusal}
-use Rattle.rules.specs.declared.Created.TheVariants as created
 use Rattle.hint_recorder.specs.HintRecorder.{created_from, created_in}
-use Rattle.rules.specs.declared.Saved.TheVariants as told
+use Rattle.std.specs.Prelude.{None, Some}
 use Rattle.save.specs.Save.{save_out, save_in}
 use Rattle.sizes.specs.Sizes.{sizes_of, file_length}
 use Rattle.blocks.specs.Calls.{saved_number}
@@ -27,11 +26,11 @@ use Rattle.theorems.proofs.Sizes.{fits24, fits8}
 use Rattle.theorems.proofs.Demand1.{some_number}
 
 -- ---- saving
-refused_told : (m n : ℕ) → 1 ≤ m → m ≤ 40 → Told (told.Refused m) n
+refused_told : (m n : ℕ) → 1 ≤ m → m ≤ 40 → Told (Refused m) n
 refused_told m n h g =
     ((λ e. let q : m ≡ n = cc in (omega arith, omega arith)), (λ e. let z : ◌≡◌ {A = ℕ} 0 1 = cc in omega arith))
 
-length_told : (x : Index) (n : ℕ) → Told (told.Length (length (saved x))) n
+length_told : (x : Index) (n : ℕ) → Told (Accepted (length (saved x))) n
 length_told x n = (
   (λ e. let z : ◌≡◌ {A = ℕ} 0 1 = cc in (omega arith, omega arith)),
   (λ e. let q : length (saved x) ≡ n = cc in omega (arith, (saved_length_is x).0, (saved_length_is x).1)),
@@ -106,17 +105,17 @@ pub hint_list_is_size : HintListIsSize
 hint_list_is_size list = fits8 65536 (length list)
 
 module _ {A : Type 0} {h : HintRecorder} where
-  not_refused : (n : ℕ) → created.Refused n ≡ created.Recorder h → A
+  not_refused : (n : ℕ) → Refused n ≡ Accepted (Some h) → A
   not_refused n e = let z : ◌≡◌ {A = ℕ} 0 1 = cc in let f : ⊥ = omega arith in absurd f
 
-  not_none : created.Nothing ≡ created.Recorder h → A
+  not_none : Accepted None ≡ Accepted (Some h) → A
   not_none e = let z : ◌≡◌ {A = ℕ} 0 1 = cc in let f : ⊥ = omega arith in absurd f
 
-same_spacing : (r h : HintRecorder) → created.Recorder r ≡ created.Recorder h → r.spacing ≡ h.spacing
+same_spacing : (r h : HintRecorder) → Accepted (Some r) ≡ Accepted (Some h) → r.spacing ≡ h.spacing
 same_spacing r h e = cc
 
 made_by : (k : Bool) (n : ℕ) (g : Hinting) (h : HintRecorder)
-    → created_from (kinded k (after n (Accepted (empty_hint_recorder g)))) ≡ created.Recorder h
+    → created_from (kinded k (after n (Accepted (empty_hint_recorder g)))) ≡ Accepted (Some h)
     → 1 ≤ h.spacing
 unfolding created_from kinded after
 made_by false n g h e = not_refused _ e

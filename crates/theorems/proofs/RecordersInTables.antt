@@ -48,14 +48,9 @@ use Rattle.tables.specs.Index.{Tables, room_of, index_in, kinds_ok, kinds_in, ki
 use Rattle.index.proofs.Back.{FrameFits, frames_back}
 use Rattle.index.proofs.Lent.{sized_in}
 use Rattle.index.proofs.Standing.{held_records, kinds_held}
-use Rattle.rules.specs.declared.Recorded.TheVariants as recordedAs
 use Rattle.tables.specs.Recorder.{RecorderTables, recorder_room, recorder_in, recorder_kinds, recorder_from, recorder_over, assembling_in}
 use Rattle.recorder.specs.Recorder.{recorder_of, started_in, finished_in, RecorderOut, recorder_out, record_out, record_in}
-use Rattle.rules.specs.declared.Created.TheVariants as createdAs
-use Rattle.rules.specs.declared.Saw.TheVariants as sawAs
-use Rattle.rules.specs.declared.Seen.TheVariants as seenAs
 use Rattle.rules.specs.declared.SeenSector.{SeenSector}
-use Rattle.rules.specs.declared.Taken.TheVariants as takenAs
 use Rattle.rules.specs.declared.TakenList.{TakenList}
 use Rattle.rules.specs.declared.Assembling as under
 use Rattle.hint_recorder.specs.HintRecorder.{created_in, see_in, flush_in, take_in}
@@ -241,25 +236,25 @@ stands_as v r u s e k =
     record { one = t.0; two = t.1; four = t.2; kinds = k }
 
 -- ---- recorder, record, finish
-numbers→ : (a : Answer values.Recorder) (n : Recorder) → recorder_of a ≡ recordedAs.Recorder n → (v : values.Recorder)
+numbers→ : (a : Answer values.Recorder) (n : Recorder) → recorder_of a ≡ Accepted n → (v : values.Recorder)
     × (a ≡ Accepted v) × (recorder_from v ≡ n)
 unfolding recorder_of
 numbers→ (Refused m) n e = let z : ◌≡◌ {A = ℕ} 0 1 = cc in let f : ⊥ = omega arith in absurd f
 numbers→ (Accepted v) n e = (v, refl, cc)
 
 tables→ : (u : RecorderTables) (a : Answer values.Recorder) (n : Recorder) (u' : RecorderTables) → record_out u a
-    ≡ recorder_out (recordedAs.Recorder n) u'
+    ≡ recorder_out (Accepted n) u'
     → (v : values.Recorder) × (a ≡ Accepted v) × (recorder_from v ≡ n) × (recorder_over v u ≡ u')
 unfolding record_out
 tables→ u (Refused m) n u' e = let a = ap (λ (o : RecorderOut). o.answer) e in let z : ◌≡◌ {A = ℕ} 0 1 = cc
     in let f : ⊥ = omega arith in absurd f
 tables→ u (Accepted v) n u' e =
-    let a : recordedAs.Recorder (recorder_from v)
-    ≡ recordedAs.Recorder n = ap (λ (o : RecorderOut). o.answer) e
+    let a : Accepted (recorder_from v)
+    ≡ Accepted n = ap (λ (o : RecorderOut). o.answer) e
     in (v, refl, cc, ap (λ (o : RecorderOut). o.tables) e)
 
 pub started_stands : (x : AreaIndex) (t : Tables) (from : ℕ) (r : Recorder) (u : RecorderTables) → started_in x t from
-    ≡ recordedAs.Recorder r → StandsRecorder r u
+    ≡ Accepted r → StandsRecorder r u
 unfolding started_in recorder records frames_of kinds_ok each
 started_stands x t from r u e =
     let i = index_in x t in
@@ -275,7 +270,7 @@ started_stands x t from r u e =
 pub recorded_stands : (r : Recorder) (u : RecorderTables) (lsn threshold malformed : ℕ) (f : Option under.Assembling)
     (b sector : List ℕ) (s : Recorder) (u' : RecorderTables)
     → RecorderBytes u → SignedIn f → Bytes b → record_in r u lsn threshold malformed f b sector
-    ≡ recorder_out (recordedAs.Recorder s) u' → StandsRecorder s u'
+    ≡ recorder_out (Accepted s) u' → StandsRecorder s u'
 unfolding record_in record_at
 recorded_stands r u lsn threshold malformed f b sector s u' g h k e =
     let w = recorder_in r u in
@@ -294,7 +289,7 @@ recorded_stands r u lsn threshold malformed f b sector s u' g h k e =
     (recorder_kinds_lemma n.0 t z u)))
 
 pub finished_stands : (r : Recorder) (u : RecorderTables) (e : EndState) (s : Recorder) → finished_in r u e
-    ≡ recordedAs.Recorder s → StandsRecorder s u
+    ≡ Accepted s → StandsRecorder s u
 unfolding finished_in finish
 finished_stands r u e s h =
     let w = recorder_in r u in
@@ -314,28 +309,28 @@ hints_stand v s t l e = subst (λ (r : HintRecorder). StandsHintRecorder r t) e
     (rw (records_length 8 decode_hint (length v.list) t) l)
 
 seen→ : (t : List ℕ) (a : Answer values.HintRecorder) (s : HintRecorder) (t' : List ℕ) → hinting.seen_out_of t a
-    ≡ hinting.seen_out (seenAs.Recorder s) t'
+    ≡ hinting.seen_out (Accepted s) t'
     → (v : values.HintRecorder) × (a ≡ Accepted v) × (hint_recorder_from v ≡ s)
 unfolding hinting.seen_out_of
 seen→ t (Refused n) s t' e = let a = ap (λ (o : hinting.SeenOut). o.answer) e in let z : ◌≡◌ {A = ℕ} 0 1 = cc
     in let f : ⊥ = omega arith in absurd f
-seen→ t (Accepted v) s t' e = let a : seenAs.Recorder (hint_recorder_from v)
-    ≡ seenAs.Recorder s = ap (λ (o : hinting.SeenOut). o.answer) e in (v, refl, cc)
+seen→ t (Accepted v) s t' e = let a : Accepted (hint_recorder_from v)
+    ≡ Accepted s = ap (λ (o : hinting.SeenOut). o.answer) e in (v, refl, cc)
 
 saw→ : (t : List ℕ) (a : Answer rules.SeenSector) (s : SeenSector) (t' : List ℕ) → hinting.saw_out_of t a
-    ≡ hinting.saw_out (sawAs.Sector s) t'
+    ≡ hinting.saw_out (Accepted s) t'
     → (v : rules.SeenSector) × (a ≡ Accepted v) × (hint_recorder_from v.recorder ≡ s.recorder)
 unfolding hinting.saw_out_of
 saw→ t (Refused n) s t' e = let a = ap (λ (o : hinting.SawOut). o.answer) e in let z : ◌≡◌ {A = ℕ} 0 1 = cc
     in let f : ⊥ = omega arith in absurd f
 saw→ t (Accepted v) s t' e =
-    let a : sawAs.Sector (record { first = v.first; recorder = hint_recorder_from v.recorder })
-    ≡ sawAs.Sector s = ap (λ (o : hinting.SawOut). o.answer) e in
+    let a : Accepted (record { first = v.first; recorder = hint_recorder_from v.recorder })
+    ≡ Accepted s = ap (λ (o : hinting.SawOut). o.answer) e in
     let q : record { first = v.first; recorder = hint_recorder_from v.recorder } ≡ s = cc in
     (v, refl, ap (λ (x : SeenSector). x.recorder) q)
 
 pub seen_stands : (r : HintRecorder) (t : List ℕ) (lsn : ℕ) (sector : List ℕ) (s : SeenSector) (t' : List ℕ)
-    → see_in r t lsn sector ≡ hinting.saw_out (sawAs.Sector s) t' → StandsHintRecorder s.recorder t'
+    → see_in r t lsn sector ≡ hinting.saw_out (Accepted s) t' → StandsHintRecorder s.recorder t'
 unfolding see_in
 seen_stands r t lsn sector s t' e =
     let n = saw→ t _ s t' e in
@@ -343,13 +338,13 @@ seen_stands r t lsn sector s t' e =
     (closure.seen (length t / 8) (hint_recorder_in r t) lsn sector n.0 n.1).four n.2
 
 pub flushed_stands : (r : HintRecorder) (t : List ℕ) (s : HintRecorder) (t' : List ℕ) → flush_in r t
-    ≡ hinting.seen_out (seenAs.Recorder s) t' → StandsHintRecorder s t'
+    ≡ hinting.seen_out (Accepted s) t' → StandsHintRecorder s t'
 unfolding flush_in
 flushed_stands r t s t' e =
     let n = seen→ t _ s t' e in hints_stand n.0 s t'
     (closure.flushed (length t / 8) (hint_recorder_in r t) n.0 n.1).four n.2
 
-created→ : (a : Answer (Option values.HintRecorder)) (r : HintRecorder) → hinting.created_from a ≡ createdAs.Recorder r
+created→ : (a : Answer (Option values.HintRecorder)) (r : HintRecorder) → hinting.created_from a ≡ Accepted (Some r)
     → (v : values.HintRecorder) × (a ≡ Accepted (Some v)) × (hint_recorder_from v ≡ r)
 unfolding hinting.created_from
 created→ (Refused n) r e = let z : ◌≡◌ {A = ℕ} 0 1 = cc in let f : ⊥ = omega arith in absurd f
@@ -357,14 +352,14 @@ created→ (Accepted None) r e = let z : ◌≡◌ {A = ℕ} 0 1 = cc in let f :
 created→ (Accepted (Some v)) r e = (v, refl, cc)
 
 pub created_stands : (x : AreaIndex) (t : Tables) (r : HintRecorder) (t' : List ℕ) → created_in x t
-    ≡ createdAs.Recorder r → StandsHintRecorder r t'
+    ≡ Accepted (Some r) → StandsHintRecorder r t'
 unfolding created_in
 created_stands x t r t' e =
     let n = created→ (kinded (kinds_in x t) (hint_recorder (room_of t) (index_in x t))) r e in
     let d = kinded→ (kinds_in x t) (hint_recorder (room_of t) (index_in x t)) (Some n.0) n.1 in
     hints_stand n.0 r t' (closure.hint_recording (room_of t) (index_in x t) n.0 d.1).four n.2
 
-taken→ : (a : Answer rules.TakenHints) (k : TakenList) → hinting.taken_from a ≡ takenAs.List k
+taken→ : (a : Answer rules.TakenHints) (k : TakenList) → hinting.taken_from a ≡ Accepted k
     → (v : rules.TakenHints) × (a ≡ Accepted v) × (hint_recorder_from v.recorder ≡ k.recorder)
 unfolding hinting.taken_from
 taken→ (Refused n) k e = let z : ◌≡◌ {A = ℕ} 0 1 = cc in let f : ⊥ = omega arith in absurd f
@@ -372,7 +367,7 @@ taken→ (Accepted v) k e =
     let q : record { count = length v.list; recorder = hint_recorder_from v.recorder }
     ≡ k = cc in (v, refl, ap (λ (l : TakenList). l.recorder) q)
 
-pub taken_stands : (r : HintRecorder) (t : List ℕ) (k : TakenList) → take_in r t ≡ takenAs.List k
+pub taken_stands : (r : HintRecorder) (t : List ℕ) (k : TakenList) → take_in r t ≡ Accepted k
     → StandsHintRecorder k.recorder t
 unfolding take_in
 taken_stands r t k e =

@@ -23,7 +23,6 @@ use Rattle.index.proofs.Standing.{stands}
 use Rattle.plan.specs.Plan.{plan_in}
 use Rattle.tables.specs.Recorder.{recorder_room, recorder_in}
 use Rattle.hint.specs.Hint.{hint_in}
-use Rattle.rules.specs.declared.Saved.TheVariants as told
 use Rattle.save.specs.Save.{SaveOut, save_out, save_in, made}
 use Rattle.theorems.specs.Useful.{LoadOf, MergedOf, AbsorbedOf}
 use Rattle.theorems.specs.UsefulInTables.{LoadKeepsIn, MergeTakesIn, AbsorbTakesIn, SaveOf, SaveTellsIn, PlanLooksIn, HintLooksIn}
@@ -73,11 +72,11 @@ unfolding save_in save_out save
 save_tells_in x t old n new e = told_of (kinded (kinds_in x t) (save (room_of t) (index_in x t) (length old))) refl e
   where
     told_of : (r : Answer (List ℕ)) → kinded (kinds_in x t) (save (room_of t) (index_in x t) (length old)) ≡ r
-        → save_out r old ≡ made (told.Length n) new → SaveOf (index_in x t) old n new
+        → save_out r old ≡ made (Accepted n) new → SaveOf (index_in x t) old n new
     told_of (Refused m) q h = let a = ap (λ (o : SaveOut). o.answer) h in let z : ◌≡◌ {A = ℕ} 0 1 = cc
         in let f : ⊥ = omega arith in absurd f
     told_of (Accepted b) q h =
-        let a : told.Length (length b) ≡ told.Length n = ap (λ (o : SaveOut). o.answer) h in
+        let a : Accepted (length b) ≡ Accepted n = ap (λ (o : SaveOut). o.answer) h in
         let l : length b ≡ n = cc in
         let k = kinded→ (kinds_in x t) (save (room_of t) (index_in x t) (length old)) b q in
         let f : saved (index_in x t) ≡ b = (accepted→ _ (saved (index_in x t)) b k.1).1 in

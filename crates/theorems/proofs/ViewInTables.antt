@@ -11,7 +11,6 @@ use Rattle.rules.specs.Tests.{Answer, Accepted, after, first_no}
 use Rattle.rules.specs.File.{over}
 use Rattle.rules_view.specs.View.{listener, workshop, is_role, view_bytes, view_length, view, view_size}
 use Rattle.tables.specs.Index.{Tables, room_of, index_in, kinds_in, kinded}
-use Rattle.rules.specs.declared.Viewed.TheVariants as viewed
 use Rattle.view.specs.View.{ViewOut, view_out, in_role, view_in, view_size_in}
 use Rattle.view.proofs.Layouts.{view_length_lemma}
 use Rattle.blocks.specs.Calls.{head_index, in_head}
@@ -39,14 +38,14 @@ listener_role = refl
 
 leaves : (role : ℕ) (x : AreaIndex) (t : Tables) (out : List ℕ) → ValidIn x t → is_role role ≡ true
     → view_length role (index_in x t) ≤ length out
-    → ((view_in role x t out).answer ≡ viewed.Length (view_length role (index_in x t)))
+    → ((view_in role x t out).answer ≡ Accepted (view_length role (index_in x t)))
     × ((view_in role x t out).out ≡ over (view_bytes role (index_in x t)) out)
 unfolding view_out
 leaves role x t out v r h =
     let e : view_in role x t out ≡ view_out (Accepted (view_bytes role (index_in x t))) out =
     plain role x t v.kinds r out ∙ ap (λ (b : Answer (List ℕ)). view_out b out)
     (refuses_nothing.views role (room_of t) (index_in x t) (length out) v.valid r h) in (
-      ap (λ (o : ViewOut). o.answer) e ∙ ap viewed.Length (view_length_lemma role (index_in x t)),
+      ap (λ (o : ViewOut). o.answer) e ∙ ap Accepted (view_length_lemma role (index_in x t)),
       ap (λ (o : ViewOut). o.out) e,
     )
 

@@ -1,5 +1,5 @@
 -- Each accepted call leaves numbers and tables that no next call refuses with 1, 2 or 4, kinds included.
-use Rattle.std.specs.Prelude.{ℕ, ◌≤◌, ◌≡◌, true, List, Option}
+use Rattle.std.specs.Prelude.{ℕ, ◌≤◌, ◌≡◌, true, List, Option, Some}
 use Rattle.field.specs.Records.{Bytes}
 use Rattle.rules.specs.declared.Area.{Area}
 use Rattle.rules.specs.declared.AreaIndex.{AreaIndex}
@@ -15,20 +15,14 @@ use Rattle.tables.specs.Index.{Tables, index_in, kinds_in, made_out}
 use Rattle.index.specs.Index.{new_in, bound_in}
 use Rattle.add_hints.specs.AddHints.{add_hints_in}
 use Rattle.keep_hint.specs.KeepHint.{keep_hint_in}
-use Rattle.rules.specs.declared.Kept.TheVariants as kept
 use Rattle.confirmations.specs.Confirmations.{keep_in}
 use Rattle.confirmations.specs.Confirmations as keeping
 use Rattle.load.specs.Load.{load_in}
 use Rattle.merge.specs.Merge.{merge_in}
-use Rattle.rules.specs.declared.Recorded.TheVariants as recordedAs
 use Rattle.tables.specs.Recorder.{RecorderTables}
 use Rattle.recorder.specs.Recorder.{started_in, finished_in, recorder_out, record_in}
 use Rattle.absorb.specs.Absorb.{absorb_in}
-use Rattle.rules.specs.declared.Created.TheVariants as createdAs
-use Rattle.rules.specs.declared.Saw.TheVariants as sawAs
-use Rattle.rules.specs.declared.Seen.TheVariants as seenAs
 use Rattle.rules.specs.declared.SeenSector.{SeenSector}
-use Rattle.rules.specs.declared.Taken.TheVariants as takenAs
 use Rattle.rules.specs.declared.TakenList.{TakenList}
 use Rattle.rules.specs.declared.Assembling as under
 use Rattle.hint_recorder.specs.HintRecorder.{created_in, see_in, flush_in, take_in}
@@ -53,7 +47,7 @@ pub record ClosureInTables : Type 0 where
       ≡ made_out (made.Index y) t' → Stands y t'
   pub confirmed : (x : AreaIndex) (t : Tables) (c : Confirmation) (y : AreaIndex) (t' : Tables) → LentIn x t
       → c.digest ≤ max64
-      → keep_in x t c ≡ keeping.kept_out (kept.Index y) t' → Stands y t'
+      → keep_in x t c ≡ keeping.kept_out (Accepted (Some y)) t' → Stands y t'
   pub loaded : (a : Area) (b : List ℕ) (limit : ℕ) (t : Tables) (y : AreaIndex) (t' : Tables) → Bytes b
       → load_in a b limit t ≡ made_out (made.Index y) t' → Stands y t'
   pub merged : (x : AreaIndex) (t : Tables) (y : AreaIndex) (u : Tables) (z : AreaIndex) (t' : Tables) → LentIn x t
@@ -61,13 +55,13 @@ pub record ClosureInTables : Type 0 where
       → merge_in x t y u ≡ made_out (made.Index z) t' → Stands z t'
   -- recorders: a new one holds nothing, whatever tables u it is given
   pub recording : (x : AreaIndex) (t : Tables) (from : ℕ) (r : Recorder) (u : RecorderTables) → started_in x t from
-      ≡ recordedAs.Recorder r → StandsRecorder r u
+      ≡ Accepted r → StandsRecorder r u
   pub recorded : (r : Recorder) (u : RecorderTables) (lsn threshold malformed : ℕ) (f : Option under.Assembling)
       (b sector : List ℕ) (s : Recorder) (u' : RecorderTables)
       → RecorderBytes u → SignedIn f → Bytes b → record_in r u lsn threshold malformed f b sector
-      ≡ recorder_out (recordedAs.Recorder s) u' → StandsRecorder s u'
+      ≡ recorder_out (Accepted s) u' → StandsRecorder s u'
   pub finished : (r : Recorder) (u : RecorderTables) (e : EndState) (s : Recorder) → finished_in r u e
-      ≡ recordedAs.Recorder s → StandsRecorder s u
+      ≡ Accepted s → StandsRecorder s u
   pub absorbed : (x : AreaIndex) (t : Tables) (image : Option ℕ) (given : List ℕ) (r : Recorder) (u : RecorderTables)
       → LentIn x t → RecorderBytes u
       → let o = absorb_in x t image given r u in
@@ -78,10 +72,10 @@ pub record ClosureInTables : Type 0 where
       o.answer.number ≡ 8 → StandsRecorder o.answer.recorder u
   -- hint recorders: a new one lists nothing, whatever table t' it is given
   pub hint_recording : (x : AreaIndex) (t : Tables) (r : HintRecorder) (t' : List ℕ) → created_in x t
-      ≡ createdAs.Recorder r → StandsHintRecorder r t'
+      ≡ Accepted (Some r) → StandsHintRecorder r t'
   pub seen : (r : HintRecorder) (t : List ℕ) (lsn : ℕ) (sector : List ℕ) (s : SeenSector) (t' : List ℕ)
-      → see_in r t lsn sector ≡ hinting.saw_out (sawAs.Sector s) t' → StandsHintRecorder s.recorder t'
+      → see_in r t lsn sector ≡ hinting.saw_out (Accepted s) t' → StandsHintRecorder s.recorder t'
   pub flushed : (r : HintRecorder) (t : List ℕ) (s : HintRecorder) (t' : List ℕ) → flush_in r t
-      ≡ hinting.seen_out (seenAs.Recorder s) t' → StandsHintRecorder s t'
-  pub taken : (r : HintRecorder) (t : List ℕ) (k : TakenList) → take_in r t ≡ takenAs.List k
+      ≡ hinting.seen_out (Accepted s) t' → StandsHintRecorder s t'
+  pub taken : (r : HintRecorder) (t : List ℕ) (k : TakenList) → take_in r t ≡ Accepted k
       → StandsHintRecorder k.recorder t

@@ -5,12 +5,12 @@ use Rattle.rules.specs.declared.AreaIndex.{AreaIndex}
 use Rattle.rules.specs.File.{over, saved}
 use Rattle.rules.specs.declared.Made.TheVariants as made
 use Rattle.tables.specs.Index.{Tables, index_in, made_out}
-use Rattle.rules.specs.declared.Saved.TheVariants.{Length}
 use Rattle.save.specs.Save as saving
 use Rattle.load.specs.Load.{load_in}
 use Rattle.rules_disc.specs.declared.Listed.{Listed}
 use Rattle.rules_disc.specs.declared.Listed.TheVariants as listed
 use Rattle.rules_disc.specs.declared.Loaded.TheVariants as loaded
+use Rattle.rules.specs.Tests.{Accepted}
 use Rattle.disc_load.specs.DiscLoad.{disc_out, load_disc_in}
 use Rattle.disc_save.specs.DiscSave.{save_one_in, save_both_in}
 use Rattle.blocks.specs.Calls.{called, head_index}
@@ -24,19 +24,19 @@ use Rattle.theorems.specs.DiscFile.{body_in}
 pub record ListFileIn (x : AreaIndex) (t : Tables) (o : Option (List ℕ)) : Type 0 where
   pub file : o ≡ Some (saved (index_in x t))
   pub saves : (old : List ℕ) → let b = saved (index_in x t) in
-      length b ≤ length old → saving.save_in x t old ≡ saving.made (Length (length b)) (over b old)
+      length b ≤ length old → saving.save_in x t old ≡ saving.made (Accepted (length b)) (over b old)
 
 -- k bytes of new are the file
 pub record SavedBodiesIn : Type 0 where
   pub both : (x y : AreaIndex) (t u : Tables) (old : List ℕ) (k : ℕ) (new : List ℕ) → save_both_in x t y u old
-      ≡ saving.made (Length k) new
+      ≡ saving.made (Accepted k) new
       → ListFileIn x t (body_in (take k new) x.area.key.slot)
       × ListFileIn y u (body_in (take k new) y.area.key.slot)
   pub one : (x : AreaIndex) (t : Tables) (old : List ℕ) (k : ℕ) (new : List ℕ) → save_one_in x t old
-      ≡ saving.made (Length k) new
+      ≡ saving.made (Accepted k) new
       → ListFileIn x t (body_in (take k new) x.area.key.slot)
   pub other : (x : AreaIndex) (t : Tables) (old : List ℕ) (k : ℕ) (new : List ℕ) (s : ℕ) → save_one_in x t old
-      ≡ saving.made (Length k) new → s ≢ x.area.key.slot
+      ≡ saving.made (Accepted k) new → s ≢ x.area.key.slot
       → body_in (take k new) s ≡ None
 
 -- the same in C

@@ -11,7 +11,6 @@ use Rattle.rules.specs.Load.{load}
 use Rattle.rules_disc.specs.Disc.{slot_area, contents_ok, disc_bytes}
 use Rattle.tables.specs.Index.{Tables, room_of, index_in}
 use Rattle.tables.specs.Lent.{Typed, TableBytes}
-use Rattle.rules.specs.declared.Saved.TheVariants.{Length}
 use Rattle.save.specs.Save.{made}
 use Rattle.laws.specs.Statements.{stripped}
 use Rattle.theorems.specs.Terms.{ValidIn, Ample}
@@ -48,19 +47,19 @@ pub record HoldsSecond (o : DiscOut) (t : Tables) (y : Index) : Type 0 where
 pub record SavedDiscLoadsIn : Type 0 where
   pub both : (x y : AreaIndex) (t u : Tables) (old : List ℕ) (k : ℕ) (new : List ℕ) (limit : ℕ) (t' u' : Tables)
       → Typed x → Typed y → TableBytes t → TableBytes u
-      → x.area.key.slot ≡ 0 → y.area.key.slot ≡ 1 → save_both_in x t y u old ≡ made (Length k) new
+      → x.area.key.slot ≡ 0 → y.area.key.slot ≡ 1 → save_both_in x t y u old ≡ made (Accepted k) new
       → question3 (room_of t') (index_in x t) ≡ true → question3 (room_of u') (index_in y u) ≡ true
       → Ample limit (index_in x t) → Ample limit (index_in y u)
       → HoldsBoth (load_disc_in x.area y.area (take k new) limit t' u') (stripped (index_in x t))
       (stripped (index_in y u))
   pub first : (x : AreaIndex) (t : Tables) (a : Area) (old : List ℕ) (k : ℕ) (new : List ℕ) (limit : ℕ)
       (t' u' : Tables) → Typed x → TableBytes t
-      → x.area.key.slot ≡ 0 → slot_area 1 a ≡ true → save_one_in x t old ≡ made (Length k) new
+      → x.area.key.slot ≡ 0 → slot_area 1 a ≡ true → save_one_in x t old ≡ made (Accepted k) new
       → question3 (room_of t') (index_in x t) ≡ true → Ample limit (index_in x t)
       → HoldsFirst (load_disc_in x.area a (take k new) limit t' u') (stripped (index_in x t)) u'
   pub second : (y : AreaIndex) (u : Tables) (a : Area) (old : List ℕ) (k : ℕ) (new : List ℕ) (limit : ℕ)
       (t' u' : Tables) → Typed y → TableBytes u
-      → y.area.key.slot ≡ 1 → slot_area 0 a ≡ true → save_one_in y u old ≡ made (Length k) new
+      → y.area.key.slot ≡ 1 → slot_area 0 a ≡ true → save_one_in y u old ≡ made (Accepted k) new
       → question3 (room_of u') (index_in y u) ≡ true → Ample limit (index_in y u)
       → HoldsSecond (load_disc_in a y.area (take k new) limit t' u') t' (stripped (index_in y u))
   -- whichever is given first
@@ -72,17 +71,17 @@ pub record LoadedDiscSavesIn : Type 0 where
       → Bytes b → WholeDisc a0 a1 b limit
       → load_disc_in a0 a1 b limit t u ≡ disc_out (loaded.Lists (listed.Index x) (listed.Index y)) t' u'
       → length b ≤ length old
-      → save_both_in x t' y u' old ≡ made (Length (length b)) (over b old)
+      → save_both_in x t' y u' old ≡ made (Accepted (length b)) (over b old)
   pub first : (a0 a1 : Area) (b : List ℕ) (limit : ℕ) (t u : Tables) (x : AreaIndex) (t' u' : Tables) (old : List ℕ)
       → Bytes b → WholeDisc a0 a1 b limit
       → load_disc_in a0 a1 b limit t u ≡ disc_out (loaded.Lists (listed.Index x) listed.Absent) t' u'
       → length b ≤ length old
-      → save_one_in x t' old ≡ made (Length (length b)) (over b old)
+      → save_one_in x t' old ≡ made (Accepted (length b)) (over b old)
   pub second : (a0 a1 : Area) (b : List ℕ) (limit : ℕ) (t u : Tables) (y : AreaIndex) (t' u' : Tables) (old : List ℕ)
       → Bytes b → WholeDisc a0 a1 b limit
       → load_disc_in a0 a1 b limit t u ≡ disc_out (loaded.Lists listed.Absent (listed.Index y)) t' u'
       → length b ≤ length old
-      → save_one_in y u' old ≡ made (Length (length b)) (over b old)
+      → save_one_in y u' old ≡ made (Accepted (length b)) (over b old)
 
 -- ---- a disc file of two lists is their saved content's
 pub record OneDiscFileIn : Type 0 where
@@ -101,12 +100,12 @@ pub record DiscSaveAcceptsIn : Type 0 where
       → y.area.key.slot ≡ 1
       → let i = index_in x t in let j = index_in y u in let b = disc_bytes (i ∷ j ∷ []) in
       28 + length (saved i) ≤ max32 → length (saved j) ≤ max32 → 28 + length (saved i) + length (saved j) ≤ length old
-      → (save_both_in x t y u old ≡ made (Length (length b)) (over b old))
-      × (save_both_in y u x t old ≡ made (Length (length b)) (over b old))
+      → (save_both_in x t y u old ≡ made (Accepted (length b)) (over b old))
+      × (save_both_in y u x t old ≡ made (Accepted (length b)) (over b old))
   pub one : (x : AreaIndex) (t : Tables) (old : List ℕ) → ValidIn x t
       → let i = index_in x t in let b = disc_bytes (i ∷ []) in
       length (saved i) ≤ max32 → 16 + length (saved i) ≤ length old → save_one_in x t old
-      ≡ made (Length (length b)) (over b old)
+      ≡ made (Accepted (length b)) (over b old)
 
 -- a disc file whose table is right and whose bodies load is loaded, all lists
 pub record DiscLoadAcceptsIn : Type 0 where

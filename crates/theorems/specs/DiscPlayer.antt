@@ -2,11 +2,9 @@
 use Rattle.std.specs.Prelude.{ℕ, ◌≤◌, ◌≡◌, Bool, true, List, length, Option, None, Some}
 use Rattle.rules.specs.declared.Area.{Area}
 use Rattle.rules.specs.declared.AreaIndex.{AreaIndex}
-use Rattle.rules.specs.Tests.{Refused, Accepted}
+use Rattle.rules.specs.Tests.{Refused, Accepted, Answer}
 use Rattle.rules_disc.specs.Disc.{Disc, entries_in, entry_of, body_at, load_disc}
 use Rattle.tables.specs.Index.{Tables, room_of}
-use Rattle.rules.specs.declared.Saved.{Saved}
-use Rattle.rules.specs.declared.Saved.TheVariants as saved
 use Rattle.rules.specs.declared.TableSizes.{TableSizes}
 use Rattle.sizes.specs.Sizes.{has_sizes}
 use Rattle.blocks.specs.Calls.{saved_number}
@@ -15,8 +13,8 @@ use Rattle.disc_load.specs.DiscLoad.{DiscSizes, body_sizes, disc_sizes}
 
 -- ---- saving
 -- a refusal number is 1 to 54, a length at least 104: one number tells both
-abbrev pub DiscTold : Saved → ℕ → Type 0
-DiscTold s n = (s ≡ saved.Refused n → (1 ≤ n) × (n ≤ 54)) × (s ≡ saved.Length n → 104 ≤ n)
+abbrev pub DiscTold : Answer ℕ → ℕ → Type 0
+DiscTold s n = (s ≡ Refused n → (1 ≤ n) × (n ≤ 54)) × (s ≡ Accepted n → 104 ≤ n)
 
 pub record DiscSaveNumber : Type 0 where
   pub one : (x : AreaIndex) (t : Tables) (out : List ℕ) (n : ℕ) → DiscTold (save_one_in x t out).answer n

@@ -9,7 +9,6 @@ use Rattle.rules.specs.Load.{load}
 use Rattle.blocks.specs.Blocks.{is_index}
 use Rattle.rules_disc.specs.Disc.{slot_of, slot_area, contents_ok, load_body, save_one, save_both, load_disc}
 use Rattle.tables.specs.Index.{Tables, room_of, index_in}
-use Rattle.rules.specs.declared.Saved.TheVariants as told
 use Rattle.save.specs.Save as saving
 use Rattle.rules_disc.specs.declared.Loaded.TheVariants as loaded
 use Rattle.disc_load.specs.DiscLoad.{disc_out, load_disc_in}
@@ -53,10 +52,10 @@ pub record DiscRefusalsIn : Type 0 where
       → load_disc_in a0 a1 b limit t u ≡ disc_out (loaded.Refused n) t u
   pub saves : (x : AreaIndex) (t : Tables) (old : List ℕ) (n : ℕ) → ValidIn x t
       → save_one (room_of t) (index_in x t) (length old) ≡ Refused n
-      → save_one_in x t old ≡ saving.made (told.Refused n) old
+      → save_one_in x t old ≡ saving.made (Refused n) old
   pub saves_both : (x y : AreaIndex) (t u : Tables) (old : List ℕ) (n : ℕ) → ValidIn x t → ValidIn y u
       → save_both (room_of t) (index_in x t) (room_of u) (index_in y u) (length old) ≡ Refused n → save_both_in x t y u old
-      ≡ saving.made (told.Refused n) old
+      ≡ saving.made (Refused n) old
 
 -- in C: of heads that are saved, and of blocks to load into that are long enough
 pub record DiscRefusalsInC : Type 0 where

@@ -1,5 +1,5 @@
 -- What a player in C rests on: the one number that saving answers, and the tables of lists and recorders.
-use Rattle.std.specs.Prelude.{ℕ, ◌/◌, ◌≤◌, ◌≡◌, Bool, true, List, [], ◌∷◌, ◌≢◌, leb, length}
+use Rattle.std.specs.Prelude.{ℕ, ◌/◌, ◌≤◌, ◌≡◌, Bool, true, List, [], ◌∷◌, ◌≢◌, leb, length, Some}
 use Rattle.rules.specs.declared.Area.{Area}
 use Rattle.rules.specs.declared.AreaIndex.{AreaIndex}
 use Rattle.rules.specs.declared.HintRecorder.{HintRecorder}
@@ -10,10 +10,7 @@ use Rattle.rules.specs.Questions.{area_ok, question3, recorder_question3}
 use Rattle.rules.specs.Load.{from_bytes, limited, load}
 use Rattle.tables.specs.Index.{Tables, room_of}
 use Rattle.tables.specs.Recorder.{RecorderTables, recorder_room}
-use Rattle.rules.specs.declared.Created.TheVariants as created
 use Rattle.hint_recorder.specs.HintRecorder.{created_in}
-use Rattle.rules.specs.declared.Saved.{Saved}
-use Rattle.rules.specs.declared.Saved.TheVariants as saved
 use Rattle.save.specs.Save.{save_in}
 use Rattle.rules.specs.declared.TableSizes.{TableSizes}
 use Rattle.sizes.specs.Sizes.{sizes_of, sizes_for, has_sizes, file_sizes, file_length, file_area}
@@ -21,8 +18,8 @@ use Rattle.blocks.specs.Calls.{saved_number}
 
 -- ---- saving
 -- a refusal number is 1 to 40, a length at least 88: one number tells both
-abbrev pub Told : Saved → ℕ → Type 0
-Told s n = (s ≡ saved.Refused n → (1 ≤ n) × (n ≤ 40)) × (s ≡ saved.Length n → 88 ≤ n)
+abbrev pub Told : Answer ℕ → ℕ → Type 0
+Told s n = (s ≡ Refused n → (1 ≤ n) × (n ≤ 40)) × (s ≡ Accepted n → 88 ≤ n)
 
 abbrev pub SaveNumber : Type 0
 SaveNumber = (x : AreaIndex) (t : Tables) (out : List ℕ) (n : ℕ) → Told (save_in x t out).answer n
@@ -76,7 +73,7 @@ HintListIsSize = (list : List ℕ) → leb max_list (length list / 8) ≡ leb 52
 
 -- a hint recorder that is made has a spacing: a first word of 0 tells that there is none
 abbrev pub MadeHasSpacing : Type 0
-MadeHasSpacing = (x : AreaIndex) (t : Tables) (h : HintRecorder) → created_in x t ≡ created.Recorder h → 1 ≤ h.spacing
+MadeHasSpacing = (x : AreaIndex) (t : Tables) (h : HintRecorder) → created_in x t ≡ Accepted (Some h) → 1 ≤ h.spacing
 
 -- ---- the area of a file
 pub record FileAreaIsLoadings : Type 0 where

@@ -12,7 +12,6 @@ use Rattle.rules.specs.declared.Made.TheVariants as made
 use Rattle.rules.specs.File.{over}
 use Rattle.tables.specs.Index.{Tables, room_of, index_in, MadeOut, made_out}
 use Rattle.tables.specs.Lent.{Typed, TableBytes}
-use Rattle.rules.specs.declared.Saved.TheVariants.{Length}
 use Rattle.save.specs.Save.{save_in}
 use Rattle.save.specs.Save as saving
 use Rattle.load.specs.Load.{load_in}
@@ -28,7 +27,7 @@ abbrev pub SavedLoadsIn : Type 0
 SavedLoadsIn =
     (x : AreaIndex) (t : Tables) (old : List ℕ) (k : ℕ) (new : List ℕ) (limit : ℕ) (t' : Tables) → Typed x
     → TableBytes t
-    → save_in x t old ≡ saving.made (Length k) new → x.budget ≤ limit → 16 * x.most ≤ limit
+    → save_in x t old ≡ saving.made (Accepted k) new → x.budget ≤ limit → 16 * x.most ≤ limit
     → question3 (room_of t') (index_in x t) ≡ true
     → HoldsList (load_in x.area (take k new) limit t') (stripped (index_in x t))
 
@@ -38,4 +37,4 @@ LoadedSavesIn =
     (a : Area) (b : List ℕ) (limit : ℕ) (t : Tables) (x : Index) (y : AreaIndex) (t' : Tables) (old : List ℕ) → Bytes b
     → from_bytes a b ≡ Accepted x → x.scan.budget ≤ limit → 16 * x.hinting.most ≤ limit
     → load_in a b limit t ≡ made_out (made.Index y) t' → length b ≤ length old → save_in y t' old
-    ≡ saving.made (Length (length b)) (over b old)
+    ≡ saving.made (Accepted (length b)) (over b old)

@@ -8,8 +8,7 @@ use Rattle.rules.specs.declared.Made.{Made}
 use Rattle.rules.specs.declared.Made.TheVariants as made
 use Rattle.tables.specs.Index.{Tables, room_of, index_in, kinds_in, MadeOut}
 use Rattle.tables.specs.Lent.{Typed, TableBytes}
-use Rattle.rules.specs.declared.Saved as declared
-use Rattle.rules.specs.declared.Saved.TheVariants as answer
+use Rattle.rules.specs.Tests.{Accepted, Refused, Answer}
 use Rattle.save.specs.Save.{SaveOut, save_in}
 use Rattle.load.specs.Load.{load_in}
 use Rattle.merge.specs.Merge.{merge_in}
@@ -47,9 +46,9 @@ abbrev pub placed : TablePlace → MadeOut → TablePlace
 placed p o = record { numbers = numbers_after p.numbers o.answer; tables = o.tables }
 
 -- the file that an accepted save wrote
-unfoldable pub file_of : ℕ → SaveOut → declared.Saved → Option Saved
-file_of i o (answer.Refused n) = None
-file_of i o (answer.Length n) = Some (record { place = i; bytes = take n o.out })
+unfoldable pub file_of : ℕ → SaveOut → Answer ℕ → Option Saved
+file_of i o (Refused n) = None
+file_of i o (Accepted n) = Some (record { place = i; bytes = take n o.out })
 
 abbrev pub merging : TablePlace → TablePlace → MadeOut
 merging own other = merge_in own.numbers own.tables other.numbers other.tables

@@ -10,7 +10,7 @@ use Rattle.rules.specs.declared.Mode.TheVariants.{Running, Finished, Stopped}
 use Rattle.rules.specs.declared.Plan.{Plan}
 use Rattle.rules.specs.declared.Plan.TheVariants.{End}
 use Rattle.rules.specs.declared.Recorder.{Recorder}
-use Rattle.rules.specs.Tests.{is_some, agree, Accepted, number_of}
+use Rattle.rules.specs.Tests.{is_some, agree, Accepted, number_of, Refused}
 use Rattle.rules.specs.Values.{Index, max32, max_hints, no_hint, boundaries, lsn_of, frontier_of, last_checkpoint, stated, is_checked}
 use Rattle.rules.specs.Sections.{end_ok}
 use Rattle.rules.specs.Questions.{area_ok, numbers_ok, question1, question2, question3}
@@ -31,30 +31,22 @@ use Rattle.rules_coarsen.specs.Coarse.{coarser, question47, question48}
 use Rattle.tables.specs.Index.{Tables, room_of, index_in, numbers_from, tables_from, tables_cleared, frontier_in, MadeOut, made_out}
 use Rattle.tables.specs.Lent.{TableBytes}
 use Rattle.index.specs.Index.{new_in, bound_in}
-use Rattle.rules.specs.declared.Recorded.TheVariants as recordedAs
 use Rattle.tables.specs.Recorder.{RecorderTables, recorder_in, recorder_from, recorder_over, assembling_in}
 use Rattle.recorder.specs.Recorder.{started_in, finished_in, recorder_out, record_in, checkpoint_lsn, due_at}
-use Rattle.rules.specs.declared.Boundary.TheVariants as boundaryAs
 use Rattle.absorb.specs.Absorb.{absorbed, absorb_in}
 use Rattle.absorb.specs.Absorb as absorbing
 use Rattle.tables.specs.Tables.{given_in, hints_of}
-use Rattle.rules.specs.declared.Created.TheVariants as createdAs
-use Rattle.rules.specs.declared.Saw.TheVariants as sawAs
-use Rattle.rules.specs.declared.Seen.TheVariants as seenAs
-use Rattle.rules.specs.declared.Taken.TheVariants as takenAs
 use Rattle.hint_recorder.specs.HintRecorder.{created_in, see_in, flush_in, take_in}
 use Rattle.hint_recorder.specs.HintRecorder as hinting
 use Rattle.tables.specs.HintRecorder.{hint_recorder_from, hint_recorder_in}
 use Rattle.add_hints.specs.AddHints.{touched, add_hints_in}
 use Rattle.keep_hint.specs.KeepHint.{keep_hint_in}
-use Rattle.rules.specs.declared.Kept.TheVariants as keptAs
 use Rattle.confirmations.specs.Confirmations.{keep_in}
 use Rattle.confirmations.specs.Confirmations as keeping
 use Rattle.adds.specs.Adds.{brings_of, adds_in}
 use Rattle.lacks.specs.Lacks.{lacks_in}
 use Rattle.plan.specs.Plan.{plan_in}
 use Rattle.hint.specs.Hint.{hint_in}
-use Rattle.rules.specs.declared.Saved.TheVariants.{Length}
 use Rattle.save.specs.Save as saving
 use Rattle.load.specs.Load.{load_in}
 use Rattle.rules.specs.declared.TableSizes.{TableSizes}
@@ -90,7 +82,7 @@ pub record RefusesNothingIn : Type 0 where
   -- a complete index gives a stopped recorder
   pub recorders : (x : AreaIndex) (t : Tables) (from : ℕ) → ValidIn x t
       → started_in x t from
-      ≡ recordedAs.Recorder (record {
+      ≡ Accepted (record {
         area = x.area;
         interval = x.interval;
         budget = x.budget;
@@ -102,10 +94,10 @@ pub record RefusesNothingIn : Type 0 where
         mode = cond (is_some x.ending) Stopped Running;
       })
   pub hint_recorders : (x : AreaIndex) (t : Tables) → ValidIn x t → x.spacing ≢ 0 → x.most ≢ 0
-      → created_in x t ≡ createdAs.Recorder (record { spacing = x.spacing; last = None; tail = None; count = 0 })
+      → created_in x t ≡ Accepted (Some (record { spacing = x.spacing; last = None; tail = None; count = 0 }))
   -- spacing or M of 0: no hint recorder
   pub no_hint_recorder : (x : AreaIndex) (t : Tables) → ValidIn x t → (eqb x.spacing 0 || eqb x.most 0) ≡ true
-      → created_in x t ≡ createdAs.Nothing
+      → created_in x t ≡ Accepted None
   pub adds_hints : (x : AreaIndex) (t : Tables) (list : List ℕ) → ValidIn x t → question13 (hints_of list) ≡ true
       → let i = index_in x t in let y = with_hinting i (with_hints x.area i.hinting (hints_of list)) in
       add_hints_in x t list ≡ made_out (madeAs.Index (numbers_from y))
@@ -118,16 +110,16 @@ pub record RefusesNothingIn : Type 0 where
       → is_checked x.fingerprint ≡ true → x.most ≢ 0
       → let i = index_in x t in let y = with_hinting i
       (with_confirmed i.hinting (keep true x.most i.hinting.confirmed c)) in
-      keep_in x t c ≡ keeping.kept_out (keptAs.Index (numbers_from y)) (tables_from y t)
+      keep_in x t c ≡ keeping.kept_out (Accepted (Some (numbers_from y))) (tables_from y t)
   -- nothing is kept, and that is the answer
   pub keeps_none : (x : AreaIndex) (t : Tables) (c : Confirmation) → ValidIn x t → question14 x.area c ≡ true
       → keeps_nothing (is_checked x.fingerprint) x.most ≡ true
-      → keep_in x t c ≡ keeping.kept_out keptAs.Nothing t
+      → keep_in x t c ≡ keeping.kept_out (Accepted None) t
   pub hints : (x : AreaIndex) (t : Tables) (first end playtime : ℕ) → ValidIn x t → first ≤ end
       → number_of (hint_in x t first end playtime) ≡ 0
   pub plans : (x : AreaIndex) (t : Tables) (f : ℕ) → ValidIn x t → (p : Plan) × (plan_in x t f ≡ Accepted p)
   pub saves : (x : AreaIndex) (t : Tables) (old : List ℕ) → ValidIn x t → saved_length (index_in x t) ≤ length old
-      → saving.save_in x t old ≡ saving.made (Length (length (saved (index_in x t)))) (over (saved (index_in x t)) old)
+      → saving.save_in x t old ≡ saving.made (Accepted (length (saved (index_in x t)))) (over (saved (index_in x t)) old)
   pub merges : (x : AreaIndex) (t : Tables) (y : AreaIndex) (u : Tables) → ValidIn x t → ValidIn y u
       → let i = index_in x t in let j = index_in y u in
       question41 i j ≡ true → question42 i j ≡ true → question43 i j ≡ true → is_accepted (merge_in x t y u).answer
@@ -149,11 +141,11 @@ pub record RefusesNothingIn : Type 0 where
       question5 v lsn sector ≡ true → question6 v threshold malformed ≡ true → question7 v lsn a ≡ true
       → let w = recorded v lsn threshold malformed a sector in
       record_in r u lsn threshold malformed f b sector
-      ≡ recorder_out (recordedAs.Recorder (recorder_from w)) (recorder_over w u)
+      ≡ recorder_out (Accepted (recorder_from w)) (recorder_over w u)
   pub finishes : (r : Recorder) (u : RecorderTables) (e : EndState) → ValidRecorderIn r u → let v = recorder_in r u in
       is_running r.mode ≡ true → next_number v ≡ boundaries r.area r.interval
       → end_ok r.area (last_checkpoint v.checkpoints) e ≡ true
-      → finished_in r u e ≡ recordedAs.Recorder (recorder_from (with_mode v (Finished e)))
+      → finished_in r u e ≡ Accepted (recorder_from (with_mode v (Finished e)))
   pub absorbs : (x : AreaIndex) (t : Tables) (image : Option ℕ) (given : List ℕ) (r : Recorder) (u : RecorderTables)
       → ValidIn x t → ValidRecorderIn r u
       → is_stopped r.mode ≡ false → let i = index_in x t in let v = recorder_in r u in let id = image
@@ -168,21 +160,21 @@ pub record RefusesNothingIn : Type 0 where
       → ValidIn x t → TableBytes t → ValidRecorderIn r u
       → is_stopped r.mode ≡ true → absorb_in x t image given r u ≡ absorbing.absorbed_out (absorbed 0 x r) t
   pub sees : (r : HintRecorder) (t : List ℕ) (lsn : ℕ) (sector : List ℕ) → ValidHintRecorderIn r t → (n : ℕ)
-      → (see_in r t lsn sector).answer ≢ sawAs.Refused n
+      → (see_in r t lsn sector).answer ≢ Refused n
   -- what the rules accept is put into the table
   pub seen : (r : HintRecorder) (t : List ℕ) (lsn : ℕ) (sector : List ℕ) (s : rules.SeenSector)
       → see (length t / 8) (hint_recorder_in r t) lsn sector ≡ Accepted s
       → see_in r t lsn sector
-      ≡ hinting.saw_out (sawAs.Sector (record { first = s.first; recorder = hint_recorder_from s.recorder }))
+      ≡ hinting.saw_out (Accepted (record { first = s.first; recorder = hint_recorder_from s.recorder }))
       (over (bytes_of encode_hint s.recorder.list) t)
   pub flushes : (r : HintRecorder) (t : List ℕ) → ValidHintRecorderIn r t
       → let v = hint_recorder_in r t in let hs = flushed_list v.tail v.list in
       flush_in r t
-      ≡ hinting.seen_out (seenAs.Recorder (hint_recorder_from
+      ≡ hinting.seen_out (Accepted (hint_recorder_from
       (record { spacing = v.spacing; last = v.last; tail = None; list = hs }))) (over (bytes_of encode_hint hs) t)
   pub takes : (r : HintRecorder) (t : List ℕ) → ValidHintRecorderIn r t → let v = hint_recorder_in r t in
       take_in r t
-      ≡ takenAs.List (record {
+      ≡ Accepted (record {
         count = length v.list;
         recorder = hint_recorder_from (record { spacing = v.spacing; last = v.last; tail = v.tail; list = [] });
       })
@@ -191,11 +183,11 @@ pub record RefusesNothingIn : Type 0 where
       ≡ Accepted (frontier_of x.area x.interval x.checkpoints x.ending)
   pub boundary : (x : AreaIndex) (j : ℕ) → area_ok x.area ≡ true → numbers_ok x.interval x.budget ≡ true
       → checkpoint_lsn x j ≡ cond (ltb j (boundaries x.area x.interval))
-      (boundaryAs.Lsn (lsn_of x.area x.interval j)) boundaryAs.Nothing
+      (Accepted (Some (lsn_of x.area x.interval j))) (Accepted None)
   pub due : (r : Recorder) → area_ok r.area ≡ true → numbers_ok r.interval r.budget ≡ true
       → let j = r.first + r.checkpoints in
       due_at r ≡ cond (is_running r.mode && ltb j (boundaries r.area r.interval))
-      (boundaryAs.Lsn (lsn_of r.area r.interval j)) boundaryAs.Nothing
+      (Accepted (Some (lsn_of r.area r.interval j))) (Accepted None)
   pub sizes : (a : Area) (k budget most : ℕ) → area_ok a ≡ true → numbers_ok k budget ≡ true → new_sizes a k budget most
       ≡ Accepted (sizes_of a k budget (min most max_hints))
   pub sizes_of_file : (a : Area) (b : List ℕ) (limit : ℕ) (x : Index) → area_ok a ≡ true → from_bytes a b ≡ Accepted x
@@ -281,7 +273,7 @@ pub record SaveOf (x : Index) (old : List ℕ) (n : ℕ) (new : List ℕ) : Type
 
 abbrev pub SaveTellsIn : Type 0
 SaveTellsIn = (x : AreaIndex) (t : Tables) (old : List ℕ) (n : ℕ) (new : List ℕ) → saving.save_in x t old
-    ≡ saving.made (Length n) new → SaveOf (index_in x t) old n new
+    ≡ saving.made (Accepted n) new → SaveOf (index_in x t) old n new
 
 -- ---- plan says Start, hint none, without looking
 pub record PlanLooksIn : Type 0 where

@@ -10,7 +10,6 @@ use Rattle.rules_view.specs.View.{listener, workshop, listener_of, workshop_of, 
 use Rattle.rules_view.specs.Roles.{as_workshop}
 use Rattle.blocks.specs.Blocks.{is_index}
 use Rattle.tables.specs.Index.{Tables, index_in}
-use Rattle.rules.specs.declared.Viewed.TheVariants as viewed
 use Rattle.view.specs.View.{view_in, view_size_in}
 use Rattle.blocks.specs.Calls.{called, head_index}
 use Rattle.player.specs.Player.{called_over, load_call, save_call, merge_call, load_call_as, save_call_as, merge_call_as, merge_all_call, merge_all_call_as, view_call, view_length_call}
@@ -67,7 +66,7 @@ pub record ViewNumber : Type 0 where
 pub record ViewLeaves : Type 0 where
   pub bytes : (role : ℕ) (x : AreaIndex) (t : Tables) (out : List ℕ) → ValidIn x t → is_role role ≡ true
       → view_length role (index_in x t) ≤ length out
-      → ((view_in role x t out).answer ≡ viewed.Length (view_length role (index_in x t)))
+      → ((view_in role x t out).answer ≡ Accepted (view_length role (index_in x t)))
       × ((view_in role x t out).out ≡ over (view_bytes role (index_in x t)) out)
   pub told : (role : ℕ) (x : AreaIndex) (t : Tables) → ValidIn x t → is_role role ≡ true → view_size_in role x t
       ≡ Accepted (view_length role (index_in x t))

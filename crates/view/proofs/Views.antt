@@ -23,9 +23,8 @@ use Rattle.index.proofs.Questions.{passes, passes_long, passes_hints, range}
 use Rattle.save.specs.Output.{Put}
 use Rattle.save.proofs.output.Stretches.{put_both, put_over}
 use Rattle.rules_view.specs.View.{is_role, listener_of, workshop_of, head_of, encode_seen, totals_of, seen_bytes, listener_bytes, workshop_bytes, workshop_size, word_bytes, head_words, view_bytes, view_length, view, view_size}
-use Rattle.rules.specs.declared.Viewed.TheVariants as answer
 use Rattle.view.specs.Sections.{head_in, seen_of, listener_in, behind_bytes, behind_size, Shown}
-use Rattle.view.specs.View.{viewed, view_out, viewed_of, in_role, view_in, view_size_in}
+use Rattle.view.specs.View.{viewed, view_out, in_role, view_in, view_size_in}
 use Rattle.view.specs.Steps.{asked}
 use Rattle.view.proofs.write.Words.{sets_over}
 use Rattle.view.proofs.Layouts.{head_length, seen_count, lengths_count, view_length_lemma}
@@ -168,12 +167,12 @@ module _ (role : ℕ) (x : AreaIndex) (t : Tables) where
         (λ h. in_role_lemma _ h ∙ rw (size_four (room_of t) (index_in x t) h) (kinded_index x t [] refl (refusal_is h) size))
         (λ h. in_none _ h ∙ after_52 (Accepted size) h)
 
-    pub length_refused : (n ≡ 0 → ⊥) → viewed_of (answer.Refused n) ≡ view_size_in role x t
-    unfolding viewed_of after
+    pub length_refused : (n ≡ 0 → ⊥) → Refused n ≡ view_size_in role x t
+    unfolding after
     length_refused h = sym (length_is ∙ simp (ne_eqb n 0 h))
 
-    pub length_told : n ≡ 0 → {k : ℕ} → k ≡ size → viewed_of (answer.Length k) ≡ view_size_in role x t
-    unfolding viewed_of after
+    pub length_told : n ≡ 0 → {k : ℕ} → k ≡ size → Accepted k ≡ view_size_in role x t
+    unfolding after
     length_told z l = sym (length_is ∙ rw l (simp (eq-eqb n 0 z)))
 
     module _ (o : List ℕ) where
@@ -184,15 +183,15 @@ module _ (role : ℕ) (x : AreaIndex) (t : Tables) where
           (kinded_index x t (ask (leb size (length o)) 40 ∷ []) refl (refusal_is h) (view_bytes role (index_in x t))))
           (λ h. in_none _ h ∙ after_52 _ h))
 
-      pub view_refused : (n ≡ 0 → ⊥) → viewed (answer.Refused n) o ≡ view_in role x t o
+      pub view_refused : (n ≡ 0 → ⊥) → viewed (Refused n) o ≡ view_in role x t o
       unfolding view_out after
       view_refused h = sym (view_is ∙ simp (ne_eqb n 0 h))
 
       module _ (z : n ≡ 0) {k : ℕ} (l : k ≡ size) where
-        pub view_short : length o < k → viewed (answer.Refused 40) o ≡ view_in role x t o
+        pub view_short : length o < k → viewed (Refused 40) o ≡ view_in role x t o
         unfolding view_out after
         view_short h = sym (view_is ∙ rw (← l) (simp (eq-eqb n 0 z, lt-leb k (length o) h)))
 
-        pub view_done : {o' : List ℕ} → k ≤ length o → o' ≡ over (view_bytes role (index_in x t)) o → viewed (answer.Length k) o' ≡ view_in role x t o
+        pub view_done : {o' : List ℕ} → k ≤ length o → o' ≡ over (view_bytes role (index_in x t)) o → viewed (Accepted k) o' ≡ view_in role x t o
         unfolding view_out after
         view_done h c = rw (c, l, ← view_length_lemma role (index_in x t)) (sym (view_is ∙ simp (eq-eqb n 0 z, le-leb _ _ (let g : size ≤ length o = rw (← l) h in g))))

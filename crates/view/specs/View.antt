@@ -6,24 +6,18 @@ use Rattle.rules.specs.File.{over}
 use Rattle.rules_view.specs.View.{is_role, view, view_size}
 use Rattle.blocks.specs.Blocks.{is_index}
 use Rattle.tables.specs.Index.{Tables, room_of, index_in, kinds_in, kinded}
-use Rattle.rules.specs.declared.Viewed.{Viewed}
-use Rattle.rules.specs.declared.Viewed.TheVariants as answer
 
 -- what it answers, and the output afterwards
 pub record ViewOut : Type 0 where
-  pub answer : Viewed
+  pub answer : Answer ℕ
   pub out : List ℕ
 
-abbrev pub viewed : Viewed → List ℕ → ViewOut
+abbrev pub viewed : Answer ℕ → List ℕ → ViewOut
 viewed r o = record { answer = r; out = o }
 
 unfoldable pub view_out : Answer (List ℕ) → List ℕ → ViewOut
-view_out (Refused n) old = viewed (answer.Refused n) old
-view_out (Accepted b) old = viewed (answer.Length (length b)) (over b old)
-
-unfoldable pub viewed_of : Viewed → Answer ℕ
-viewed_of (answer.Refused n) = Refused n
-viewed_of (answer.Length n) = Accepted n
+view_out (Refused n) old = viewed (Refused n) old
+view_out (Accepted b) old = viewed (Accepted (length b)) (over b old)
 
 -- 52 before the kinds of parts
 unfoldable pub in_role : {A : Type 0} → ℕ → Answer A → Answer A

@@ -6,17 +6,20 @@ pub mod write;
 ghost use Rattle.std.specs.Prelude.{◌≡◌, true, [], ◌+◌, ◌*◌, ◌≤◌, length};
 ghost use Rattle.rules.specs.File.{over};
 ghost use Rattle.rules_view.specs.View.{is_role, is_workshop, view_bytes, view_length};
-ghost use Rattle.tables.specs.Index.{Tables, index_in, tables};
+ghost use Rattle.rules.specs.Refusals.{answer_in, number_in};
+ghost use Rattle.tables.specs.Index.{index_in, tables};
+ghost use Rattle.tables.specs.Index as lists;
+ghost use Rattle.tables.specs.Loans.{tables_in};
 ghost use Rattle.view.specs.Sections.{Shown};
-ghost use Rattle.view.specs.View.{viewed, view_in, view_size_in, viewed_of, block_refusal};
+ghost use Rattle.view.specs.View.{viewed, view_in, view_size_in, block_refusal};
 ghost use Rattle.view.specs.Steps.{asked};
 
 use crate::write::{put_listener, put_workshop};
 use blocks::read::is_index;
-use index::refuses;
-use rules::{AreaIndex, Viewed};
+use index::check;
+use rules::{AreaIndex, Refusal};
 use save::output::long_enough;
-use sections::ask;
+use tables::lent::Tables;
 
 // ---- questions and lengths
 // 52: is the role 1 (listener) or 2 (workshop)?
@@ -34,44 +37,30 @@ pub fn is_workshop(role: u32) -> bool
     role == 2
 }
 
-// 52, then 3 of the block with the list's numbers: the number of the first answered no, 0 for none.
-pub fn block_refuses(role: u32, head: &[u8]) -> u32
-    ensures { result ≡ block_refusal role head.now }
-{
-    let n = ask(0, is_role(role), 52);
-    ask(n, is_index(head), 3)
-}
-
-// 52, then 1 to 4: the number of the first answered no, 0 for none.
-fn view_refuses(
-    role: u32,
-    x: AreaIndex,
-    checkpoints: &[u8],
-    frames: &[u8],
-    store: &[u8],
-    parts: &[u8],
-    malformed: &[u8],
-    hints: &[u8],
-    confirmed: &[u8],
-) -> u32
-    ensures { result
-        ≡ asked role x
-        (tables checkpoints.now frames.now store.now parts.now
-        malformed.now hints.now confirmed.now) }
+// 52, then 3 of the block with the list's numbers.
+#[tactic(auto, unfolding(crate::specs::View::block_refusal, rules::specs::Tests::first_no, rules::specs::Refusals::number_in, rules::specs::Refusals::refusal_number))]
+pub fn check_block(role: u32, head: &[u8]) -> Result<(), Refusal>
+    ensures { number_in result ≡ block_refusal role head.now }
 {
     if !is_role(role) {
-        return 52;
+        return Err(Refusal::Role);
     }
-    refuses(
-        x,
-        checkpoints,
-        frames,
-        store,
-        parts,
-        malformed,
-        hints,
-        confirmed,
-    )
+    if !is_index(head) {
+        return Err(Refusal::Room);
+    }
+    Ok(())
+}
+
+// 52, then 1 to 4.
+#[tactic(auto, unfolding(crate::specs::Steps::asked, rules::specs::Refusals::number_in, rules::specs::Refusals::refusal_number))]
+fn check_view(role: u32, x: AreaIndex, t: &Tables) -> Result<(), Refusal>
+    ensures { number_in result ≡ asked role x (tables_in t.now) }
+{
+    if is_role(role) {
+        check(x, t)
+    } else {
+        Err(Refusal::Role)
+    }
 }
 
 // Of n checkpoints, m malformed LSNs, h held parts, s hints and c confirmations.
@@ -83,7 +72,7 @@ fn workshop_size(n: u32, m: u32, h: u32, s: u32, c: u32) -> u64
 
 // The bytes of a view.
 fn size(role: u32, x: AreaIndex) -> u64
-    ensures { (t : Tables) → result ≡ view_length role (index_in x t) }
+    ensures { (t : lists.Tables) → result ≡ view_length role (index_in x t) }
 {
     if role == 1 {
         88 + 8 * x.checkpoints as u64
@@ -93,37 +82,11 @@ fn size(role: u32, x: AreaIndex) -> u64
 }
 
 // The length that a view will have: 52, then 1 to 4.
-pub fn view_length(
-    role: u32,
-    x: AreaIndex,
-    checkpoints: &[u8],
-    frames: &[u8],
-    store: &[u8],
-    parts: &[u8],
-    malformed: &[u8],
-    hints: &[u8],
-    confirmed: &[u8],
-) -> Viewed
-    ensures { viewed_of result
-        ≡ view_size_in role x
-        (tables checkpoints.now frames.now store.now parts.now
-        malformed.now hints.now confirmed.now) }
+pub fn view_length(role: u32, x: AreaIndex, t: &Tables) -> Result<u64, Refusal>
+    ensures { answer_in result ≡ view_size_in role x (tables_in t.now) }
 {
-    let number = view_refuses(
-        role,
-        x,
-        checkpoints,
-        frames,
-        store,
-        parts,
-        malformed,
-        hints,
-        confirmed,
-    );
-    if number != 0 {
-        return Viewed::Refused(number);
-    }
-    Viewed::Length(size(role, x))
+    check_view(role, x, t)?;
+    Ok(size(role, x))
 }
 
 // ---- the view
@@ -157,91 +120,24 @@ fn write_view(
     }
 }
 
-// number is that of the first of 52 and 1 to 4 answered no, 0 for none.
-fn viewed_after(
-    number: u32,
-    role: u32,
-    x: AreaIndex,
-    checkpoints: &[u8],
-    frames: &[u8],
-    store: &[u8],
-    parts: &[u8],
-    malformed: &[u8],
-    hints: &[u8],
-    confirmed: &[u8],
-    out: &mut [u8],
-) -> Viewed
-    requires { number
-        ≡ asked role x
-        (tables checkpoints.now frames.now store.now parts.now malformed.now hints.now
-        confirmed.now) }
-    ensures { viewed result out.new
-        ≡ view_in role x
-        (tables checkpoints.now frames.now store.now parts.now
-        malformed.now hints.now confirmed.now)
-        out.old }
+// 52, then 1 to 4, then 40: is the output long enough? What lies past the length stays.
+pub fn view(role: u32, x: AreaIndex, t: &Tables, out: &mut [u8]) -> Result<u64, Refusal>
+    ensures { viewed (answer_in result) out.new ≡ view_in role x (tables_in t.now) out.old }
 {
-    if number != 0 {
-        return Viewed::Refused(number);
-    }
+    check_view(role, x, t)?;
     let length = size(role, x);
     if !long_enough(out.len() as u64, length) {
-        return Viewed::Refused(40);
+        return Err(Refusal::Output);
     }
     write_view(
         out,
         role,
         x,
-        checkpoints,
-        parts,
-        malformed,
-        hints,
-        confirmed,
+        t.checkpoints,
+        t.parts,
+        t.malformed,
+        t.hints,
+        t.confirmed,
     );
-    Viewed::Length(length)
-}
-
-// 52, then 1 to 4, then 40: is the output long enough? What lies past the length stays.
-pub fn view(
-    role: u32,
-    x: AreaIndex,
-    checkpoints: &[u8],
-    frames: &[u8],
-    store: &[u8],
-    parts: &[u8],
-    malformed: &[u8],
-    hints: &[u8],
-    confirmed: &[u8],
-    out: &mut [u8],
-) -> Viewed
-    ensures { viewed result out.new
-        ≡ view_in role x
-        (tables checkpoints.now frames.now store.now parts.now
-        malformed.now hints.now confirmed.now)
-        out.old }
-{
-    let number = view_refuses(
-        role,
-        x,
-        checkpoints,
-        frames,
-        store,
-        parts,
-        malformed,
-        hints,
-        confirmed,
-    );
-    viewed_after(
-        number,
-        role,
-        x,
-        checkpoints,
-        frames,
-        store,
-        parts,
-        malformed,
-        hints,
-        confirmed,
-        out,
-    )
+    Ok(length)
 }

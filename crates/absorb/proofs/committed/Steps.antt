@@ -1,6 +1,6 @@
 -- The steps of an absorb, put together. Assumes nothing.
-use Rattle.std.specs.Prelude.{Option, None, Some, ℕ}
-use mathlib.Core.Path.{◌≡◌, refl, sym, ap, ◌∙◌}
+use Rattle.std.specs.Prelude.{Option, ℕ}
+use mathlib.Core.Path.{◌≡◌, sym, ap, ◌∙◌}
 use mathlib.Core.Bool.{cond}
 use mathlib.Core.List.{List, ◌++◌}
 use Prim.Native.Nat.{ℕ, ◌-◌}
@@ -31,10 +31,6 @@ use Rattle.absorb.proofs.committed.Ready.{own_malformed}
 ends : {y y' : AreaIndex} {a a' b b' c c' d d' e e' f f' g g' : List ℕ} → y ≡ y' → a ≡ a' → b ≡ b' → c ≡ c' → d ≡ d' → e ≡ e' → f ≡ f' → g ≡ g'
     → written y (tables a b c d e f g) ≡ written y' (tables a' b' c' d' e' f' g')
 ends p q0 q1 q2 q3 q4 q5 q6 = λ i. written (p i) (tables (q0 i) (q1 i) (q2 i) (q3 i) (q4 i) (q5 i) (q6 i))
-
-end_back : (e : Option EndState) → e ≡ e
-end_back None = refl
-end_back (Some e) = refl
 
 -- ---- the absorbed index, part by part
 module _ (x : AreaIndex) (t : Tables) (r : Recorder) (u : RecorderTables) (image : Option ℕ) (ms : List ℕ) where
@@ -91,7 +87,7 @@ module _ (x : AreaIndex) (t : Tables) (r : Recorder) (u : RecorderTables) (image
         let e6 : m ≡ length after_scan.malformed = p3.count ∙ ap length (malformed_are p1.count p0) in
         let e7 : x.hints ≡ length (kept_in x.hints t.hints) = sym (records_length 8 decode_kept x.hints t.hints) in
         let e8 : x.confirmed ≡ length (confirmations_in x.confirmed t.confirmed) = sym (records_length 16 decode_confirmation x.confirmed t.confirmed) in
-        let e9 : e ≡ after_scan.ending = end_back e ∙ ap p0 in
+        let e9 : e ≡ after_scan.ending = p0 in
         p4 ∙ (λ i. record {
           area = x.area;
           interval = x.interval;

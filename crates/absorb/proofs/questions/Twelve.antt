@@ -1,6 +1,7 @@
 -- Question 12 in the tables. Assumes nothing.
-use Rattle.std.specs.Prelude.{Option}
-use mathlib.Core.Path.{◌≡◌, refl, sym, ◌∙◌}
+use Rattle.std.specs.Prelude.{Option, None, Some}
+use Rattle.std.specs.Option.{option_or}
+use mathlib.Core.Path.{◌≡◌, refl, sym, ap, ◌∙◌}
 use mathlib.Core.Bool.{Bool, true, ◌&&◌, ◌||◌, not, and-true}
 use mathlib.Core.List.{List, ◌++◌}
 use Prim.Native.Nat.{ℕ, ◌+◌, ◌-◌, ◌≤◌, ◌<◌}
@@ -77,5 +78,7 @@ unfolding area_ok
 started a e = let h = all→ _ e in let p = leb-true a.start a.end h.1.0 in let q = leb-true a.end max32 h.1.1.0 in (p, omega arith)
 
 -- the end state of the joined list
-pub end_is : (c : Option EndState) {a b e : Option EndState} → a ≡ b → e ≡ or_else a c → e ≡ or_else b c
-end_is c p q = q ∙ rw p refl
+pub end_is : (c : Option EndState) {a b e : Option EndState} → a ≡ b → e ≡ option_or a c → e ≡ or_else b c
+unfolding or_else
+end_is c {a = None} p q = q ∙ ap (λ b. or_else b c) p
+end_is c {a = Some e} p q = q ∙ ap (λ b. or_else b c) p

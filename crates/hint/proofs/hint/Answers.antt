@@ -1,16 +1,18 @@
-use Rattle.std.proofs.Common.{sym, ◌∙◌, arith}
+use Rattle.std.proofs.Common.{sym, refl, arith}
+use Rattle.rules.specs.Refusals.{refusal_number, answer_in, number_in}
 use Rattle.index.proofs.Questions.{passes}
-use Rattle.hint.proofs.Answers.{ready, hint_no, hint_16, hint_yes}
+use Rattle.hint.specs.Hint.{answer_of}
+use Rattle.hint.proofs.Answers.{ready, hint_16, hint_yes}
 use Rattle.hint.proofs.hint.Goals as goal
 
-pub returns-then-number-ne0 : goal.returns-then-number-ne0
-returns-then-number-ne0 c = hint_no _ _ _ _ _ c.refuses-number.ensures c.if-number-ne0.true
-
 pub returns-then-end-first : goal.returns-then-end-first
-returns-then-end-first c = hint_16 _ _ _ _ _ c.refuses-number.ensures c.if-number-ne0.false (omega arith)
+unfolding answer_of answer_in number_in refusal_number
+returns-then-end-first c = hint_16 _ _ _ _ _ c.in_ok-check.ensures refl (omega arith)
 
-pub hint_in-requires : goal.hint_in-requires
-hint_in-requires c = ready (passes _ _ (sym c.refuses-number.ensures ∙ c.if-number-ne0.false))
+pub read_for-requires : goal.read_for-requires
+unfolding number_in
+read_for-requires c = ready (passes _ _ (sym c.in_ok-check.ensures))
 
 pub returns : goal.returns
-returns c = hint_yes _ _ _ _ _ c.refuses-number.ensures c.if-number-ne0.false (omega arith) c.hint_in.ensures
+unfolding answer_in number_in
+returns c = hint_yes _ _ _ _ _ c.in_ok-check.ensures refl _ (omega arith) c.read_for.ensures

@@ -12,7 +12,7 @@ pub ends_ok-requires : goal.ends_ok-requires
 ends_ok-requires c = let l = c.requires.0 in let r = range _ c.requires.1 in (r.order, r.end, l.checkpoints, l.malformed)
 
 pub returns-then-held_ok : goal.returns-then-held_ok
-returns-then-held_ok c = λ store hints confirmed. grind (arith, sections_is)
+returns-then-held_ok c = grind (arith, sections_is)
 
 pub returns-else-held_ok : goal.returns-else-held_ok
-returns-else-held_ok c = λ store hints confirmed. grind (arith, sections_is)
+returns-else-held_ok c = grind (arith, sections_is)

@@ -5,21 +5,14 @@ use mathlib.Core.List.{List, [], ◌∷◌}
 use Prim.Native.Nat.{ℕ}
 use native.Mathlib.Omega.{arith}
 use Rattle.rules.specs.declared.AreaIndex.{AreaIndex}
-use Rattle.rules.specs.Tests.{ask, first_no}
+use Rattle.rules.specs.Tests.{ask, first_no, Answer}
 use Rattle.rules_view.specs.View.{is_role}
 use Rattle.blocks.specs.Blocks.{is_index}
 use Rattle.tables.specs.Index.{Tables}
-use Rattle.rules.specs.declared.Viewed.{Viewed}
-use Rattle.rules.specs.declared.Viewed.TheVariants as answer
-use Rattle.view.specs.View.{viewed, viewed_of, view_in, view_size_in, block_refusal}
+use Rattle.view.specs.View.{viewed, view_in, view_size_in, block_refusal}
 use Rattle.blocks.specs.Calls.{called, head_index, in_head}
-use Rattle.player.specs.Player.{viewed_number, length_number, view_length_call, view_call}
+use Rattle.player.specs.Player.{length_number, view_length_call, view_call}
 use Rattle.blocks.proofs.calls.Blocks.{is_head_lemma}
-
-number_is : (r : Viewed) → viewed_number r ≡ length_number (viewed_of r)
-unfolding viewed_number length_number viewed_of
-number_is (answer.Refused n) = refl
-number_is (answer.Length n) = refl
 
 -- 52, then 3: the number of a call that is refused by them, and what holds where none refuses
 module _ (role : ℕ) (h : List ℕ) {n : ℕ} (e : n ≡ block_refusal role h) where
@@ -50,10 +43,10 @@ module _ (role : ℕ) (h : List ℕ) {n : ℕ} (e : n ≡ block_refusal role h) 
       by true true d = (refl, refl)
 
 module _ (role : ℕ) (q : is_role role ≡ true) (h : List ℕ) (l : is_index h ≡ true) (x : AreaIndex) (z : x ≡ head_index h) (t : Tables) where
-  pub view_length_done : (n : ℕ) (r : Viewed) → viewed_of r ≡ view_size_in role x t → n ≡ viewed_number r → n ≡ view_length_call role h t
+  pub view_length_done : (n : ℕ) (r : Answer ℕ) → r ≡ view_size_in role x t → n ≡ length_number r → n ≡ view_length_call role h t
   unfolding view_length_call
-  view_length_done n r e p = is_head_lemma _ _ _ q (is_head_lemma _ _ _ l (p ∙ number_is r ∙ rw (e, z)))
+  view_length_done n r e p = is_head_lemma _ _ _ q (is_head_lemma _ _ _ l (p ∙ rw (e, z)))
 
-  pub view_done : (n : ℕ) (o o' : List ℕ) (r : Viewed) → viewed r o' ≡ view_in role x t o → n ≡ viewed_number r → called n o' ≡ view_call role h t o
+  pub view_done : (n : ℕ) (o o' : List ℕ) (r : Answer ℕ) → viewed r o' ≡ view_in role x t o → n ≡ length_number r → called n o' ≡ view_call role h t o
   unfolding view_call
   view_done n o o' r e p = is_head_lemma _ _ _ q (is_head_lemma _ _ _ l (rw (← z, ← e, p)))

@@ -12,19 +12,19 @@ check_kinds-requires c =
 
 pub returns-then-stretch_ok : goal.returns-then-stretch_ok
 returns-then-stretch_ok c =
-    λ store. elim c.if-counts_fit.branch [
+    elim c.if-counts_fit.branch [
       | then-counts_fit w ↦
           rw (sym w.value-is ∙ c.if-stretch_ok.true) at
-          (held_yes _ _ c.requires.is c.is_finished-whole.ensures c.counts_fit.ensures w.if-counts_fit.true (w.stretch_ok.ensures store) c.check_kinds.ensures)
+          (held_yes _ _ c.requires.is c.is_finished-whole.ensures c.counts_fit.ensures w.if-counts_fit.true w.stretch_ok.ensures c.check_kinds.ensures)
       | else-counts_fit w ↦ (cc)
     ]
 
 pub returns-else-stretch_ok : goal.returns-else-stretch_ok
 returns-else-stretch_ok c =
-    λ store. elim c.if-counts_fit.branch [
+    elim c.if-counts_fit.branch [
       | then-counts_fit w ↦
           rw c.if-stretch_ok.false
           (rw (sym w.value-is ∙ c.if-stretch_ok.false) at
-          (held_yes _ _ c.requires.is c.is_finished-whole.ensures c.counts_fit.ensures w.if-counts_fit.true (w.stretch_ok.ensures store) refl))
+          (held_yes _ _ c.requires.is c.is_finished-whole.ensures c.counts_fit.ensures w.if-counts_fit.true w.stretch_ok.ensures refl))
       | else-counts_fit w ↦ rw (w.value-is, w.if-counts_fit.false) (held_no _ _ c.requires.is c.is_finished-whole.ensures c.counts_fit.ensures w.if-counts_fit.false)
     ]

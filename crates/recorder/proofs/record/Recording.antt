@@ -15,7 +15,7 @@ use Rattle.field.proofs.Format.{bytes_of_append, bytes_of_one, bytes_records}
 use Rattle.fnv.specs.Fnv.{fnv64}
 use Rattle.rules.specs.declared.Checkpoint.{Checkpoint}
 use Rattle.rules.specs.declared.Recorder.{Recorder}
-use Rattle.rules.specs.Tests.{all, each, Ask, ask, first_no, Accepted, after}
+use Rattle.rules.specs.Tests.{all, each, Ask, ask, first_no, Accepted, after, Refused}
 use Rattle.rules.specs.Values.{lsn_of, boundaries, last_checkpoint, used}
 use Rattle.rules.specs.Values as values
 use Rattle.rules.specs.Questions.{recorder_four_of, recorder_question4, scan_room}
@@ -36,7 +36,6 @@ use Rattle.parts.specs.Parts.{PartTables, part_tables, stored_in, counts_of, sto
 use Rattle.parts.specs.Steps.{Room}
 use Rattle.parts.proofs.Stored.{over_more}
 use Rattle.parts.proofs.Callers.{room_from}
-use Rattle.rules.specs.declared.Recorded.TheVariants as recorded
 use Rattle.rules.specs.declared.Assembling as under
 use Rattle.tables.specs.Recorder.{RecorderTables, recorder_tables, recorder_room, recorder_in, recorder_kinds, recorder_refusal, recorder_from, recorder_over, assembling_in}
 use Rattle.recorder.specs.Steps.{recorder_held, Roomy, Long, due_in, rises_in, starts_in, assembled_in, record_number, advanced_of}
@@ -61,21 +60,26 @@ seven_is r lsn (Some a) b = simp and-true
 -- ---- the call by its number
 out_after : (t : RecorderTables) (n m : ℕ) (x : values.Recorder)
     → record_out t (after n (after m (Accepted x)))
-    ≡ cond (eqb (cond (eqb n 0) m n) 0) (recorder_out (recorded.Recorder (recorder_from x)) (recorder_over x t)) (recorder_out (recorded.Refused (cond (eqb n 0) m n)) t)
+    ≡ cond (eqb (cond (eqb n 0) m n) 0) (recorder_out (Accepted (recorder_from x)) (recorder_over x t)) (recorder_out (Refused (cond (eqb n 0) m n)) t)
 unfolding record_out after
 out_after t n m x = test (eqb n 0) (λ e. rw e (test (eqb m 0) (λ g. rw g) (λ g. rw g))) (λ e. rw (e, e))
+
+-- the same number of the tables as they are read
+pub read_number : (r : Recorder) {t u : RecorderTables} (lsn threshold malformed : ℕ) (f : Option under.Assembling) (len : ℕ) {n : ℕ} → n ≡ record_number r u lsn threshold malformed f len
+    → u ≡ t → n ≡ record_number r t lsn threshold malformed f len
+read_number r lsn threshold malformed f len e q = e ∙ rw q refl
 
 module _ (r : Recorder) (t : RecorderTables) (lsn threshold malformed : ℕ) (f : Option under.Assembling) (b sector : List ℕ) {n : ℕ} (e : n ≡ record_number r t lsn threshold malformed f (length sector)) where
   abbrev next : values.Recorder
   next = recorded (recorder_in r t) lsn threshold malformed (assembling_in f b) sector
 
-  record_is : record_in r t lsn threshold malformed f b sector ≡ cond (eqb n 0) (recorder_out (recorded.Recorder (recorder_from next)) (recorder_over next t)) (recorder_out (recorded.Refused n) t)
+  record_is : record_in r t lsn threshold malformed f b sector ≡ cond (eqb n 0) (recorder_out (Accepted (recorder_from next)) (recorder_over next t)) (recorder_out (Refused n) t)
   unfolding record_in record_at each record_number recorder_refusal
   record_is =
       ap (record_out t) (kinded_more (recorder_kinds r t) (recorder_four_of (recorder_room t) (recorder_in r t)) _ refl refl _)
       ∙ out_after t _ _ next ∙ rw (five_is r t lsn sector, six_is r t threshold malformed, seven_is (recorder_in r t) lsn f b, ← e)
 
-  pub record_no : (n ≡ 0 → ⊥) → recorder_out (recorded.Refused n) t ≡ record_in r t lsn threshold malformed f b sector
+  pub record_no : (n ≡ 0 → ⊥) → recorder_out (Refused n) t ≡ record_in r t lsn threshold malformed f b sector
   record_no h = sym (record_is ∙ rw (ne_eqb n 0 h))
 
   module _ (z : n ≡ 0) where
@@ -151,7 +155,7 @@ module _ (r : Recorder) (t : RecorderTables) (lsn threshold malformed : ℕ) (f 
         → held c (part_tables fs st ps)
         ≡ held_from (assembled_in r.budget (stored_in r.frames r.parts (part_tables t.frames t.store t.parts)) (r.first + r.checkpoints) lsn (assembling_in f b)) (part_tables t.frames t.store t.parts)
         → cps ≡ sets t.checkpoints (r.checkpoints * 24) (encode_checkpoint (record { threshold = threshold; back = back; malformed = malformed; digest = digest }))
-        → q ≡ advanced_of r c → recorder_out (recorded.Recorder q) (recorder_tables cps fs st ps) ≡ record_in r t lsn threshold malformed f b sector
+        → q ≡ advanced_of r c → recorder_out (Accepted q) (recorder_tables cps fs st ps) ≡ record_in r t lsn threshold malformed f b sector
     unfolding advanced_of
     record_yes {cps} {fs} {st} {ps} {c} {q} y eb ed h ec eq =
         let s = assembled_in r.budget (stored_in r.frames r.parts (part_tables t.frames t.store t.parts)) (r.first + r.checkpoints) lsn (assembling_in f b) in

@@ -9,7 +9,6 @@ use lib.Seq.{sets}
 use Rattle.field.specs.Number.{put}
 use Rattle.field.specs.Records.{Bytes}
 use Rattle.field.proofs.Fields.{fields_put}
-use Rattle.rules.specs.declared.Assembling as declared
 use Rattle.rules.specs.declared.Checkpoint.{Checkpoint}
 use Rattle.rules.specs.PartRule.{add_part}
 use Rattle.rules.specs.File.{encode_checkpoint}
@@ -32,7 +31,7 @@ module _ {budget : ℕ} {c : Counts} {t : PartTables} (r : Room 1 budget c t) (b
   unfolding assembled_in assembling_in
   assembled_none e = rw e (stays r.ready r.kinds bf bp)
 
-  module _ (a : declared.Assembling) (is : frame ≡ Some a) where
+  module _ (a : under.Assembling) (is : frame ≡ Some a) where
     pub assembled_near : lsn - a.start ≤ 32 → held c t ≡ held_from (assembled_in budget (stored_in c.frames c.parts t) j lsn (assembling_in frame b)) t
     unfolding assembled_in assembling_in
     assembled_near l = rw (is, le-ltb 32 (lsn - a.start) l) (stays r.ready r.kinds bf bp)

@@ -1,6 +1,6 @@
 use native.Mathlib.Omega.{arith}
 use Rattle.index.proofs.Questions.{range}
-use Rattle.tables.specs.Recorder.{recorder_tables}
+use Rattle.tables.specs.Loans.{recorder_tables_in}
 use Rattle.recorder.proofs.Questions.{stretch_are}
 use Rattle.recorder.proofs.stretch_ok.Goals as goal
 
@@ -18,18 +18,18 @@ ending_ok-ends-requires c = (range _ c.requires.area).order
 
 pub returns-then-held : goal.returns-then-held
 returns-then-held c =
-    λ store. grind (
+    grind (
       arith,
-      stretch_are c.args.r (recorder_tables c.args.checkpoints.now c.args.frames.now store c.args.parts.now) c.check_checkpoints-steps.ensures
-          (c.check_frames-filling.ensures store).answer (c.check_parts-held.ensures store) c.end_of.ensures
+      stretch_are c.args.r (recorder_tables_in c.args.t.now) c.check_checkpoints-steps.ensures
+          (c.check_frames-filling.ensures _).answer (c.check_parts-held.ensures _) c.end_of.ensures
           (c.ending_ok-ends.ensures _ c.last_checkpoint.ensures),
     )
 
 pub returns-else-held : goal.returns-else-held
 returns-else-held c =
-    λ store. grind (
+    grind (
       arith,
-      stretch_are c.args.r (recorder_tables c.args.checkpoints.now c.args.frames.now store c.args.parts.now) c.check_checkpoints-steps.ensures
-          (c.check_frames-filling.ensures store).answer (c.check_parts-held.ensures store) c.end_of.ensures
+      stretch_are c.args.r (recorder_tables_in c.args.t.now) c.check_checkpoints-steps.ensures
+          (c.check_frames-filling.ensures _).answer (c.check_parts-held.ensures _) c.end_of.ensures
           (c.ending_ok-ends.ensures _ c.last_checkpoint.ensures),
     )

@@ -16,4 +16,4 @@ table_sizes-requires c = sym c.question1.ensures ∙ c.if-not-question1.false
 
 pub returns : goal.returns
 unfolding new_sizes sized_of first_no after
-returns c = rw (c.table_sizes.ensures, c.min_u64-lowered.ensures, sym c.question1.ensures ∙ c.if-not-question1.false, sym c.question2.ensures ∙ c.if-not-question2.false)
+returns c = rw (c.table_sizes.ensures, c.min-lowered.ensures, sym c.question1.ensures ∙ c.if-not-question1.false, sym c.question2.ensures ∙ c.if-not-question2.false)

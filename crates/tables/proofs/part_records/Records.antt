@@ -1,27 +1,15 @@
 -- Laws of records that are written: kinds, a frame's header, a held part. Assumes nothing.
-use mathlib.Core.Path.{◌≡◌, refl, ◌∙◌}
+use mathlib.Core.Path.{◌≡◌, ◌∙◌}
 use mathlib.Core.List.{List, [], ◌∷◌, ◌++◌, append-nil, append_assoc}
 use Prim.Native.Nat.{ℕ, ◌+◌}
-use lib.Dec.{eqb}
 use lib.ListN.{length, length-append}
 use lib.Seq.{sets}
 use Rattle.field.specs.Number.{encode, put}
 use Rattle.field.proofs.Bytes.{sets_more}
 use Rattle.field.proofs.Number.{encode_length}
 use Rattle.field.proofs.Fields.{fields_put}
-use Rattle.rules.specs.declared.FrameKind.{FrameKind}
-use Rattle.rules.specs.declared.FrameKind.TheVariants.{Dst, Dsd}
 use Rattle.rules.specs.declared.Held.{Held}
-use Rattle.rules.specs.Values.{same_kind}
 use Rattle.rules.specs.File.{unsigned32, kind_number, encode_held}
-
--- ---- kinds
-pub same_kind_lemma : (k l : FrameKind) → eqb (kind_number k) (kind_number l) ≡ same_kind k l
-unfolding kind_number same_kind
-same_kind_lemma Dst Dst = refl
-same_kind_lemma Dst Dsd = refl
-same_kind_lemma Dsd Dst = refl
-same_kind_lemma Dsd Dsd = refl
 
 -- ---- records of fields
 pub header_put : {t1 t2 : List ℕ} (t : List ℕ) (k start len : ℕ) → t1 ≡ put 4 t k start → t2 ≡ put 4 t1 (k + 4) len → t2 ≡ sets t k (encode 4 start ++ encode 4 len)

@@ -20,7 +20,6 @@ use Rattle.tables.specs.Index.{Tables, room_of, index_in, numbers_from, tables_f
 use Rattle.tables.specs.Lent.{Typed, TableBytes}
 use Rattle.index.proofs.Lent.{sized_in}
 use Rattle.index.proofs.Standing.{stands, kinds_from, within, room_from}
-use Rattle.rules.specs.declared.Saved.TheVariants.{Length}
 use Rattle.save.specs.Save.{made, save_out}
 use Rattle.theorems.proofs.RoundTripInTables.{wrote}
 use Rattle.rules_disc.specs.declared.Listed.{Listed}
@@ -77,7 +76,7 @@ swap_in x y t u old =
 
 -- what was saved can be saved as a file holds it
 pub both_savable : (x y : AreaIndex) (t u : Tables) (old : List ℕ) (k : ℕ) (new : List ℕ) → Typed x → Typed y
-    → TableBytes t → TableBytes u → save_both_in x t y u old ≡ made (Length k) new
+    → TableBytes t → TableBytes u → save_both_in x t y u old ≡ made (Accepted k) new
     → Savable (stripped (index_in x t)) × Savable (stripped (index_in y u))
 unfolding save_both_in
 both_savable x y t u old k new hx hy bt bu e =
@@ -93,7 +92,7 @@ both_savable x y t u old k new hx hy bt bu e =
     )
 
 pub one_savable : (x : AreaIndex) (t : Tables) (old : List ℕ) (k : ℕ) (new : List ℕ) → Typed x → TableBytes t
-    → save_one_in x t old ≡ made (Length k) new → Savable (stripped (index_in x t))
+    → save_one_in x t old ≡ made (Accepted k) new → Savable (stripped (index_in x t))
 unfolding save_one_in
 one_savable x t old k new hx bt e =
     let i = index_in x t in
@@ -205,7 +204,7 @@ module _ (l m : Lengths) (a0 a1 : Area) (b : List ℕ) (limit : ℕ) (d : Disc) 
 -- lists in their tables, saved
 one_saves_in : (x : Index) (t : Tables) (old b : List ℕ) → Savable x → question3 (room_of t) x ≡ true
     → save_one (room_of t) x (length old) ≡ Accepted b
-    → save_one_in (numbers_from x) (tables_from x t) old ≡ made (Length (length b)) (over b old)
+    → save_one_in (numbers_from x) (tables_from x t) old ≡ made (Accepted (length b)) (over b old)
 unfolding save_one_in save_out kinded
 one_saves_in x t old b v r e =
     let w = within x t (facts x v) r in
@@ -215,7 +214,7 @@ both_save_in : (x y : Index) (t u : Tables) (old b : List ℕ) → Savable x →
     → question3 (room_of u) y ≡ true
     → save_both (room_of t) x (room_of u) y (length old) ≡ Accepted b
     → save_both_in (numbers_from x) (tables_from x t) (numbers_from y) (tables_from y u) old
-    ≡ made (Length (length b)) (over b old)
+    ≡ made (Accepted (length b)) (over b old)
 unfolding save_both_in save_out kinded
 both_save_in x y t u old b v z r s e =
     let w = within x t (facts x v) r in

@@ -7,13 +7,12 @@ use native.Mathlib.Omega.{arith}
 use borrow.Author.Tests.{le-leb, eqb-true, eqb-false}
 use lib.Dec.{eqb, ltb}
 use lib.ListN.{length}
-use Rattle.rules.specs.Tests.{Accepted, ask, first_no, after, number_of}
+use Rattle.rules.specs.Tests.{Accepted, ask, first_no, after, number_of, Refused}
 use Rattle.rules.specs.Values.{Index}
 use Rattle.rules_disc.specs.Disc.{slot_of, contents_of, entries_ok, bodies_length, disc_length, disc_bytes, save_lists, save_one, by_slot, save_both}
 use Rattle.rules.proofs.Tests.{test}
 use Rattle.laws.proofs.Length.{saved_length_is}
 use Rattle.tables.specs.Index.{index_in, or_four, kinded, refusal, lowest}
-use Rattle.rules.specs.declared.Saved.TheVariants as told
 use Rattle.save.specs.Save.{SaveOut, made, save_out}
 use Rattle.blocks.specs.Calls.{saved_number}
 use Rattle.disc_save.specs.DiscSave.{save_one_in, save_both_in, length_of, length_after, one_length, both_length}
@@ -36,11 +35,11 @@ unfolding by_slot
 by_slot_least x y = test (ltb (slot_of x) (slot_of y)) (λ h. rw h (two_least x y)) (λ h. rw h (two_least y x))
 
 -- ---- the number
-refused_told : (m n : ℕ) → 1 ≤ m → m ≤ 54 → DiscTold (told.Refused m) n
+refused_told : (m n : ℕ) → 1 ≤ m → m ≤ 54 → DiscTold (Refused m) n
 refused_told m n h g =
     ((λ e. let q : m ≡ n = cc in (omega arith, omega arith)), (λ e. let z : ◌≡◌ {A = ℕ} 0 1 = cc in omega arith))
 
-length_told : (m n : ℕ) → 104 ≤ m → DiscTold (told.Length m) n
+length_told : (m n : ℕ) → 104 ≤ m → DiscTold (Accepted m) n
 length_told m n l = (
   (λ e. let z : ◌≡◌ {A = ℕ} 0 1 = cc in (omega arith, omega arith)),
   (λ e. let q : m ≡ n = cc in omega (arith, l)),
@@ -97,7 +96,7 @@ after_four n xs out s f g h =
     (λ z. let l : length_of xs ≤ length out = rw z at h in rw z (number_of_lemma (g (eqb-true n 0 z)) ∙ saved_as_lemma xs out l))
     (λ z. rw z (f (eqb-false n 0 z)))
 
-refused_is : {n : ℕ} {out : List ℕ} {s : SaveOut} → made (told.Refused n) out ≡ s → saved_number s.answer ≡ n
+refused_is : {n : ℕ} {out : List ℕ} {s : SaveOut} → made (Refused n) out ≡ s → saved_number s.answer ≡ n
 unfolding saved_number
 refused_is e = sym (number_of_lemma e)
 
@@ -111,6 +110,6 @@ disc_length_told =
       both = λ x t y u out h.
           after_four (lowest (refusal x t) (refusal y u)) (by_slot (index_in x t) (index_in y u)) out
           (save_both_in x t y u out)
-          (λ z. refused_is (both_refused x t y u out refl refl refl z))
-          (λ z. sym (both_saved x t y u out refl refl refl z refl)) h;
+          (λ z. refused_is (both_refused x t y u out refl z))
+          (λ z. sym (both_saved x t y u out refl z refl)) h;
     }

@@ -12,7 +12,7 @@ use Rattle.field.specs.Records.{Bytes, bytes_of}
 use Rattle.field.proofs.Bytes.{bytes_part}
 use Rattle.rules.specs.declared.Area.{Area}
 use Rattle.rules.specs.declared.AreaIndex.{AreaIndex}
-use Rattle.rules.specs.Tests.{Accepted}
+use Rattle.rules.specs.Tests.{Accepted, Refused, Answer}
 use Rattle.rules.specs.Values.{Index}
 use Rattle.rules.specs.Sizes.{known_sized}
 use Rattle.rules.specs.File.{over}
@@ -23,8 +23,6 @@ use Rattle.laws.specs.Statements.{Savable, stripped}
 use Rattle.blocks.specs.Blocks.{block_of, index_words, is_block, is_index}
 use Rattle.blocks.proofs.RoundTrip.{index_back, index_is_head}
 use Rattle.tables.specs.Index.{Tables, room_of, index_in, numbers_from}
-use Rattle.rules.specs.declared.Saved as declared
-use Rattle.rules.specs.declared.Saved.TheVariants as told
 use Rattle.save.specs.Save.{SaveOut}
 use Rattle.save.specs.Save as saving
 use Rattle.blocks.specs.Calls.{Called, called, head_index, in_head, in_block, saved_number, saved_into, two}
@@ -70,21 +68,21 @@ unfolding in_head
 -- ---- saving
 -- a length that is told was answered below
 told→ : (s : SaveOut) (k : ℕ) (new : List ℕ) → ((n : ℕ) → DiscTold s.answer n) → 88 ≤ k
-    → saved_into s.answer s.out ≡ called k new → s ≡ saving.made (told.Length k) new
+    → saved_into s.answer s.out ≡ called k new → s ≡ saving.made (Accepted k) new
 unfolding saved_number
 told→ s k new h l e = answer s.answer s.out h e
   where
-    answer : (m : declared.Saved) (o : List ℕ) → ((n : ℕ) → DiscTold m n) → called (saved_number m) o ≡ called k new
-        → saving.made m o ≡ saving.made (told.Length k) new
-    answer (told.Refused n) o h q = let w : n ≡ k = ap (λ (c : Called). c.number) q in let f : ⊥ = omega
+    answer : (m : Answer ℕ) (o : List ℕ) → ((n : ℕ) → DiscTold m n) → called (saved_number m) o ≡ called k new
+        → saving.made m o ≡ saving.made (Accepted k) new
+    answer (Refused n) o h q = let w : n ≡ k = ap (λ (c : Called). c.number) q in let f : ⊥ = omega
         (arith, w, ((h n).0 refl).1) in absurd f
-    answer (told.Length n) o h q =
+    answer (Accepted n) o h q =
         let w : n ≡ k = ap (λ (c : Called). c.number) q in let v : o
-        ≡ new = ap (λ (c : Called). c.block) q in λ i. saving.made (told.Length (w i)) (v i)
+        ≡ new = ap (λ (c : Called). c.block) q in λ i. saving.made (Accepted (w i)) (v i)
 
 pub saved_one→ : (head : List ℕ) (t : Tables) (old : List ℕ) (k : ℕ) (new : List ℕ) → 88 ≤ k
     → disc_save_call head t old ≡ called k new
-    → save_one_in (head_index head) t old ≡ saving.made (told.Length k) new
+    → save_one_in (head_index head) t old ≡ saving.made (Accepted k) new
 unfolding disc_save_call
 saved_one→ head t old k new l e =
     told→ (save_one_in (head_index head) t old) k new (λ n. disc_save_number.one (head_index head) t old n) l
@@ -93,7 +91,7 @@ saved_one→ head t old k new l e =
 
 pub saved_both→ : (head other : List ℕ) (t u : Tables) (old : List ℕ) (k : ℕ) (new : List ℕ) → 88 ≤ k
     → disc_save_both_call head other t u old ≡ called k new
-    → save_both_in (head_index head) t (head_index other) u old ≡ saving.made (told.Length k) new
+    → save_both_in (head_index head) t (head_index other) u old ≡ saving.made (Accepted k) new
 unfolding disc_save_both_call
 saved_both→ head other t u old k new l e =
     let c = (in_head→ (λ (c : Called). c.number) (is_index head) (called 3 old) _ (called k new) refl
@@ -104,13 +102,13 @@ saved_both→ head other t u old k new l e =
     (λ z. omega (arith, z, l)) c).1
 
 →saved_one : (head : List ℕ) (t : Tables) (old : List ℕ) (k : ℕ) (new : List ℕ) → is_index head ≡ true
-    → save_one_in (head_index head) t old ≡ saving.made (told.Length k) new → disc_save_call head t old ≡ called k new
+    → save_one_in (head_index head) t old ≡ saving.made (Accepted k) new → disc_save_call head t old ≡ called k new
 unfolding disc_save_call saved_number
 →saved_one head t old k new z e = →in_head (is_index head) (called 3 old) _ (called k new) z (rw e refl)
 
 →saved_both : (head other : List ℕ) (t u : Tables) (old : List ℕ) (k : ℕ) (new : List ℕ) → is_index head ≡ true
     → is_index other ≡ true
-    → save_both_in (head_index head) t (head_index other) u old ≡ saving.made (told.Length k) new
+    → save_both_in (head_index head) t (head_index other) u old ≡ saving.made (Accepted k) new
     → disc_save_both_call head other t u old ≡ called k new
 unfolding disc_save_both_call saved_number
 →saved_both head other t u old k new z w e =

@@ -10,7 +10,7 @@ frontier_of-front-requires c = (started _ c.requires.area).1
 
 pub returns-then-front-before : goal.returns-then-front-before
 returns-then-front-before c =
-    stays _ _ _ _ _ _ refl (end_is _ c.end_of.ensures c.or_else-end.ensures) (rw c.saturating_sub.ensures)
+    stays _ _ _ _ _ _ refl (end_is _ c.end_of.ensures c.or-end.ensures) (rw c.saturating_sub.ensures)
     c.frontier_of-before.ensures c.frontier_of-front.ensures c.if-front-before.true
 
 pub moved_ok-requires : goal.moved_ok-requires
@@ -18,5 +18,5 @@ moved_ok-requires c = c.requires
 
 pub returns-else-front-before : goal.returns-else-front-before
 returns-else-front-before c =
-    moves_on _ _ _ _ _ _ refl (end_is _ c.end_of.ensures c.or_else-end.ensures) (rw c.saturating_sub.ensures)
+    moves_on _ _ _ _ _ _ refl (end_is _ c.end_of.ensures c.or-end.ensures) (rw c.saturating_sub.ensures)
     c.frontier_of-before.ensures c.frontier_of-front.ensures c.if-front-before.false c.moved_ok.ensures

@@ -1,31 +1,30 @@
-use mathlib.Core.Path.{refl}
+use mathlib.Core.Path.{refl, sym}
 use native.Mathlib.Omega.{arith}
-use Rattle.tables.specs.Index.{tables}
+use Rattle.rules.specs.Refusals.{answer_in, number_in, refusal_number}
+use Rattle.tables.specs.Loans.{tables_in}
 use Rattle.save.proofs.Saving.{framed}
-use Rattle.disc_save.proofs.length.Lengths.{one_refused, one_broken, one_told, one_fits}
+use Rattle.disc_save.proofs.length.Lengths.{one_broken, one_told, one_fits}
 use Rattle.disc_save.proofs.length.one_length.Goals as goal
 
-pub returns-then-number-ne0 : goal.returns-then-number-ne0
-returns-then-number-ne0 c = one_refused c.args.x ((tables c.args.checkpoints.now c.args.frames.now c.args.store.now c.args.parts.now c.args.malformed.now c.args.hints.now c.args.confirmed.now)) c.refuses-number.ensures c.if-number-ne0.true
-
 pub saved_length-m-requires : goal.saved_length-m-requires
-saved_length-m-requires c = framed c.args.x ((tables c.args.checkpoints.now c.args.frames.now c.args.store.now c.args.parts.now c.args.malformed.now c.args.hints.now c.args.confirmed.now)) c.refuses-number.ensures c.if-number-ne0.false
+unfolding number_in
+saved_length-m-requires c = framed c.args.x (tables_in c.args.t.now) (sym c.in_ok-check.ensures)
 
 pub returns-then-not-one_fits : goal.returns-then-not-one_fits
+unfolding answer_in number_in refusal_number
 returns-then-not-one_fits c =
-    let t = tables c.args.checkpoints.now c.args.frames.now c.args.store.now c.args.parts.now c.args.malformed.now c.args.hints.now c.args.confirmed.now in
-    one_broken c.args.x t c.refuses-number.ensures c.if-number-ne0.false refl (c.saved_length-m.ensures t refl)
+    one_broken c.args.x _ c.in_ok-check.ensures refl refl (c.saved_length-m.ensures (tables_in c.args.t.now) refl)
     (c.one_fits.ensures _) c.if-not-one_fits.true
 
 pub overflow_add-result : goal.overflow_add-result
+unfolding number_in
 overflow_add-result c =
-    let t = tables c.args.checkpoints.now c.args.frames.now c.args.store.now c.args.parts.now c.args.malformed.now c.args.hints.now c.args.confirmed.now in
-    let small = one_fits c.args.x t c.refuses-number.ensures c.if-number-ne0.false refl (c.saved_length-m.ensures t refl)
+    let small = one_fits c.args.x _ c.in_ok-check.ensures refl refl (c.saved_length-m.ensures (tables_in c.args.t.now) refl)
     (c.one_fits.ensures _) c.if-not-one_fits.false in
     omega (arith, small)
 
 pub returns : goal.returns
+unfolding answer_in number_in
 returns c =
-    let t = tables c.args.checkpoints.now c.args.frames.now c.args.store.now c.args.parts.now c.args.malformed.now c.args.hints.now c.args.confirmed.now in
-    one_told c.args.x t c.refuses-number.ensures c.if-number-ne0.false refl (c.saved_length-m.ensures t refl)
+    one_told c.args.x _ c.in_ok-check.ensures refl refl (c.saved_length-m.ensures (tables_in c.args.t.now) refl)
     (c.one_fits.ensures _) c.if-not-one_fits.false

@@ -30,8 +30,8 @@ returns-then-not-asked c =
     c.args.work_hints.now c.args.work_confirmed.now)) c.refuses-number.ensures
     c.if-number-ne0.false c.question44.ensures c.if-not-question44.false c.ask_files-asked.ensures (not-true _ c.if-not-asked.true)
 
-pub join_pairs-number-requires : goal.join_pairs-number-requires
-join_pairs-number-requires c =
+pub join_pairs-requires : goal.join_pairs-requires
+join_pairs-requires c =
     pairs_ready c.args.x ((tables c.args.checkpoints.now c.args.frames.now c.args.store.now c.args.parts.now c.args.malformed.now c.args.hints.now c.args.confirmed.now)) c.args.lengths.now c.args.files.now c.args.limit ((tables c.args.work_checkpoints.now c.args.work_frames.now c.args.work_store.now c.args.work_parts.now c.args.work_malformed.now
     c.args.work_hints.now c.args.work_confirmed.now)) c.refuses-number.ensures
     c.if-number-ne0.false c.question44.ensures c.if-not-question44.false ((let got : Bytes c.args.files.now = λ i. (c.type_inv.files i).fits in got)) c.ask_files-asked.ensures
@@ -51,4 +51,4 @@ returns c =
       malformed = λ i. (c.type_inv.malformed i).fits;
       hints = λ i. (c.type_inv.hints i).fits;
       confirmed = λ i. (c.type_inv.confirmed i).fits;
-    } in got)) c.join_pairs-number.ensures c.with_pairs.ensures
+    } in got)) c.join_pairs.ensures c.with_pairs.ensures

@@ -1,16 +1,23 @@
+use mathlib.Core.Path.{refl}
+use Rattle.rules.specs.Refusals.{number_in}
+use Rattle.rules.proofs.Refusals.{number_ne0}
 use Rattle.blocks.proofs.Words.{head_long}
 use Rattle.player.proofs.view_calls.Answers.{view_refused, block_passed, view_done}
 use Rattle.player.proofs.view_calls.seek_raw_view.Goals as goal
 
-pub returns-then-number-ne0 : goal.returns-then-number-ne0
-returns-then-number-ne0 c = view_refused _ _ c.block_refuses-number.ensures _ _ c.if-number-ne0.true
+pub returns-in-Err : goal.returns-in-Err
+unfolding number_in
+returns-in-Err c =
+    rw c.from.ensures (view_refused _ _ (rw c.in-Err.is at c.check_block.ensures) _ _ (number_ne0 _))
 
 pub returns : goal.returns
+unfolding number_in
 returns c =
-    let passed = block_passed _ _ c.block_refuses-number.ensures c.if-number-ne0.false in
+    let passed = block_passed _ _ (rw c.in_default.is at c.check_block.ensures) refl in
     view_done _ passed.0 _ passed.1 _ c.index_in-x.ensures _ _ _ _ _
-    c.view-viewed.ensures c.viewed_number.ensures
+    c.view-viewed.ensures c.length_number.ensures
 
 pub index_in-x-requires : goal.index_in-x-requires
+unfolding number_in
 index_in-x-requires c =
-    head_long _ _ (block_passed _ _ c.block_refuses-number.ensures c.if-number-ne0.false).1
+    head_long _ _ (block_passed _ _ (rw c.in_default.is at c.check_block.ensures) refl).1

@@ -3,4 +3,4 @@ use Rattle.sizes.proofs.lengths.limited_sizes.Goals as goal
 
 pub returns : goal.returns
 unfolding limited_sizes
-returns c = rw (c.table_sizes.ensures, c.min_u64.ensures, c.min_u64-most.ensures)
+returns c = rw (c.table_sizes.ensures, c.min.ensures, c.min-most.ensures)
