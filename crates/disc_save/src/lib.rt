@@ -19,6 +19,7 @@ use crate::layout::{entry_of_one, length_of_one, slot_of, stands_first};
 use disc_load::contents::{write_one, write_two};
 use disc_load::questions::{one_fits, two_fit};
 use index::check;
+use index::room::lower;
 use rules::{AreaIndex, Refusal};
 use rules_disc::Entry;
 use save::layout::saved_length;
@@ -113,18 +114,6 @@ fn write_lists(
     let at = put_list(out, at, m, x, t);
     put_list(out, at, n, y, other);
     Ok(total)
-}
-
-// The one of the lower number, of two answers.
-#[tactic(auto, using(std::proofs::lemmas::Bool::Decides::nat_tests, rules::proofs::Refusals::number_positive), unfolding(rules::specs::Refusals::number_in, tables::specs::Index::lowest))]
-fn lower(own: Result<(), Refusal>, other: Result<(), Refusal>) -> Result<(), Refusal>
-    ensures { number_in result ≡ lowest (number_in own) (number_in other) }
-{
-    match (own, other) {
-        (Err(a), Err(b)) if u32::from(b) < u32::from(a) => Err(b),
-        (Err(a), _) => Err(a),
-        (Ok(()), answer) => answer,
-    }
 }
 
 // 1 to 4 of both lists: the first answered no.
