@@ -77,6 +77,13 @@ same_true (x ∷ a) (y ∷ b) e =
     let h = and_true (eqb x y) (same_bytes a b) e in
     rw (eqb-true x y h.0, same_true a b h.1)
 
+never_true : (p : Bool) → (p ≡ true → ⊥) → p ≡ false
+never_true true h = absurd (h refl)
+never_true false h = refl
+
+pub same_false : (a b : List ℕ) → (a ≡ b → ⊥) → same_bytes a b ≡ false
+same_false a b h = never_true (same_bytes a b) (λ e. h (same_true a b e))
+
 -- ---- copies
 -- a turn of a copy: the store takes the copy of i bytes to the copy of one more
 pub copied_more : (d s : List ℕ) (i : ℕ) → i < length d → i < length s → set (take i s ++ drop i d) i (get_or s i 0) ≡ take (i + 1) s ++ drop (i + 1) d

@@ -5,6 +5,7 @@ ghost use Rattle.std.specs.Prelude.{◌≡◌, ◌+◌, ◌≤◌, ◌++◌, len
 ghost use Rattle.field.specs.Number.{number_at, put, same_bytes};
 
 // The number in the four bytes of s from at on.
+#[tactic(auto, using(std::proofs::lemmas::Grind::common_steps, crate::proofs::Native::number_four))]
 pub fn read_u32(s: &[u8], at: usize) -> u32
     requires { at + 4 ≤ length s.now }
     ensures { result ≡ number_at 4 s.now at }
@@ -21,6 +22,7 @@ pub fn read_u64(s: &[u8], at: usize) -> u64
 }
 
 // v into the four bytes of s from at on.
+#[tactic(auto, using(crate::proofs::Native::put_four))]
 pub fn write_u32(s: &mut [u8], at: usize, v: u32)
     requires { at + 4 ≤ length s.old }
     ensures { s.new ≡ put 4 s.old at v }
@@ -36,12 +38,15 @@ pub fn write_u64(s: &mut [u8], at: usize, v: u64)
     s[at..at + 8].copy_from_slice(&v.to_le_bytes());
 }
 
-// All of src over the start of dst.
+// All of src over the start of dst. By a loop: for copy_from_slice the compiler calls memmove, which no other code of
+// the archive for C needs.
 pub fn copy_into(dst: &mut [u8], src: &[u8])
     requires { length src.now ≤ length dst.old }
     ensures { dst.new ≡ src.now ++ drop (length src.now) dst.old }
 {
-    dst[..src.len()].copy_from_slice(src);
+    for i in 0..src.len() {
+        dst[i] = src[i];
+    }
 }
 
 // The first k bytes of src over the start of dst.
@@ -68,6 +73,7 @@ pub fn clear(s: &mut [u8])
 }
 
 // Are a and b the same?
+#[tactic(auto, using(std::proofs::lemmas::Grind::common_steps, crate::proofs::Native::pointwise_same, crate::proofs::Native::lengths_apart))]
 pub fn same(a: &[u8], b: &[u8]) -> bool
     ensures { result ≡ same_bytes a.now b.now }
 {
