@@ -11,7 +11,7 @@ ghost use Rattle.save.specs.Output.{Filled, Summed, up_to};
 
 use crate::output::Written;
 use rules::{CHECKPOINT, CONFIRMED, FRAME_HEADER, HELD, HINT, Hint};
-use summing::{copy_part_summed, sum_u32};
+use summing::{copy_first_summed, copy_part_summed, sum_u32};
 use tables::{read_header, read_hint, write_given};
 
 // ---- the stretch of each section: from w on, up to what is answered
@@ -20,11 +20,9 @@ fn put_table(out: &mut [u8], w: Written, table: &[u8], size: usize) -> Written
     requires { (size ≤ length table.now) × (w.next + size ≤ length out.old) }
     ensures { Summed (take size table.now) size out.old w result out.new }
 {
-    let sum = copy_part_summed(out, w.next, table, 0, size, w.sum);
-    Written {
-        next: w.next + size,
-        sum,
-    }
+    let to = w.next + size;
+    let sum = copy_first_summed(&mut out[w.next..to], table, size, w.sum);
+    Written { next: to, sum }
 }
 
 pub fn put_checkpoints(out: &mut [u8], w: Written, table: &[u8], count: u32) -> Written
