@@ -1,18 +1,20 @@
 -- What each call answers where its blocks are heads or long enough, from what the calls in it ensure. Assumes nothing.
-use mathlib.Core.Path.{◌≡◌, refl, ◌∙◌}
-use mathlib.Core.Bool.{Bool, true, false, cond}
+use mathlib.Core.Path.{◌≡◌, ◌∙◌}
+use mathlib.Core.Bool.{true}
 use mathlib.Core.List.{List}
 use Prim.Native.Nat.{ℕ, ◌≤◌}
-use lib.Dec.{eqb}
 use lib.ListN.{length}
+use Rattle.std.specs.Prelude.{Result}
+use Rattle.std.specs.Result.{result_unwrap_or}
 use Rattle.rules.specs.declared.Area.{Area}
 use Rattle.rules.specs.declared.AreaIndex.{AreaIndex}
 use Rattle.rules.specs.declared.First.{First}
 use Rattle.rules.specs.FirstRecord.{first_record}
-use Rattle.rules.specs.Tests.{Accepted, Answer, Refused, after}
+use Rattle.rules.specs.declared.Refusal.{Refusal}
+use Rattle.rules.specs.Refusals.{answer_in, number_in}
+use Rattle.rules.specs.Tests.{Accepted, Answer}
 use Rattle.blocks.specs.Blocks.{index_words, is_index}
-use Rattle.rules.specs.File.{saved_length}
-use Rattle.tables.specs.Index.{Tables, index_in, refusal, made_out}
+use Rattle.tables.specs.Index.{Tables, made_out}
 use Rattle.rules.specs.declared.Made.{Made}
 use Rattle.index.specs.Index.{made_of, new_in, bound_in}
 use Rattle.plan.specs.Plan.{plan_in}
@@ -24,11 +26,12 @@ use Rattle.save.specs.Save.{made, save_in}
 use Rattle.rules.specs.declared.Sized.{Sized}
 use Rattle.rules.specs.declared.Plan.{Plan}
 use Rattle.rules.specs.declared.Brings.{Brings}
-use Rattle.sizes.specs.Sizes.{sized_of, new_sizes, file_sizes, file_area, file_length, length_in}
+use Rattle.sizes.specs.Sizes.{sized_of, new_sizes, file_sizes, file_area, file_length}
 use Rattle.blocks.specs.Calls.{called, into, head_index, saved_number}
 use Rattle.player.specs.Block.{plan_words, first_words, size_words, area_words, brings_words}
 use Rattle.player.specs.Player.{called_over, first_call, sizes_call, file_area_call, file_sizes_call, new_call, load_call, fingerprint_call, plan_call, length_call, save_call, merge_call, adds_call, add_hints_call}
 use Rattle.blocks.proofs.calls.Blocks.{long_enough, is_head_lemma}
+use Rattle.blocks.proofs.calls.Numbers.{saved_is}
 
 -- ---- the block is the answer's
 module _ (b b' : List ℕ) (n : ℕ) (l : 192 ≤ length b) where
@@ -91,19 +94,10 @@ module _ (b b' : List ℕ) (n : ℕ) (l : is_index b ≡ true) where
   merge_done g m x y w t u t' r p e z = is_head_lemma _ _ _ l (is_head_lemma _ _ _ m (rw (← z, ← w, ← e, p)))
 
 -- ---- no block is written
-number_told : (b : Bool) (k n : ℕ) → saved_number (cond b (Accepted k) (Refused n)) ≡ cond b k n
-unfolding saved_number
-number_told true k n = refl
-number_told false k n = refl
-
-length_number : (x : AreaIndex) (t : Tables) → saved_number (length_in x t) ≡ file_length x t
-unfolding length_in file_length after
-length_number x t = number_told (eqb (refusal x t) 0) (saved_length (index_in x t)) (refusal x t)
-
 module _ (h : List ℕ) (l : is_index h ≡ true) (x : AreaIndex) (z : x ≡ head_index h) (t : Tables) where
-  pub length_done : (n : ℕ) (r : Answer ℕ) → r ≡ length_in x t → n ≡ saved_number r → n ≡ length_call h t
+  pub length_done : (n : ℕ) (r : Result ℕ Refusal) → result_unwrap_or r (number_in r) ≡ file_length x t → n ≡ saved_number (answer_in r) → n ≡ length_call h t
   unfolding length_call
-  length_done n r e q = is_head_lemma _ _ _ l (q ∙ rw (e, length_number x t, z))
+  length_done n r e q = is_head_lemma _ _ _ l (rw z at (q ∙ saved_is r ∙ e))
 
   pub save_done : (n : ℕ) (o o' : List ℕ) (r : Answer ℕ) → made r o' ≡ save_in x t o → n ≡ saved_number r → called n o' ≡ save_call h t o
   unfolding save_call

@@ -1,25 +1,27 @@
 -- What each call answers where its blocks are heads or long enough, from what the calls in it ensure. Assumes nothing.
-use mathlib.Core.Path.{◌≡◌, refl, ◌∙◌}
-use mathlib.Core.Bool.{Bool, true, false, cond}
-use mathlib.Core.List.{List, [], ◌∷◌}
+use mathlib.Core.Path.{◌≡◌, ◌∙◌}
+use mathlib.Core.Bool.{true}
+use mathlib.Core.List.{List}
 use Prim.Native.Nat.{ℕ, ◌≤◌}
-use lib.Dec.{eqb}
 use lib.ListN.{length}
+use Rattle.std.specs.Prelude.{Result}
+use Rattle.std.specs.Result.{result_unwrap_or}
 use Rattle.rules.specs.declared.Area.{Area}
 use Rattle.rules.specs.declared.AreaIndex.{AreaIndex}
 use Rattle.blocks.specs.Blocks.{is_index}
-use Rattle.rules.specs.Values.{Index}
-use Rattle.rules_disc.specs.Disc.{contents_of, entries_ok, disc_length, by_slot}
-use Rattle.tables.specs.Index.{Tables, index_in, refusal, lowest}
+use Rattle.tables.specs.Index.{Tables}
 use Rattle.save.specs.Save.{made}
 use Rattle.blocks.specs.Calls.{called, into, head_index, saved_number}
 use Rattle.blocks.proofs.calls.Blocks.{long_enough, is_head_lemma}
+use Rattle.blocks.proofs.calls.Numbers.{saved_is}
 use Rattle.rules_disc.specs.declared.Contents.{Contents}
 use Rattle.disc_load.specs.DiscLoad.{contents_in, disc_out, load_disc_in, disc_sizes, disc_sized_of}
 use Rattle.rules_disc.specs.declared.Loaded.{Loaded}
-use Rattle.disc_save.specs.DiscSave.{save_one_in, save_both_in, length_after, one_length, both_length, length_of, length_answer, one_length_in, both_length_in}
+use Rattle.disc_save.specs.DiscSave.{save_one_in, save_both_in, one_length, both_length}
 use Rattle.rules_disc.specs.declared.DiscSized.{DiscSized}
-use Rattle.rules.specs.Tests.{Answer, Refused, Accepted, after}
+use Rattle.rules.specs.declared.Refusal.{Refusal}
+use Rattle.rules.specs.Refusals.{answer_in, number_in}
+use Rattle.rules.specs.Tests.{Answer}
 use Rattle.player_disc.specs.Block.{called_lists, contents_into, disc_size_words, loaded_into}
 use Rattle.player_disc.specs.PlayerDisc.{disc_contents_call, disc_sizes_call, disc_length_call, disc_length_both_call, disc_save_call, disc_save_both_call, called_disc, disc_load_call}
 
@@ -42,33 +44,20 @@ module _ (h g b h' g' b' : List ℕ) (n : ℕ) (l : 192 ≤ length h) (k : 192 �
   load_done r p e z w = long_enough h _ _ l (long_enough g _ _ k (long_enough b _ _ m (rw (← z, ← w, ← e, p))))
 
 -- ---- no block is written
-number_told : (b c : Bool) (k m n : ℕ)
-    → saved_number (cond b (cond c (Accepted k) (Refused m)) (Refused n)) ≡ cond b (cond c k m) n
-unfolding saved_number
-number_told true true k m n = refl
-number_told true false k m n = refl
-number_told false c k m n = refl
-
-length_number : (n : ℕ) (xs : List Index) → saved_number (length_answer n xs) ≡ length_after n xs
-unfolding length_answer length_after length_of after
-length_number n xs = number_told (eqb n 0) (entries_ok 0 (contents_of xs)) (disc_length xs) 54 n
-
 module _ (h : List ℕ) (l : is_index h ≡ true) (x : AreaIndex) (z : x ≡ head_index h) (t : Tables) where
-  pub length_done : (n : ℕ) (r : Answer ℕ) → r ≡ one_length_in x t → n ≡ saved_number r → n ≡ disc_length_call h t
-  unfolding disc_length_call one_length one_length_in
-  length_done n r e q = is_head_lemma _ _ _ l (q ∙ rw (e, length_number (refusal x t) (index_in x t ∷ []), z))
+  pub length_done : (n : ℕ) (r : Result ℕ Refusal) → result_unwrap_or r (number_in r) ≡ one_length x t → n ≡ saved_number (answer_in r) → n ≡ disc_length_call h t
+  unfolding disc_length_call
+  length_done n r e q = is_head_lemma _ _ _ l (rw z at (q ∙ saved_is r ∙ e))
 
   pub save_done : (n : ℕ) (o o' : List ℕ) (r : Answer ℕ) → made r o' ≡ save_one_in x t o → n ≡ saved_number r → called n o' ≡ disc_save_call h t o
   unfolding disc_save_call
   save_done n o o' r e q = is_head_lemma _ _ _ l (rw (← z, ← e, q))
 
   module _ (g : List ℕ) (k : is_index g ≡ true) (y : AreaIndex) (w : y ≡ head_index g) (u : Tables) where
-    pub length_both_done : (n : ℕ) (r : Answer ℕ) → r ≡ both_length_in x t y u → n ≡ saved_number r
+    pub length_both_done : (n : ℕ) (r : Result ℕ Refusal) → result_unwrap_or r (number_in r) ≡ both_length x t y u → n ≡ saved_number (answer_in r)
         → n ≡ disc_length_both_call h g t u
-    unfolding disc_length_both_call both_length both_length_in
-    length_both_done n r e q =
-        is_head_lemma _ _ _ l
-        (is_head_lemma _ _ _ k (q ∙ rw (e, length_number (lowest (refusal x t) (refusal y u)) (by_slot (index_in x t) (index_in y u)), z, w)))
+    unfolding disc_length_both_call
+    length_both_done n r e q = is_head_lemma _ _ _ l (is_head_lemma _ _ _ k (rw (z, w) at (q ∙ saved_is r ∙ e)))
 
     pub both_done : (n : ℕ) (o o' : List ℕ) (r : Answer ℕ) → made r o' ≡ save_both_in x t y u o → n ≡ saved_number r → called n o' ≡ disc_save_both_call h g t u o
     unfolding disc_save_both_call

@@ -25,7 +25,7 @@ use Rattle.inspect.specs.declared.Inspected.TheVariants as inspected
 use Rattle.inspect.specs.Inspect.{found_in, inspection_of, inspection}
 use Rattle.rules.specs.declared.TableSizes.{TableSizes}
 use Rattle.sizes.specs.Steps.{limited_sizes}
-use Rattle.sizes.specs.Sizes.{range_of, sized_of, file_sizes, length_in, before_sum, file_area}
+use Rattle.sizes.specs.Sizes.{range_of, sized_of, file_sizes, length_in, file_length, before_sum, file_area}
 use Rattle.rules.specs.declared.Sized.TheVariants as sized
 
 -- ---- what inspecting says of the file
@@ -74,6 +74,15 @@ module _ (x : AreaIndex) (t : Tables) {n : ℕ} (e : n ≡ refusal x t) where
   pub length_told : n ≡ 0 → {k : ℕ} → k ≡ saved_length (index_in x t) → Accepted k ≡ length_in x t
   unfolding length_in after
   length_told z q = rw (← e, z, q)
+
+  -- as one number
+  pub number_refused : (n ≡ 0 → ⊥) → n ≡ file_length x t
+  unfolding file_length
+  number_refused h = rw (← e, ne_eqb n 0 h)
+
+  pub number_told : n ≡ 0 → {k : ℕ} → k ≡ saved_length (index_in x t) → k ≡ file_length x t
+  unfolding file_length
+  number_told z q = rw (← e, z, q)
 
 -- ---- the area that a file is of
 -- 22 is not asked

@@ -10,7 +10,7 @@ unfolding disc_length_call
 returns-then-not-is_index c = no_head _ _ _ c.is_index.ensures (ap not c.if-not-is_index.true)
 
 pub returns : goal.returns
-returns c = length_done _ (known c.is_index.ensures (ap not c.if-not-is_index.false)) _ c.index_in-x.ensures _ _ _ c.one_length-length.ensures c.saved_number.ensures
+returns c = length_done _ (known c.is_index.ensures (ap not c.if-not-is_index.false)) _ c.index_in-x.ensures _ _ _ c.one_length-length.ensures.number c.saved_number.ensures
 
 pub index_in-x-requires : goal.index_in-x-requires
 index_in-x-requires c = known_long _ _ c.is_index.ensures (ap not c.if-not-is_index.false)

@@ -14,7 +14,7 @@ unfolding disc_length_both_call
 returns-then-not-is_index-2 c = is_head_lemma _ _ _ (known c.is_index.ensures (ap not c.if-not-is_index.false)) (no_head _ _ _ c.is_index-2.ensures (ap not c.if-not-is_index-2.true))
 
 pub returns : goal.returns
-returns c = length_both_done _ (known c.is_index.ensures (ap not c.if-not-is_index.false)) _ c.index_in-x.ensures _ _ (known c.is_index-2.ensures (ap not c.if-not-is_index-2.false)) _ c.index_in-y.ensures _ _ _ c.both_length-length.ensures c.saved_number.ensures
+returns c = length_both_done _ (known c.is_index.ensures (ap not c.if-not-is_index.false)) _ c.index_in-x.ensures _ _ (known c.is_index-2.ensures (ap not c.if-not-is_index-2.false)) _ c.index_in-y.ensures _ _ _ c.both_length-length.ensures.number c.saved_number.ensures
 
 pub index_in-x-requires : goal.index_in-x-requires
 index_in-x-requires c = known_long _ _ c.is_index.ensures (ap not c.if-not-is_index.false)
